@@ -1,0 +1,3 @@
+pub mod Res
+pub mod Lists
+pub mod Numbers

@@ -1,0 +1,6 @@
+pub mod Records
+pub mod Plan
+pub mod Frames
+pub mod LatestRelease
+pub mod Table
+pub mod Checker

@@ -1,0 +1,216 @@
+-- Document 01, "Records" (a plan's things, their ranges) and refusals 2 to 5.
+use mathlib.Core.Bool.{Bool, true, false, cond, not, _&&_}
+use mathlib.Core.List.{List, [], _∷_, map}
+use lib.Dec.{eqb, leb, ltb}
+use lib.ListN.{getD, length, take}
+use Prim.Native.Nat.{ℕ, zero, suc, _+_, _*_, _/_}
+use Rattle.laws.specs.Res.{Res, ok, refuse, _>>=_, _>>_, unless, at}
+use Rattle.laws.specs.Lists.{keep, any, all, firstBad, upTo}
+use Rattle.laws.specs.Numbers.{divides}
+use Rattle.rules.specs.Records.{Field, names, ranges, free, Rec, fields, records, planFollows}
+
+pub record Bus : Type 0 where
+  pub rate : ℕ
+  pub overhead : ℕ
+  pub least : ℕ
+  pub most : ℕ
+  pub gap : ℕ
+  pub resolution : ℕ
+
+pub record Mode : Type 0 where
+  pub home : ℕ
+  pub period : ℕ
+  pub switch : ℕ
+
+pub record Task : Type 0 where
+  pub home : ℕ
+  pub size : ℕ
+  pub worst : ℕ
+
+pub record Invocation : Type 0 where
+  pub mode : ℕ
+  pub task : ℕ
+  pub rate : ℕ
+
+pub record Connection : Type 0 where
+  pub producer : ℕ
+  pub consumer : ℕ
+
+-- A plan: the bus, the number of nodes, of each module its node, and the modes, tasks, invocations and connections, "numbered
+-- from 0 in file order".
+pub record Plan : Type 0 where
+  pub bus : Bus
+  pub nodes : ℕ
+  pub modules : List ℕ
+  pub modes : List Mode
+  pub tasks : List Task
+  pub invocations : List Invocation
+  pub connections : List Connection
+
+-- the k-th number of a body
+abbrev pub nth : List ℕ → ℕ → ℕ
+nth numbers k = getD numbers k 0
+
+unfoldable pub busOf : List ℕ → Bus
+busOf b = record { rate = nth b 0; overhead = nth b 1; least = nth b 2; most = nth b 3; gap = nth b 4; resolution = nth b 5 }
+
+unfoldable pub modeOf : List ℕ → Mode
+modeOf b = record { home = nth b 0; period = nth b 1; switch = nth b 2 }
+
+unfoldable pub taskOf : List ℕ → Task
+taskOf b = record { home = nth b 0; size = nth b 1; worst = nth b 2 }
+
+unfoldable pub invocationOf : List ℕ → Invocation
+invocationOf b = record { mode = nth b 0; task = nth b 1; rate = nth b 2 }
+
+unfoldable pub connectionOf : List ℕ → Connection
+connectionOf b = record { producer = nth b 0; consumer = nth b 1 }
+
+-- a record is of this kind
+unfoldable pub isKind : ℕ → Rec → Bool
+isKind k r = eqb (r .kind) k
+
+abbrev pub numbersOf : Rec → List ℕ
+numbersOf r = r .numbers
+
+-- the bodies of the records of a kind, in file order
+unfoldable pub things : ℕ → List Rec → List (List ℕ)
+things k rs = map numbersOf (keep (isKind k) rs)
+
+-- the first body of a kind (the bus, the number of nodes)
+unfoldable pub only : ℕ → List Rec → List ℕ
+only k rs = getD (things k rs) 0 []
+
+unfoldable pub moduleOf : List ℕ → ℕ
+moduleOf b = nth b 0
+
+unfoldable pub planOf : List Rec → Plan
+planOf rs =
+    record {
+      bus = busOf (only 1 rs);
+      nodes = nth (only 2 rs) 0;
+      modules = map moduleOf (things 3 rs);
+      modes = map modeOf (things 4 rs);
+      tasks = map taskOf (things 5 rs);
+      invocations = map invocationOf (things 6 rs);
+      connections = map connectionOf (things 7 rs);
+    }
+
+-- how many things of a kind there are; of nodes (2) the record says it
+unfoldable pub count : List Rec → ℕ → ℕ
+count rs k = cond (eqb k 2) (nth (only 2 rs) 0) (length (things k rs))
+
+-- "Ranges: nodes 1 to 8, modules 1 to 16, modes 1 to 32, tasks 1 to 32, invocations 1 to 64, connections 0 to 64", by kind from 2 on
+unfoldable pub leastCounts : List ℕ
+leastCounts = 1 ∷ 1 ∷ 1 ∷ 1 ∷ 1 ∷ 0 ∷ []
+
+unfoldable pub mostCounts : List ℕ
+mostCounts = 8 ∷ 16 ∷ 32 ∷ 32 ∷ 64 ∷ 64 ∷ []
+
+-- Refusal 2: "a count of things, the number of nodes included, is outside its range" (k counts kinds from 2 on).
+unfoldable pub countFits : List Rec → ℕ → Bool
+countFits rs k = leb (nth leastCounts k) (count rs (2 + k)) && leb (count rs (2 + k)) (nth mostCounts k)
+
+-- every number of a body passes the test of its field
+abbrev pub passes : (Field → ℕ → Bool) → List Field → List ℕ → Bool
+passes test [] numbers = true
+passes test (f ∷ fs) [] = true
+passes test (f ∷ fs) (x ∷ xs) = test f x && passes test fs xs
+
+-- Refusal 3: "a number names a node, module, mode or task not there".
+abbrev pub isThere : (ℕ → ℕ) → Field → ℕ → Bool
+isThere counts (names k) x = ltb x (counts k)
+isThere counts (ranges w low high) x = true
+isThere counts (free w) x = true
+
+unfoldable pub namesAreThere : (ℕ → ℕ) → Rec → Bool
+namesAreThere counts r = passes (isThere counts) (fields (r .kind)) (r .numbers)
+
+-- Refusal 4: "another number is outside its range"; "largest payload .. not below the least" (reading 7).
+abbrev pub isWithin : Field → ℕ → Bool
+isWithin (names k) x = true
+isWithin (ranges w low high) x = leb low x && leb x high
+isWithin (free w) x = true
+
+unfoldable pub payloadsOrdered : Rec → Bool
+payloadsOrdered r = cond (isKind 1 r) (leb (nth (r .numbers) 2) (nth (r .numbers) 3)) true
+
+unfoldable pub numbersAreWithin : Rec → Bool
+numbersAreWithin r = passes isWithin (fields (r .kind)) (r .numbers) && payloadsOrdered r
+
+-- things by number; a number that names nothing gives the zero thing
+abbrev pub noMode : Mode
+noMode = record { home = 0; period = 0; switch = 0 }
+
+abbrev pub noTask : Task
+noTask = record { home = 0; size = 0; worst = 0 }
+
+abbrev pub noInvocation : Invocation
+noInvocation = record { mode = 0; task = 0; rate = 0 }
+
+unfoldable pub theMode : Plan → ℕ → Mode
+theMode p μ = getD (p .modes) μ noMode
+
+unfoldable pub theTask : Plan → ℕ → Task
+theTask p t = getD (p .tasks) t noTask
+
+unfoldable pub theInvocation : Plan → ℕ → Invocation
+theInvocation p k = getD (p .invocations) k noInvocation
+
+-- "Period of an invocation = mode period / rate."
+unfoldable pub periodOf : Plan → Invocation → ℕ
+periodOf p i = theMode p (i .mode) .period / i .rate
+
+-- Refusal 5, of a module: "a module without a mode".
+unfoldable pub isHome : ℕ → Mode → Bool
+isHome m μ = eqb (μ .home) m
+
+unfoldable pub hasMode : Plan → ℕ → Bool
+hasMode p m = any (isHome m) (p .modes)
+
+-- Refusal 5, of a mode: "switch period doesn't divide mode period".
+unfoldable pub switchDivides : Mode → Bool
+switchDivides μ = divides (μ .switch) (μ .period)
+
+-- Refusal 5, of an invocation: "rate doesn't divide mode period; invocation period doesn't divide switch period; worst time above
+-- invocation period; task and mode of different modules".
+unfoldable pub fitsItsMode : Plan → Invocation → Bool
+fitsItsMode p i =
+    (divides (i .rate) (theMode p (i .mode) .period)
+    && divides (periodOf p i) (theMode p (i .mode) .switch))
+    && (leb (theTask p (i .task) .worst) (periodOf p i)
+    && eqb (theTask p (i .task) .home) (theMode p (i .mode) .home))
+
+-- Refusal 5, of an invocation: "a task twice in one mode", at the later (reading 8).
+unfoldable pub sameRun : Invocation → Invocation → Bool
+sameRun i j = eqb (i .mode) (j .mode) && eqb (i .task) (j .task)
+
+unfoldable pub isRepeat : Plan → ℕ → Bool
+isRepeat p k = any (sameRun (theInvocation p k)) (take k (p .invocations))
+
+unfoldable pub invocationKeeps : Plan → ℕ → Bool
+invocationKeeps p k = fitsItsMode p (theInvocation p k) && not (isRepeat p k)
+
+-- The first record of each kind of thing: bus 0, nodes 1, then the things in the order of their kinds (reading 6).
+unfoldable pub firstMode : Plan → ℕ
+firstMode p = 2 + length (p .modules)
+
+unfoldable pub firstInvocation : Plan → ℕ
+firstInvocation p = firstMode p + length (p .modes) + length (p .tasks)
+
+-- Refusal 5 at the lowest record at fault.
+unfoldable pub rule5 : Plan → Res (Unit {0})
+rule5 p = do
+  at 5 2 (firstBad (hasMode p) (upTo (length (p .modules))))
+  at 5 (firstMode p) (firstBad switchDivides (p .modes))
+  at 5 (firstInvocation p) (firstBad (invocationKeeps p) (upTo (length (p .invocations))))
+
+-- Refusals 1 to 5 "in order of number over the whole plan, the first that applies, at its lowest place".
+unfoldable pub readPlan : List ℕ → Res Plan
+readPlan file = do
+  rs ← records planFollows 1 file
+  at 2 2 (firstBad (countFits rs) (upTo 6))
+  at 3 0 (firstBad (namesAreThere (count rs)) rs)
+  at 4 0 (firstBad numbersAreWithin rs)
+  rule5 (planOf rs)
+  ok (planOf rs)

@@ -1,0 +1,122 @@
+-- Document 01: the table's bytes, refusals 13 and 19, and `make` with what was lent, on every outcome (readings 16 and 17).
+use mathlib.Core.Bool.{Bool, true, false, cond}
+use mathlib.Core.List.{List, [], _∷_, _++_, map}
+use lib.Dec.{eqb, leb}
+use lib.ListN.{length, drop, replicate}
+use Prim.Native.Nat.{ℕ, zero, suc, _+_, _-_}
+use Rattle.laws.specs.Res.{Res, ok, refuse, _>>=_, _>>_, unless}
+use Rattle.laws.specs.Lists.{joined}
+use Rattle.laws.specs.Numbers.{bytes}
+use Rattle.rules.specs.Records.{Field, width, fields}
+use Rattle.rules.specs.Plan.{readPlan}
+use Rattle.rules.specs.Frames.{Frame, ControlRow, Layout, layout, mostFrames}
+use Rattle.rules.specs.LatestRelease.{Placed, latestRelease, frameTime}
+
+-- a body's numbers as bytes, by the kind's fields
+abbrev pub encoded : List Field → List ℕ → List ℕ
+encoded [] numbers = []
+encoded (f ∷ fs) [] = []
+encoded (f ∷ fs) (x ∷ xs) = bytes (width f) x ++ encoded fs xs
+
+unfoldable pub recordBytes : ℕ → List ℕ → List ℕ
+recordBytes kind numbers = kind ∷ encoded (fields kind) numbers
+
+-- A data row of a table.
+pub record DataRow : Type 0 where
+  pub task : ℕ
+  pub deadline : ℕ
+  pub start : ℕ
+  pub stop : ℕ
+
+unfoldable pub dataRow : Layout → Placed → DataRow
+dataRow l x =
+    record {
+      task = x .frame .task;
+      deadline = x .frame .deadline;
+      start = x .start;
+      stop = x .start + frameTime l (x .frame);
+    }
+
+unfoldable pub headerBytes : ℕ → ℕ → ℕ → List ℕ
+headerBytes period controls datas = recordBytes 16 (period ∷ controls ∷ datas ∷ [])
+
+unfoldable pub controlBytes : ControlRow → List ℕ
+controlBytes r = recordBytes 17 (r .node ∷ r .start ∷ r .stop ∷ [])
+
+unfoldable pub dataBytes : DataRow → List ℕ
+dataBytes r = recordBytes 18 (r .task ∷ r .deadline ∷ r .start ∷ r .stop ∷ [])
+
+-- "A table is 16, then all 17, then all 18, then 0": bus period, control rows, data rows; "data rows by start".
+unfoldable pub tableBytes : Layout → List Placed → List ℕ
+tableBytes l placed =
+    headerBytes (l .period) (length (l .control)) (length placed)
+    ++ (joined (map controlBytes (l .control)) ++ (joined (map dataBytes (map (dataRow l) placed)) ++ (0 ∷ [])))
+
+-- A frame row: task, release, deadline, the table's start.
+pub record FrameRow : Type 0 where
+  pub task : ℕ
+  pub release : ℕ
+  pub deadline : ℕ
+  pub start : ℕ
+
+abbrev pub zeroRow : FrameRow
+zeroRow = record { task = 0; release = 0; deadline = 0; start = 0 }
+
+-- the start of the frame with this number
+unfoldable pub startFor : List Placed → ℕ → ℕ
+startFor [] k = 0
+startFor (x ∷ xs) k = cond (eqb (x .number) k) (x .start) (startFor xs k)
+
+unfoldable pub rowsFrom : List Placed → ℕ → List Frame → List FrameRow
+rowsFrom placed k [] = []
+rowsFrom placed k (f ∷ fs) =
+    record { task = f .task; release = f .release; deadline = f .deadline; start = startFor placed k }
+    ∷ rowsFrom placed (suc k) fs
+
+-- "the frames by number (task, release, deadline, the table's start), then zero rows"
+unfoldable pub rowsThenZero : List FrameRow → ℕ → List FrameRow
+rowsThenZero rows lent = rows ++ replicate (lent - length rows) zeroRow
+
+-- A table made: its bytes and the frame rows.
+pub record MadeTable : Type 0 where
+  pub table : List ℕ
+  pub rows : List FrameRow
+
+unfoldable pub madeTable : Layout → List Placed → MadeTable
+madeTable l placed = record { table = tableBytes l placed; rows = rowsFrom placed 0 (l .frames) }
+
+-- Refusals 1 to 13 in order; 13 is "lent table buffer too short", at the bytes needed.
+unfoldable pub tableFor : List ℕ → ℕ → Res MadeTable
+tableFor plan room = do
+  p ← readPlan plan
+  l ← layout p
+  placed ← latestRelease l
+  let t = madeTable l placed
+  unless 13 (length (t .table)) (leb (length (t .table)) room)
+  ok t
+
+-- What `make` leaves: its answer (the table's length, or the refusal), the lent rows and the lent buffer.
+pub record Made : Type 0 where
+  pub answer : Res ℕ
+  pub rows : List FrameRow
+  pub buffer : List ℕ
+
+-- "On success the table stands at the front of the lent buffer, and the bytes behind it are unchanged." "A refusal leaves the
+-- table buffer unchanged and every frame row zero."
+abbrev pub outcome : Res MadeTable → List FrameRow → List ℕ → Made
+outcome (ok t) rows buffer =
+    record {
+      answer = ok (length (t .table));
+      rows = rowsThenZero (t .rows) (length rows);
+      buffer = t .table ++ drop (length (t .table)) buffer;
+    }
+outcome (refuse n p) rows buffer =
+    record { answer = refuse n p; rows = replicate (length rows) zeroRow; buffer = buffer }
+
+-- "19 leaves the rows unchanged too": fewer than 256 frame rows lent, before all else.
+unfoldable pub make : List ℕ → List FrameRow → List ℕ → Made
+make plan rows buffer =
+    elim (leb mostFrames (length rows)) [
+      | true ↦ outcome (tableFor plan (length buffer)) rows buffer
+      | false ↦ record { answer = refuse 19 mostFrames; rows = rows; buffer = buffer }
+    ]
