@@ -1,3 +1,4 @@
 pub mod Res
 pub mod Lists
 pub mod Numbers
+pub mod Loops

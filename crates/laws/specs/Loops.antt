@@ -1,0 +1,29 @@
+-- Loops: what an array holds after some stores, where a scan first meets something, a list laid into a fixed number of places.
+use mathlib.Core.Bool.{Bool, true, false}
+use mathlib.Core.List.{List, [], _∷_}
+use mathlib.Core.Option.{Option, none, some}
+use lib.ListN.{set}
+use Prim.Native.Nat.{ℕ, zero, suc}
+
+module _ {A : Type 0} where
+  -- the array after the stores f 0, .., f (n - 1) at the places 0, .., n - 1
+  abbrev pub stores : List A → (ℕ → A) → ℕ → List A
+  stores old f zero = old
+  stores old f (suc n) = set (stores old f n) n (f n)
+
+  -- the list cut, or filled up with z, to exactly n places
+  abbrev pub padTo : ℕ → A → List A → List A
+  padTo zero z l = []
+  padTo (suc n) z [] = z ∷ padTo n z []
+  padTo (suc n) z (x ∷ l) = x ∷ padTo n z l
+
+-- what was found before, else n where the test holds
+abbrev pub orAt : Option ℕ → Bool → ℕ → Option ℕ
+orAt (some k) b n = some k
+orAt none true n = some n
+orAt none false n = none
+
+-- the least k below n at which the test holds
+abbrev pub firstBelow : (ℕ → Bool) → ℕ → Option ℕ
+firstBelow p zero = none
+firstBelow p (suc n) = orAt (firstBelow p n) (p n) n

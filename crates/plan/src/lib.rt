@@ -1,0 +1,100 @@
+// A plan in memory: flat, by value, arrays of structs with counts.
+ghost use mathlib.Core.Path.{_≡_};
+ghost use Rattle.plan.specs.Memory.{emptyPlan};
+use units::ByteCount;
+use units::ModeNo;
+use units::ModuleNo;
+use units::NodeNo;
+use units::TaskNo;
+use units::Ticks;
+
+// Rate in kbit/s, gap in bits.
+pub struct Bus {
+    pub rate: u32,
+    pub overhead: ByteCount,
+    pub least: ByteCount,
+    pub most: ByteCount,
+    pub gap: u32,
+    pub resolution: Ticks,
+}
+
+pub struct Module {
+    pub node: NodeNo,
+}
+
+pub struct Mode {
+    pub home: ModuleNo,
+    pub period: Ticks,
+    pub switch: Ticks,
+}
+
+pub struct Task {
+    pub home: ModuleNo,
+    pub size: ByteCount,
+    pub worst: Ticks,
+}
+
+pub struct Invocation {
+    pub mode: ModeNo,
+    pub task: TaskNo,
+    pub rate: u32,
+}
+
+pub struct Connection {
+    pub producer: TaskNo,
+    pub consumer: TaskNo,
+}
+
+// `counts` is by kind: 2 is the number of nodes, 3 to 7 how many things of that kind the file has. A thing without a place left is
+// counted and not stored.
+pub struct Plan {
+    pub bus: Bus,
+    pub counts: [usize; 8],
+    pub modules: [Module; 16],
+    pub modes: [Mode; 32],
+    pub tasks: [Task; 32],
+    pub invocations: [Invocation; 64],
+    pub connections: [Connection; 64],
+}
+
+impl Plan {
+    pub fn empty() -> Plan
+        ensures { λ r. ⌜ r ≡ emptyPlan ⌝ }
+    {
+        let mode = Mode {
+            home: ModuleNo(0),
+            period: Ticks(0),
+            switch: Ticks(0),
+        };
+        let task = Task {
+            home: ModuleNo(0),
+            size: ByteCount(0),
+            worst: Ticks(0),
+        };
+        let invocation = Invocation {
+            mode: ModeNo(0),
+            task: TaskNo(0),
+            rate: 0,
+        };
+        let connection = Connection {
+            producer: TaskNo(0),
+            consumer: TaskNo(0),
+        };
+        Plan {
+            bus: Bus {
+                rate: 0,
+                overhead: ByteCount(0),
+                least: ByteCount(0),
+                most: ByteCount(0),
+                gap: 0,
+                resolution: Ticks(0),
+            },
+            counts: [0; 8],
+            modules: [Module { node: NodeNo(0) }; 16],
+            modes: [mode; 32],
+            tasks: [task; 32],
+            invocations: [invocation; 64],
+            connections: [connection; 64],
+        }
+    }
+}
