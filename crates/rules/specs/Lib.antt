@@ -4,3 +4,4 @@ pub mod Frames
 pub mod LatestRelease
 pub mod Table
 pub mod Checker
+pub mod Jobs
