@@ -1,2 +1,4 @@
 pub mod Lists
 pub mod Loops
+pub mod Res
+pub mod Tests
