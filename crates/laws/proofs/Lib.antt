@@ -2,3 +2,4 @@ pub mod Lists
 pub mod Loops
 pub mod Res
 pub mod Tests
+pub mod Divisors

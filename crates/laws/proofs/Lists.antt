@@ -8,9 +8,9 @@ use native.Mathlib.Nat.{not-suc-le-zero, le-of-suc-le-suc, zero-add, add-zero, a
 use native.Mathlib.Numerals.{add-one}
 use native.Mathlib.Omega.{arith}
 use lib.ListN.{length, getD, set, take, replicate, length-append}
-use lib.Seq.{take-suc, take-nil}
+use lib.Seq.{take-suc}
 use Prim.Native.Nat.{ℕ, zero, suc, _+_, _≤_, _<_, zero-le, suc-le-suc}
-use Rattle.laws.specs.Lists.{consIf, keep, any, all, joined, tab, upTo}
+use Rattle.laws.specs.Lists.{consIf, keep, any, all, tab, upTo}
 use Rattle.laws.specs.Loops.{padTo}
 
 -- ---- passed and failed tests
