@@ -9,10 +9,10 @@ use borrow.Author.Tests.{leb-true, ltb-true, eqb-true, le-leb, lt-ltb, eq-eqb}
 use lib.Dec.{leb, ltb, eqb}
 use lib.ListN.{length, getD}
 use Prim.Native.Nat.{ℕ, _≤_, _<_, _%_, _∣_}
-use Rattle.laws.specs.Lists.{any, all, firstBad, upTo}
+use Rattle.laws.specs.Lists.{keep, any, all, firstBad, upTo}
 use Rattle.laws.specs.Numbers.{divides}
 use Rattle.laws.specs.Res.{Res, ok, _>>=_, _>>_, unless, at}
-use Rattle.laws.proofs.Lists.{true-false, both-left, both-right, any-hit, any-true, any-upTo-hit, any-upTo-true, all-each, all-true, all-upTo-each, all-upTo-true}
+use Rattle.laws.proofs.Lists.{true-false, both-left, both-right, any-hit, any-true, any-upTo-hit, any-upTo-true, all-each, all-true, all-upTo-each, all-upTo-true, all-keep}
 use Rattle.laws.proofs.Loops.{firstBad-none, firstBad-passes, firstBad-upTo-none, firstBad-upTo-passes}
 use Rattle.laws.proofs.Res.{unless-ok, at-ok, at-none, bind-case, then-case}
 
@@ -93,6 +93,11 @@ module _ {A : Type 0} {P : ℕ → Type 0} (p : A → Bool) (l : List A) (d : A)
 
   pub by-all : ((k : ℕ) → k < length l → Tests (p (getD l k d)) (P k)) → Tests (all p l) ((k : ℕ) → k < length l → P k)
   by-all t = record { says = λ e k w. t k w .says (all-true p l d k e w); passes = λ h. all-each p l d (λ k w. t k w .passes (h k w)) }
+
+-- the elements that were kept, by their places in the whole list
+pub by-all-keep : {A : Type 0} {P Q : ℕ → Type 0} (q r : A → Bool) (l : List A) (d : A) → ((k : ℕ) → k < length l → Tests (q (getD l k d)) (P k))
+    → ((k : ℕ) → k < length l → Tests (r (getD l k d)) (Q k)) → Tests (all r (keep q l)) ((k : ℕ) → k < length l → P k → Q k)
+by-all-keep q r l d s t = rw (all-keep q r l) (by-all (λ x. cond (q x) (r x) true) l d (λ k w. by-where (s k w) (t k w)))
 
 module _ {P : ℕ → Type 0} (p : ℕ → Bool) (n : ℕ) where
   pub by-any-upTo : ((k : ℕ) → k < n → Tests (p k) (P k)) → Tests (any p (upTo n)) ((k : ℕ) × (k < n) × P k)
