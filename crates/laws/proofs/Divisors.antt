@@ -17,6 +17,17 @@ divides-true a b = by-divides a b .says
 pub divides-is : (a b : ℕ) → a ∣ b → divides a b ≡ true
 divides-is a b = by-divides a b .passes
 
+-- a number is settled by its multiples, and by its divisors
+pub same-multiples : (a b : ℕ) → ((m : ℕ) → divides a m ≡ divides b m) → a ≡ b
+same-multiples a b h =
+    dvd-antisymm (divides-true a b (h b ∙ divides-is b b (dvd-refl b)))
+    (divides-true b a (sym (h a) ∙ divides-is a a (dvd-refl a)))
+
+pub same-divisors : (a b : ℕ) → ((d : ℕ) → divides d a ≡ divides d b) → a ≡ b
+same-divisors a b h =
+    dvd-antisymm (divides-true a b (sym (h a) ∙ divides-is a a (dvd-refl a)))
+    (divides-true b a (h b ∙ divides-is b b (dvd-refl b)))
+
 -- ---- gcd
 
 -- more turns than b change nothing

@@ -24,6 +24,10 @@ pub record Tests (b : Bool) (P : Type 0) : Type 0 where
 pub by-iff : {b : Bool} {P Q : Type 0} → Tests b P → (P → Q) → (Q → P) → Tests b Q
 by-iff t f g = record { says = λ e. f (t .says e); passes = λ q. t .passes (g q) }
 
+-- a test means that it passes
+pub by-itself : (b : Bool) → Tests b (b ≡ true)
+by-itself b = record { says = λ e. e; passes = λ e. e }
+
 -- two tests that mean the same are the same
 pub by-same : {b c : Bool} {P Q : Type 0} → Tests b P → Tests c Q → (P → Q) → (Q → P) → b ≡ c
 by-same {b} {c} {P} {Q} s t f g = go b c s t
