@@ -1,2 +1,3 @@
 pub mod Jobs
 pub mod Period
+pub mod Placing
