@@ -4,3 +4,4 @@ pub mod Res
 pub mod Tests
 pub mod Divisors
 pub mod Members
+pub mod Orders
