@@ -1,0 +1,123 @@
+// The kinds of number that must never be mixed: a tuple struct for each, with its limit where document 01 sets one.
+// Each limit has a function whose contract says document 01's number, so that no other constant is proved.
+ghost use mathlib.Core.Path.{_≡_};
+
+// Time, in ticks of one microsecond.
+pub struct Ticks(pub u32);
+
+impl Ticks {
+    // Mode periods, switch periods and worst times go up to this.
+    pub const LONGEST: u32 = 1_000_000;
+
+    pub fn zero() -> Ticks
+        ensures { λ r. ⌜ r .0 ≡ 0 ⌝ }
+    {
+        Ticks(0)
+    }
+
+    pub fn longest() -> Ticks
+        ensures { λ r. ⌜ r .0 ≡ 1000000 ⌝ }
+    {
+        Ticks(Ticks::LONGEST)
+    }
+}
+
+// A number of bytes: of a payload, an overhead, a file.
+pub struct ByteCount(pub u32);
+
+impl ByteCount {
+    pub fn count(self) -> usize
+        ensures { λ r. ⌜ r ≡ self .0 ⌝ }
+    {
+        self.0 as usize
+    }
+}
+
+// The number of a node, counted from 0.
+pub struct NodeNo(pub u8);
+
+impl NodeNo {
+    pub const MOST: usize = 8;
+
+    pub fn most() -> usize
+        ensures { λ r. ⌜ r ≡ 8 ⌝ }
+    {
+        NodeNo::MOST
+    }
+
+    // The node's place in an array of nodes.
+    pub fn place(self) -> usize
+        ensures { λ r. ⌜ r ≡ self .0 ⌝ }
+    {
+        self.0 as usize
+    }
+}
+
+// The number of a module, counted from 0 in the plan's order.
+pub struct ModuleNo(pub u8);
+
+impl ModuleNo {
+    pub const MOST: usize = 16;
+
+    pub fn most() -> usize
+        ensures { λ r. ⌜ r ≡ 16 ⌝ }
+    {
+        ModuleNo::MOST
+    }
+
+    // The module's place in an array of modules.
+    pub fn place(self) -> usize
+        ensures { λ r. ⌜ r ≡ self .0 ⌝ }
+    {
+        self.0 as usize
+    }
+}
+
+// The number of a mode, counted from 0 in the plan's order over all modules.
+pub struct ModeNo(pub u8);
+
+impl ModeNo {
+    pub const MOST: usize = 32;
+
+    pub fn most() -> usize
+        ensures { λ r. ⌜ r ≡ 32 ⌝ }
+    {
+        ModeNo::MOST
+    }
+
+    // The mode's place in an array of modes.
+    pub fn place(self) -> usize
+        ensures { λ r. ⌜ r ≡ self .0 ⌝ }
+    {
+        self.0 as usize
+    }
+}
+
+// The number of a task, counted from 0 in the plan's order over all modules.
+pub struct TaskNo(pub u8);
+
+impl TaskNo {
+    pub const MOST: usize = 32;
+
+    pub fn most() -> usize
+        ensures { λ r. ⌜ r ≡ 32 ⌝ }
+    {
+        TaskNo::MOST
+    }
+
+    // The task's place in an array of tasks.
+    pub fn place(self) -> usize
+        ensures { λ r. ⌜ r ≡ self .0 ⌝ }
+    {
+        self.0 as usize
+    }
+}
+
+// The number of a record in its file, counted from 0 over all kinds.
+pub struct RecordNo(pub usize);
+
+// The number of a frame: by deadline, then by task.
+pub struct FrameNo(pub usize);
+
+// A place in a file, in bytes from its front.
+pub struct Offset(pub usize);
