@@ -44,7 +44,8 @@ le-or-lt m n = decided (tested (leb m n))
     decided (inr e) = inr (leb-false m n e)
 
 -- the answer, by what it says
-pub compare-case : {C : Type 0} (m n : ℕ) → (m < n → compare m n ≡ Ordering·lt → C) → (m ≡ n → compare m n ≡ Ordering·eq → C) → (n < m → compare m n ≡ Ordering·gt → C) → C
+pub compare-case : {C : Type 0} (m n : ℕ) → (m < n → compare m n ≡ Ordering·lt → C) → (m ≡ n → compare m n ≡ Ordering·eq → C)
+    → (n < m → compare m n ≡ Ordering·gt → C) → C
 compare-case {C} m n less same more = decided (le-or-lt m n)
   where
     below : (m ≡ n) ⊎ (m < n) → C
@@ -68,7 +69,8 @@ more-of m n e = compare-case m n (λ h q. lt≢gt (sym q ∙ e)) (λ h q. eq≢g
 
 module _ {A : Type 0} {R : A → A → Type 0} (irreflexive : (a : A) → R a a → ⊥) (transitive : (a b c : A) → R a b → R b c → R a c) where
   -- what stands in both lists behind equal heads
-  behind : (x y : A) (l m : List A) → x ≡ y → All (R x) l → ((z : A) → List·Memᴰ z (x ∷ l) → List·Memᴰ z (y ∷ m)) → (z : A) → List·Memᴰ z l → List·Memᴰ z m
+  behind : (x y : A) (l m : List A) → x ≡ y → All (R x) l → ((z : A) → List·Memᴰ z (x ∷ l) → List·Memᴰ z (y ∷ m)) → (z : A)
+      → List·Memᴰ z l → List·Memᴰ z m
   behind x y l m e a f z i = which (List·Memᴰ·cases-cons (f z (List·Memᴰ·tail i)))
     where
       which : (z ≡ y) ⊎ List·Memᴰ z m → List·Memᴰ z m
@@ -80,11 +82,14 @@ module _ {A : Type 0} {R : A → A → Type 0} (irreflexive : (a : A) → R a a 
   heads x y l m a b (inr i) (inl e) = sym e
   heads x y l m a b (inr i) (inr j) = absurd (irreflexive x (transitive x y x (all-member a j) (all-member b i)))
 
-  pub sorted-unique : (l m : List A) → Pairs R l → Pairs R m → ((x : A) → List·Memᴰ x l → List·Memᴰ x m) → ((x : A) → List·Memᴰ x m → List·Memᴰ x l) → l ≡ m
+  pub sorted-unique : (l m : List A) → Pairs R l → Pairs R m → ((x : A) → List·Memᴰ x l → List·Memᴰ x m)
+      → ((x : A) → List·Memᴰ x m → List·Memᴰ x l) → l ≡ m
   sorted-unique [] [] p q f g = refl
   sorted-unique [] (y ∷ m) p q f g = absurd (List·Memᴰ·not-nil (g y (List·Memᴰ·head refl)))
   sorted-unique (x ∷ l) [] p q f g = absurd (List·Memᴰ·not-nil (f x (List·Memᴰ·head refl)))
   sorted-unique (x ∷ l) (y ∷ m) (before a p) (before b q) f g =
-      let e : x ≡ y = heads x y l m a b (List·Memᴰ·cases-cons (f x (List·Memᴰ·head refl))) (List·Memᴰ·cases-cons (g y (List·Memᴰ·head refl))) in
+      let i = List·Memᴰ·cases-cons (f x (List·Memᴰ·head refl)) in
+      let j = List·Memᴰ·cases-cons (g y (List·Memᴰ·head refl)) in
+      let e : x ≡ y = heads x y l m a b i j in
       let r : l ≡ m = sorted-unique l m p q (behind x y l m e a f) (behind y x m l (sym e) b g) in
       ap₂ _∷_ e r

@@ -111,7 +111,8 @@ merged-is : (m f : Frame) → frameOrder m f ≡ Ordering·eq → (merged m f �
 unfolding merged
 merged-is m f e = which (order-same m f e) (le-or-lt (m .release) (f .release))
   where
-    which : (m .task ≡ f .task) × (m .deadline ≡ f .deadline) → (m .release ≤ f .release) ⊎ (f .release < m .release) → (merged m f ≡ m) ⊎ (merged m f ≡ f)
+    which : (m .task ≡ f .task) × (m .deadline ≡ f .deadline) → (m .release ≤ f .release) ⊎ (f .release < m .release)
+        → (merged m f ≡ m) ⊎ (merged m f ≡ f)
     which k (inl h) = inr (frame-path (merged m f) f refl (max-eq-right h) refl)
     which k (inr h) = inl (frame-path (merged m f) m (sym (k .0)) (max-eq-left (le-of-lt h)) (sym (k .1)))
 
@@ -129,7 +130,8 @@ insert-from m (f ∷ fs) {x} i = placed (frameOrder m f) refl (insert-from m fs)
     both-are e (inl q) = inl (e ∙ q)
     both-are e (inr q) = inr (List·Memᴰ·head (e ∙ q))
 
-    placed : (o : Ordering) → frameOrder m f ≡ o → {rest : List Frame} → (List·Memᴰ x rest → (x ≡ m) ⊎ List·Memᴰ x fs) → List·Memᴰ x (byOrder o m f fs rest) → (x ≡ m) ⊎ List·Memᴰ x (f ∷ fs)
+    placed : (o : Ordering) → frameOrder m f ≡ o → {rest : List Frame} → (List·Memᴰ x rest → (x ≡ m) ⊎ List·Memᴰ x fs)
+        → List·Memᴰ x (byOrder o m f fs rest) → (x ≡ m) ⊎ List·Memᴰ x (f ∷ fs)
     placed Ordering·lt q r (List·Memᴰ·head e) = inl e
     placed Ordering·lt q r (List·Memᴰ·tail j) = inr j
     placed Ordering·eq q r (List·Memᴰ·head e) = both-are e (merged-is m f q)
@@ -179,7 +181,8 @@ insert-keeps m (f ∷ fs) g i = placed (frameOrder m f) (insert-keeps m fs g) i
     itself : (l : List Frame) → List·Memᴰ g l → Covered l g
     itself l i = record { one = g; among = i; covers = covers-itself g }
 
-    placed : (o : Ordering) {rest : List Frame} → (List·Memᴰ g fs → Covered rest g) → List·Memᴰ g (f ∷ fs) → Covered (byOrder o m f fs rest) g
+    placed : (o : Ordering) {rest : List Frame} → (List·Memᴰ g fs → Covered rest g) → List·Memᴰ g (f ∷ fs)
+        → Covered (byOrder o m f fs rest) g
     placed Ordering·lt {rest} r i = itself (m ∷ f ∷ fs) (List·Memᴰ·tail i)
     placed Ordering·eq {rest} r (List·Memᴰ·head e) = covered-here (subst (Covers (merged m f)) (sym e) (merged-covers-old m f))
     placed Ordering·eq {rest} r (List·Memᴰ·tail i) = itself (merged m f ∷ fs) (List·Memᴰ·tail i)
@@ -217,11 +220,13 @@ unfolding frames
 plan-frames p = frames-of (messages (busPeriod p) (busRuns p))
 
 -- a lower number, a lower pair
-pub frames-in-order : {ms fs : List Frame} → IsFramesOf ms fs → (d : Frame) (j k : ℕ) → j < k → k < length fs → Before (getD fs j d) (getD fs k d)
+pub frames-in-order : {ms fs : List Frame} → IsFramesOf ms fs → (d : Frame) (j k : ℕ) → j < k → k < length fs
+    → Before (getD fs j d) (getD fs k d)
 frames-in-order h d j k = pairs-getD d (h .sorted) j k
 
 -- a pair stands once
-pub one-of-a-pair : {fs : List Frame} → Pairs Before fs → (a b : Frame) → List·Memᴰ a fs → List·Memᴰ b fs → a .task ≡ b .task → a .deadline ≡ b .deadline → a ≡ b
+pub one-of-a-pair : {fs : List Frame} → Pairs Before fs → (a b : Frame) → List·Memᴰ a fs → List·Memᴰ b fs → a .task ≡ b .task
+    → a .deadline ≡ b .deadline → a ≡ b
 one-of-a-pair (before {x} h p) a b (List·Memᴰ·head e) (List·Memᴰ·head q) t d = e ∙ sym q
 one-of-a-pair (before {x} h p) a b (List·Memᴰ·head e) (List·Memᴰ·tail j) t d =
     absurd (before-not-same a b t d (subst (λ (f : Frame). Before f b) (sym e) (all-member h j)))
@@ -230,7 +235,8 @@ one-of-a-pair (before {x} h p) a b (List·Memᴰ·tail i) (List·Memᴰ·head q)
 one-of-a-pair (before {x} h p) a b (List·Memᴰ·tail i) (List·Memᴰ·tail j) t d = one-of-a-pair p a b i j t d
 
 -- a frame's release is the greatest of its messages' releases
-pub release-greatest : {ms fs : List Frame} → IsFramesOf ms fs → (f m : Frame) → List·Memᴰ f fs → List·Memᴰ m ms → f .task ≡ m .task → f .deadline ≡ m .deadline → m .release ≤ f .release
+pub release-greatest : {ms fs : List Frame} → IsFramesOf ms fs → (f m : Frame) → List·Memᴰ f fs → List·Memᴰ m ms → f .task ≡ m .task
+    → f .deadline ≡ m .deadline → m .release ≤ f .release
 release-greatest h f m i j t d =
     let c = h .covered m j in
     let e : c .one ≡ f = one-of-a-pair (h .sorted) (c .one) f (c .among) i (c .covers .task ∙ sym t) (c .covers .deadline ∙ sym d) in
@@ -240,8 +246,10 @@ frame-within : {ms fs gs : List Frame} → IsFramesOf ms fs → IsFramesOf ms gs
 frame-within p q f i =
     let c = q .covered f (p .comes f i) in
     let g = c .one in
-    let up : g .release ≤ f .release = release-greatest p f g i (q .comes g (c .among)) (sym (c .covers .task)) (sym (c .covers .deadline)) in
-    let e : f ≡ g = frame-path f g (sym (c .covers .task)) (le-antisymm (c .covers .release) up) (sym (c .covers .deadline)) in
+    let t : f .task ≡ g .task = sym (c .covers .task) in
+    let d : f .deadline ≡ g .deadline = sym (c .covers .deadline) in
+    let up : g .release ≤ f .release = release-greatest p f g i (q .comes g (c .among)) t d in
+    let e : f ≡ g = frame-path f g t (le-antisymm (c .covers .release) up) d in
     Memᴰ·cast e (c .among)
 
 pub frames-unique : {ms fs gs : List Frame} → IsFramesOf ms fs → IsFramesOf ms gs → fs ≡ gs
