@@ -5,3 +5,5 @@ pub mod Tests
 pub mod Divisors
 pub mod Members
 pub mod Orders
+pub mod Table
+pub mod Little
