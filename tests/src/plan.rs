@@ -1,0 +1,291 @@
+//! A plan in memory, and what a plan must keep: refusals 1 to 5.
+
+use crate::records::{
+    BUS, CONNECTION, INVOCATION, MODE, MODULE, NODES, PLAN_FILE, TASK, outline, record_length,
+};
+use crate::{
+    MOST_CONNECTIONS, MOST_INVOCATIONS, MOST_MODES, MOST_MODULES, MOST_NODES, MOST_TASKS, Refusal,
+    has, refuse_at,
+};
+use std::ops::{Deref, RangeInclusive};
+
+pub const LONGEST_PERIOD: u32 = 1_000_000;
+
+/// A list of at most `MOST` things, kept without an allocation.
+#[derive(Clone, Copy, Debug)]
+pub struct Few<T, const MOST: usize> {
+    things: [T; MOST],
+    count: usize,
+}
+
+impl<T: Copy + Default, const MOST: usize> FromIterator<T> for Few<T, MOST> {
+    fn from_iter<I: IntoIterator<Item = T>>(given: I) -> Self {
+        let mut things = [T::default(); MOST];
+        let mut count = 0;
+        for (place, thing) in things.iter_mut().zip(given) {
+            *place = thing;
+            count += 1;
+        }
+        Few { things, count }
+    }
+}
+
+impl<T, const MOST: usize> Deref for Few<T, MOST> {
+    type Target = [T];
+    fn deref(&self) -> &[T] {
+        &self.things[..self.count]
+    }
+}
+
+#[derive(Clone, Copy, Debug, Default, PartialEq, Eq)]
+pub struct Bits {
+    pub kbits: u32,
+    pub overhead: u16,
+    pub least_payload: u16,
+    pub largest_payload: u16,
+    pub gap_bits: u16,
+    pub resolution: u32,
+}
+
+#[derive(Clone, Copy, Debug, Default, PartialEq, Eq)]
+pub struct Module {
+    pub node: u8,
+}
+
+#[derive(Clone, Copy, Debug, Default, PartialEq, Eq)]
+pub struct Mode {
+    pub module: u8,
+    pub period: u32,
+    pub switch_period: u32,
+}
+
+#[derive(Clone, Copy, Debug, Default, PartialEq, Eq)]
+pub struct Task {
+    pub module: u8,
+    pub size: u8,
+    pub worst_time: u32,
+}
+
+#[derive(Clone, Copy, Debug, Default, PartialEq, Eq)]
+pub struct Invocation {
+    pub mode: u8,
+    pub task: u8,
+    pub rate: u16,
+}
+
+#[derive(Clone, Copy, Debug, Default, PartialEq, Eq)]
+pub struct Connection {
+    pub producer: u8,
+    pub consumer: u8,
+}
+
+#[derive(Clone, Copy, Debug)]
+pub struct Plan {
+    pub bits: Bits,
+    pub nodes: u8,
+    pub modules: Few<Module, MOST_MODULES>,
+    pub modes: Few<Mode, MOST_MODES>,
+    pub tasks: Few<Task, MOST_TASKS>,
+    pub invocations: Few<Invocation, MOST_INVOCATIONS>,
+    pub connections: Few<Connection, MOST_CONNECTIONS>,
+}
+
+/// From the bytes to a plan that keeps rules 1 to 5.
+pub fn read(file: &[u8]) -> Result<Plan, Refusal> {
+    let plan = gather(file)?;
+    refuse_at(3, plan.unknown_name())?;
+    refuse_at(4, plan.number_out_of_range())?;
+    refuse_at(5, plan.broken_sentence())?;
+    Ok(plan)
+}
+
+/// Rules 1 and 2; once the counts are in their ranges the lists hold all things.
+fn gather(file: &[u8]) -> Result<Plan, Refusal> {
+    let cut = outline(file, &PLAN_FILE).map_err(|place| Refusal::new(1, place))?;
+    let [bus, nodes] = cut.once;
+    let [modules, modes, tasks, invocations, connections] = cut.repeated;
+    let nodes = nodes[1];
+    let modules = modules.as_chunks::<{ record_length(MODULE) }>().0;
+    let modes = modes.as_chunks::<{ record_length(MODE) }>().0;
+    let tasks = tasks.as_chunks::<{ record_length(TASK) }>().0;
+    let invocations = invocations.as_chunks::<{ record_length(INVOCATION) }>().0;
+    let connections = connections.as_chunks::<{ record_length(CONNECTION) }>().0;
+    let counts = [
+        (NODES, usize::from(nodes), 1..=MOST_NODES),
+        (MODULE, modules.len(), 1..=MOST_MODULES),
+        (MODE, modes.len(), 1..=MOST_MODES),
+        (TASK, tasks.len(), 1..=MOST_TASKS),
+        (INVOCATION, invocations.len(), 1..=MOST_INVOCATIONS),
+        (CONNECTION, connections.len(), 0..=MOST_CONNECTIONS),
+    ];
+    let wrong = counts.iter().find(|(_, count, range)| !range.contains(count));
+    refuse_at(2, wrong.map(|&(kind, ..)| usize::from(kind)))?;
+    Ok(Plan {
+        bits: read_bits(bus),
+        nodes,
+        modules: modules.iter().map(|&[_, node]| Module { node }).collect(),
+        modes: modes.iter().map(read_mode).collect(),
+        tasks: tasks.iter().map(read_task).collect(),
+        invocations: invocations.iter().map(read_invocation).collect(),
+        connections: connections.iter().map(read_connection).collect(),
+    })
+}
+
+fn read_bits(record: &[u8]) -> Bits {
+    let body = record.last_chunk::<{ record_length(BUS) - 1 }>().unwrap_or(&[0; 16]);
+    let &[k0, k1, k2, k3, o0, o1, l0, l1, m0, m1, g0, g1, r0, r1, r2, r3] = body;
+    Bits {
+        kbits: u32::from_le_bytes([k0, k1, k2, k3]),
+        overhead: u16::from_le_bytes([o0, o1]),
+        least_payload: u16::from_le_bytes([l0, l1]),
+        largest_payload: u16::from_le_bytes([m0, m1]),
+        gap_bits: u16::from_le_bytes([g0, g1]),
+        resolution: u32::from_le_bytes([r0, r1, r2, r3]),
+    }
+}
+
+fn read_mode(&[_, module, p0, p1, p2, p3, s0, s1, s2, s3]: &[u8; record_length(MODE)]) -> Mode {
+    Mode {
+        module,
+        period: u32::from_le_bytes([p0, p1, p2, p3]),
+        switch_period: u32::from_le_bytes([s0, s1, s2, s3]),
+    }
+}
+
+fn read_task(&[_, module, size, w0, w1, w2, w3]: &[u8; record_length(TASK)]) -> Task {
+    Task { module, size, worst_time: u32::from_le_bytes([w0, w1, w2, w3]) }
+}
+
+fn read_invocation(&[_, mode, task, r0, r1]: &[u8; record_length(INVOCATION)]) -> Invocation {
+    Invocation { mode, task, rate: u16::from_le_bytes([r0, r1]) }
+}
+
+fn read_connection(&[_, producer, consumer]: &[u8; record_length(CONNECTION)]) -> Connection {
+    Connection { producer, consumer }
+}
+
+impl Bits {
+    fn in_range(&self) -> bool {
+        (1..=100_000).contains(&self.kbits)
+            && self.overhead <= 64
+            && self.least_payload <= 254
+            && (1..=254).contains(&self.largest_payload)
+            && self.least_payload <= self.largest_payload
+            && self.gap_bits <= 1_000
+            && (1..=1_000).contains(&self.resolution)
+    }
+}
+
+const PERIODS: RangeInclusive<u32> = 1..=LONGEST_PERIOD;
+
+impl Plan {
+    pub fn mode_of(&self, invocation: &Invocation) -> &Mode {
+        &self.modes[usize::from(invocation.mode)]
+    }
+
+    pub fn task_of(&self, invocation: &Invocation) -> &Task {
+        &self.tasks[usize::from(invocation.task)]
+    }
+
+    pub fn period_of(&self, invocation: &Invocation) -> u32 {
+        self.mode_of(invocation).period / u32::from(invocation.rate)
+    }
+
+    pub fn node_of_task(&self, task: u8) -> u8 {
+        let module = self.tasks[usize::from(task)].module;
+        self.modules[usize::from(module)].node
+    }
+
+    fn first_module(&self) -> usize {
+        2
+    }
+
+    fn first_mode(&self) -> usize {
+        self.first_module() + self.modules.len()
+    }
+
+    fn first_task(&self) -> usize {
+        self.first_mode() + self.modes.len()
+    }
+
+    fn first_invocation(&self) -> usize {
+        self.first_task() + self.tasks.len()
+    }
+
+    fn first_connection(&self) -> usize {
+        self.first_invocation() + self.invocations.len()
+    }
+
+    /// Rule 3: the lowest record that names a thing not there.
+    fn unknown_name(&self) -> Option<usize> {
+        let no_module = |module: u8| usize::from(module) >= self.modules.len();
+        let no_mode = |mode: u8| usize::from(mode) >= self.modes.len();
+        let no_task = |task: u8| usize::from(task) >= self.tasks.len();
+        let at = |first: usize| move |index: usize| first + index;
+        let module = self.modules.iter().position(|module| module.node >= self.nodes);
+        let mode = || self.modes.iter().position(|mode| no_module(mode.module));
+        let task = || self.tasks.iter().position(|task| no_module(task.module));
+        let invocation =
+            || self.invocations.iter().position(|run| no_mode(run.mode) || no_task(run.task));
+        let connection = || {
+            let ends = |connection: &Connection| [connection.producer, connection.consumer];
+            self.connections.iter().position(|connection| ends(connection).into_iter().any(no_task))
+        };
+        (module.map(at(self.first_module())))
+            .or_else(|| mode().map(at(self.first_mode())))
+            .or_else(|| task().map(at(self.first_task())))
+            .or_else(|| invocation().map(at(self.first_invocation())))
+            .or_else(|| connection().map(at(self.first_connection())))
+    }
+
+    /// Rule 4: the lowest record with another number outside its range.
+    fn number_out_of_range(&self) -> Option<usize> {
+        if !self.bits.in_range() {
+            return Some(0);
+        }
+        let mode = self.modes.iter().position(|mode| {
+            !PERIODS.contains(&mode.period) || !PERIODS.contains(&mode.switch_period)
+        });
+        let task = || {
+            self.tasks.iter().position(|task| {
+                !(1..=8).contains(&task.size) || !PERIODS.contains(&task.worst_time)
+            })
+        };
+        let invocation = || self.invocations.iter().position(|invocation| invocation.rate == 0);
+        (mode.map(|index| self.first_mode() + index))
+            .or_else(|| task().map(|index| self.first_task() + index))
+            .or_else(|| invocation().map(|index| self.first_invocation() + index))
+    }
+
+    /// Rule 5: the lowest record with any of its faults.
+    fn broken_sentence(&self) -> Option<usize> {
+        let mode = || self.modes.iter().position(|mode| mode.period % mode.switch_period != 0);
+        (self.module_without_mode().map(|index| self.first_module() + index))
+            .or_else(|| mode().map(|index| self.first_mode() + index))
+            .or_else(|| self.broken_invocation().map(|index| self.first_invocation() + index))
+    }
+
+    fn module_without_mode(&self) -> Option<usize> {
+        let with_mode = self.modes.iter().fold(0u32, |seen, mode| seen | 1 << mode.module);
+        (0..).zip(self.modules.iter()).position(|(module, _)| !has(with_mode, module))
+    }
+
+    fn broken_invocation(&self) -> Option<usize> {
+        let mut tasks_of_mode = [0u32; MOST_MODES];
+        self.invocations.iter().position(|invocation| {
+            let seen = &mut tasks_of_mode[usize::from(invocation.mode)];
+            let repeated = has(*seen, invocation.task);
+            *seen |= 1 << invocation.task;
+            repeated || !self.fits(invocation)
+        })
+    }
+
+    fn fits(&self, invocation: &Invocation) -> bool {
+        let (mode, task) = (self.mode_of(invocation), self.task_of(invocation));
+        let period = self.period_of(invocation);
+        mode.module == task.module
+            && mode.period.is_multiple_of(u32::from(invocation.rate))
+            && mode.switch_period.is_multiple_of(period)
+            && task.worst_time <= period
+    }
+}
