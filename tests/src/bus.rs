@@ -1,6 +1,6 @@
 //! What a plan asks of the bus: bus tasks, the bus period, frames, control rows: refusals 6 to 11.
 
-use crate::plan::{Bits, Few, Plan, Task};
+use crate::plan::{Bits, Few, LONGEST_PERIOD, Plan, Task};
 use crate::{FrameRow, MOST_FRAMES, MOST_INVOCATIONS, MOST_NODES, MOST_TASKS, Refusal, has};
 
 #[derive(Clone, Copy, Debug, Default, PartialEq, Eq)]
@@ -123,29 +123,51 @@ fn common_multiple(a: u32, b: u32) -> u32 {
 
 /// The number of frames, or `None` above `MOST_FRAMES`.
 fn list_frames(plan: &Plan, runs: &[Run], period: u32, rows: &mut [FrameRow]) -> Option<usize> {
+    let mut packed = [0; MOST_FRAMES];
     let mut frames = 0;
     for of_task in runs.chunk_by(|one, next| one.task == next.task) {
         let worst_time = plan.tasks[usize::from(of_task[0].task)].worst_time;
-        frames += list_task(of_task, worst_time, period, &mut rows[frames..MOST_FRAMES])?;
+        frames += list_task(of_task, worst_time, period, &mut packed[frames..])?;
     }
-    rows[..frames].sort_unstable_by_key(frame_key);
+    let packed = &mut packed[..frames];
+    packed.sort_unstable();
+    for (row, &frame) in rows.iter_mut().zip(packed.iter()) {
+        *row = unpack(frame);
+    }
     Some(frames)
 }
 
-/// Frames are numbered by deadline, then by task.
+/// Frames are numbered by deadline, then by task: so are these numbers ordered. No time is above
+/// `LONGEST_PERIOD`, so a frame fits into one number.
+fn pack(task: u8, release: u32, deadline: u32) -> u64 {
+    u64::from(deadline) << 32 | u64::from(task) << TIME_BITS | u64::from(release)
+}
+
+fn unpack(frame: u64) -> FrameRow {
+    FrameRow {
+        task: (frame as u32) >> TIME_BITS,
+        release: frame as u32 & ((1 << TIME_BITS) - 1),
+        deadline: (frame >> 32) as u32,
+        start: 0,
+    }
+}
+
+const TIME_BITS: u32 = 20;
+const _: () = assert!(LONGEST_PERIOD < 1 << TIME_BITS);
+
 pub fn frame_key(row: &FrameRow) -> u64 {
     u64::from(row.deadline) << 32 | u64::from(row.task)
 }
 
 /// Goes from each deadline of a task straight to its next one. A task's messages have one worst
 /// time, so of those with one deadline the run with the least period is released last.
-fn list_task(runs: &[Run], worst: u32, period: u32, rows: &mut [FrameRow]) -> Option<usize> {
+fn list_task(runs: &[Run], worst: u32, period: u32, packed: &mut [u64]) -> Option<usize> {
     let mut next = [0; MOST_INVOCATIONS];
     for (next, run) in next.iter_mut().zip(runs) {
         *next = run.period;
     }
     let next = &mut next[..runs.len()];
-    let mut rows = rows.iter_mut();
+    let mut packed = packed.iter_mut();
     let mut frames = 0;
     loop {
         let deadline = next.iter().fold(u32::MAX, |least, &next| least.min(next));
@@ -156,9 +178,7 @@ fn list_task(runs: &[Run], worst: u32, period: u32, rows: &mut [FrameRow]) -> Op
                 least_period = run.period;
             }
         }
-        let task = u32::from(runs[0].task);
-        let release = deadline - least_period + worst;
-        *rows.next()? = FrameRow { task, release, deadline, start: 0 };
+        *packed.next()? = pack(runs[0].task, deadline - least_period + worst, deadline);
         frames += 1;
         if deadline >= period {
             return Some(frames);

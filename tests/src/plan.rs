@@ -7,7 +7,7 @@ use crate::{
     MOST_CONNECTIONS, MOST_INVOCATIONS, MOST_MODES, MOST_MODULES, MOST_NODES, MOST_TASKS, Refusal,
     has, refuse_at,
 };
-use std::ops::{Deref, RangeInclusive};
+use std::ops::Deref;
 
 pub const LONGEST_PERIOD: u32 = 1_000_000;
 
@@ -176,8 +176,6 @@ impl Bits {
     }
 }
 
-const PERIODS: RangeInclusive<u32> = 1..=LONGEST_PERIOD;
-
 impl Plan {
     pub fn mode_of(&self, invocation: &Invocation) -> &Mode {
         &self.modes[usize::from(invocation.mode)]
@@ -196,88 +194,49 @@ impl Plan {
         self.modules[usize::from(module)].node
     }
 
-    fn first_module(&self) -> usize {
-        2
-    }
-
-    fn first_mode(&self) -> usize {
-        self.first_module() + self.modules.len()
-    }
-
-    fn first_task(&self) -> usize {
-        self.first_mode() + self.modes.len()
-    }
-
-    fn first_invocation(&self) -> usize {
-        self.first_task() + self.tasks.len()
-    }
-
-    fn first_connection(&self) -> usize {
-        self.first_invocation() + self.invocations.len()
-    }
-
     /// Rule 3: the lowest record that names a thing not there.
     fn unknown_name(&self) -> Option<usize> {
         let no_module = |module: u8| usize::from(module) >= self.modules.len();
         let no_mode = |mode: u8| usize::from(mode) >= self.modes.len();
         let no_task = |task: u8| usize::from(task) >= self.tasks.len();
-        let at = |first: usize| move |index: usize| first + index;
-        let module = self.modules.iter().position(|module| module.node >= self.nodes);
-        let mode = || self.modes.iter().position(|mode| no_module(mode.module));
-        let task = || self.tasks.iter().position(|task| no_module(task.module));
-        let invocation =
-            || self.invocations.iter().position(|run| no_mode(run.mode) || no_task(run.task));
-        let connection = || {
-            let ends = |connection: &Connection| [connection.producer, connection.consumer];
-            self.connections.iter().position(|connection| ends(connection).into_iter().any(no_task))
-        };
-        (module.map(at(self.first_module())))
-            .or_else(|| mode().map(at(self.first_mode())))
-            .or_else(|| task().map(at(self.first_task())))
-            .or_else(|| invocation().map(at(self.first_invocation())))
-            .or_else(|| connection().map(at(self.first_connection())))
+        let modules = self.modules.iter().map(|module| module.node >= self.nodes);
+        let modes = self.modes.iter().map(|mode| no_module(mode.module));
+        let tasks = self.tasks.iter().map(|task| no_module(task.module));
+        let invocations = self.invocations.iter().map(|run| no_mode(run.mode) || no_task(run.task));
+        let connections = (self.connections.iter())
+            .map(|connection| no_task(connection.producer) || no_task(connection.consumer));
+        let things = modules.chain(modes).chain(tasks).chain(invocations).chain(connections);
+        [false, false].into_iter().chain(things).position(|at_fault| at_fault)
     }
 
     /// Rule 4: the lowest record with another number outside its range.
     fn number_out_of_range(&self) -> Option<usize> {
-        if !self.bits.in_range() {
-            return Some(0);
-        }
-        let mode = self.modes.iter().position(|mode| {
-            !PERIODS.contains(&mode.period) || !PERIODS.contains(&mode.switch_period)
-        });
-        let task = || {
-            self.tasks.iter().position(|task| {
-                !(1..=8).contains(&task.size) || !PERIODS.contains(&task.worst_time)
-            })
-        };
-        let invocation = || self.invocations.iter().position(|invocation| invocation.rate == 0);
-        (mode.map(|index| self.first_mode() + index))
-            .or_else(|| task().map(|index| self.first_task() + index))
-            .or_else(|| invocation().map(|index| self.first_invocation() + index))
+        let period = |period: u32| (1..=LONGEST_PERIOD).contains(&period);
+        let modules = self.modules.iter().map(|_| false);
+        let modes =
+            self.modes.iter().map(|mode| !period(mode.period) || !period(mode.switch_period));
+        let tasks = (self.tasks.iter())
+            .map(|task| !(1..=8).contains(&task.size) || !period(task.worst_time));
+        let invocations = self.invocations.iter().map(|run| run.rate == 0);
+        let things = modules.chain(modes).chain(tasks).chain(invocations);
+        [!self.bits.in_range(), false].into_iter().chain(things).position(|at_fault| at_fault)
     }
 
     /// Rule 5: the lowest record with any of its faults.
     fn broken_sentence(&self) -> Option<usize> {
-        let mode = || self.modes.iter().position(|mode| mode.period % mode.switch_period != 0);
-        (self.module_without_mode().map(|index| self.first_module() + index))
-            .or_else(|| mode().map(|index| self.first_mode() + index))
-            .or_else(|| self.broken_invocation().map(|index| self.first_invocation() + index))
-    }
-
-    fn module_without_mode(&self) -> Option<usize> {
-        let with_mode = self.modes.iter().fold(0u32, |seen, mode| seen | 1 << mode.module);
-        (0..).zip(self.modules.iter()).position(|(module, _)| !has(with_mode, module))
-    }
-
-    fn broken_invocation(&self) -> Option<usize> {
-        let mut tasks_of_mode = [0u32; MOST_MODES];
-        self.invocations.iter().position(|invocation| {
-            let seen = &mut tasks_of_mode[usize::from(invocation.mode)];
-            let repeated = has(*seen, invocation.task);
-            *seen |= 1 << invocation.task;
-            repeated || !self.fits(invocation)
-        })
+        let with_mode = self.modes.iter().fold(0, |seen, mode| seen | 1 << mode.module);
+        let modules = (0..).zip(self.modules.iter()).map(|(number, _)| !has(with_mode, number));
+        let modes = self.modes.iter().map(|mode| !mode.period.is_multiple_of(mode.switch_period));
+        let tasks = self.tasks.iter().map(|_| false);
+        let mut tasks_of_mode = [0; MOST_MODES];
+        let invocations = self.invocations.iter().map(|run| {
+            let seen = &mut tasks_of_mode[usize::from(run.mode)];
+            let repeated = has(*seen, run.task);
+            *seen |= 1 << run.task;
+            repeated || !self.fits(run)
+        });
+        let things = modules.chain(modes).chain(tasks).chain(invocations);
+        [false, false].into_iter().chain(things).position(|at_fault| at_fault)
     }
 
     fn fits(&self, invocation: &Invocation) -> bool {

@@ -344,14 +344,14 @@ impl Row {
     }
 }
 
-impl From<&bus::ControlRow> for Row {
-    fn from(&bus::ControlRow { node, start, stop }: &bus::ControlRow) -> Row {
+impl From<bus::ControlRow> for Row {
+    fn from(bus::ControlRow { node, start, stop }: bus::ControlRow) -> Row {
         Row::Control { node, start, stop }
     }
 }
 
-impl From<&DataRow> for Row {
-    fn from(&DataRow { task, deadline, start, stop }: &DataRow) -> Row {
+impl From<DataRow> for Row {
+    fn from(DataRow { task, deadline, start, stop }: DataRow) -> Row {
         Row::Data { task, deadline, start, stop }
     }
 }
@@ -378,12 +378,12 @@ impl Fixed {
     }
 
     fn of(passed: &Passed) -> Fixed {
-        let Passed { plan, bus, data } = passed;
+        let Passed { plan, bus, .. } = passed;
         let mut fixed = Fixed::nothing();
         fixed.keep_modes(plan);
         fixed.keep_tasks(plan);
         fixed.keep_bus(plan, bus);
-        let rows = bus.control.iter().map(Row::from).chain(data.iter().map(Row::from));
+        let rows = bus.control.iter().copied().map(Row::from).chain(passed.data().map(Row::from));
         for (place, row) in fixed.rows.iter_mut().zip(rows) {
             *place = row;
             fixed.row_count += 1;

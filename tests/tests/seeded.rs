@@ -229,8 +229,9 @@ fn rows_started() {
         let modes = starting_modes(rng, &made.read_plan);
         let mut station = Station::begin(&made.plan, &made.table.bytes(), modes).unwrap();
         let mut history = History::new(rng, &made.read_plan, &modes, None);
-        let control = made.table.control.iter().map(Row::from);
-        let rows: Vec<Row> = control.chain(made.table.data.iter().map(Row::from)).collect();
+        let control = made.table.control.iter().copied().map(Row::from);
+        let rows: Vec<Row> =
+            control.chain(made.table.data.iter().copied().map(Row::from)).collect();
         let starts: BTreeMap<u32, Row> = rows.iter().map(|row| (start_of(row), *row)).collect();
         assert_eq!(starts.len(), rows.len());
         for time in 0..2 * made.bus.period {
