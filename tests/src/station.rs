@@ -6,6 +6,7 @@ use crate::checker::{self, DataRow, Passed};
 use crate::plan::Plan;
 use crate::{
     FrameRow, MOST_FRAMES, MOST_MODES, MOST_MODULES, MOST_NODES, MOST_TASKS, Refusal, bus, has,
+    refuse_at,
 };
 
 pub type Results = [Option<u64>; MOST_TASKS];
@@ -119,6 +120,7 @@ impl Station {
         for (module, mode) in modes.iter().enumerate() {
             if let &Some(mode) = mode {
                 station.start_mode(module, mode);
+                // A change is allowed at time 0 too.
                 station.switch_at[module] = 0;
             }
         }
@@ -154,7 +156,7 @@ impl Station {
         let too_large = numbers(given).find(|&task| {
             results[task].is_some_and(|result| result > self.fixed.largest_results[task])
         });
-        crate::refuse_at(42, too_large)?;
+        refuse_at(42, too_large)?;
         refuse_lowest(43, instants(&self.due_at, self.now) & self.awaiting & !given)
     }
 
@@ -164,7 +166,7 @@ impl Station {
                 !self.fixed.is_mode_of(module, mode) || self.switch_at[module] != self.now
             })
         };
-        crate::refuse_at(44, modes.iter().enumerate().position(refused))
+        refuse_at(44, modes.iter().enumerate().position(refused))
     }
 
     /// (a)
@@ -312,7 +314,7 @@ fn given(results: &Results) -> u32 {
 }
 
 fn refuse_lowest(number: u32, places: u32) -> Result<(), Refusal> {
-    crate::refuse_at(number, numbers(places).next())
+    refuse_at(number, numbers(places).next())
 }
 
 /// The places whose instant is now.
