@@ -1,2 +1,3 @@
 pub mod Jobs
 pub mod Placing
+pub mod TableBytes
