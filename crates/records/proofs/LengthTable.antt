@@ -7,9 +7,9 @@ use mathlib.Core.List.{List, [], _∷_}
 use mathlib.Core.Option.{Option, none}
 use Prim.Native.Nat.{ℕ, _≤_, _<_}
 use native.Mathlib.Omega.{arith}
-use lib.Dec.{T, eqb, ltb, eqb→eq, ltb→lt}
+use lib.Dec.{eqb, ltb}
 use lib.ListN.{getD, List·getD-eq-default}
-use borrow.Author.Tests.{ne-eqb, ltb-true, ltb-false}
+use borrow.Author.Tests.{eqb-true, ne-eqb, ltb-true, ltb-false}
 use Rattle.laws.proofs.Table.{below, both-left, both-right}
 use Rattle.rules.specs.Records.{Field, kinds, known, fields, widths, bodyLength}
 use Rattle.records.specs.Kinds.{lengthOf}
@@ -22,14 +22,14 @@ lengths = 0 ∷ 16 ∷ 1 ∷ 1 ∷ 9 ∷ 6 ∷ 4 ∷ 2 ∷ 255 ∷ 255 ∷ 255 �
 right : ℕ → Bool
 right k = eqb (getD lengths k 0) (lengthOf k) && ltb (bodyLength k) 255
 
-computed : (k : ℕ) → k < 19 → T (right k)
+computed : (k : ℕ) → k < 19 → right k ≡ true
 unfolding right lengths lengthOf known bodyLength fields kinds
-computed = below right 19 tt
+computed = below right 19 refl
 
 module _ (k : ℕ) where
   pub entry : k < 19 → getD lengths k 0 ≡ lengthOf k
   unfolding right
-  entry h = eqb→eq _ _ (both-left (eqb (getD lengths k 0) (lengthOf k)) (ltb (bodyLength k) 255) (computed k h))
+  entry h = eqb-true _ _ (both-left (eqb (getD lengths k 0) (lengthOf k)) (ltb (bodyLength k) 255) (computed k h))
 
   unlisted : 19 ≤ k → getD kinds k none ≡ none
   unfolding kinds
@@ -41,7 +41,7 @@ module _ (k : ℕ) where
 
   short-if : (b : Bool) → ltb k 19 ≡ b → bodyLength k < 255
   unfolding right bodyLength fields
-  short-if true e = ltb→lt _ _ (both-right (eqb (getD lengths k 0) (lengthOf k)) (ltb (bodyLength k) 255) (computed k (ltb-true k 19 e)))
+  short-if true e = ltb-true _ _ (both-right (eqb (getD lengths k 0) (lengthOf k)) (ltb (bodyLength k) 255) (computed k (ltb-true k 19 e)))
   short-if false e = rw (unlisted (ltb-false k 19 e)) (omega arith)
 
   pub short : bodyLength k < 255
@@ -54,3 +54,7 @@ module _ (k : ℕ) where
   pub known-told : not (eqb (lengthOf k) 255) ≡ known k
   unfolding lengthOf
   known-told = told (known k) (bodyLength k) short
+
+  pub known-length : known k ≡ true → lengthOf k ≡ bodyLength k
+  unfolding lengthOf
+  known-length e = rw e
