@@ -1,3 +1,4 @@
 pub mod Jobs
 pub mod Placing
 pub mod TableBytes
+pub mod PlanKept
