@@ -17,6 +17,17 @@ divides-true a b = by-divides a b .says
 pub divides-is : (a b : ℕ) → a ∣ b → divides a b ≡ true
 divides-is a b = by-divides a b .passes
 
+-- a number is settled by its multiples, and by its divisors
+pub same-multiples : (a b : ℕ) → ((m : ℕ) → divides a m ≡ divides b m) → a ≡ b
+same-multiples a b h =
+    dvd-antisymm (divides-true a b (h b ∙ divides-is b b (dvd-refl b)))
+    (divides-true b a (sym (h a) ∙ divides-is a a (dvd-refl a)))
+
+pub same-divisors : (a b : ℕ) → ((d : ℕ) → divides d a ≡ divides d b) → a ≡ b
+same-divisors a b h =
+    dvd-antisymm (divides-true a b (sym (h a) ∙ divides-is a a (dvd-refl a)))
+    (divides-true b a (h b ∙ divides-is b b (dvd-refl b)))
+
 -- ---- gcd
 
 -- more turns than b change nothing
@@ -123,14 +134,16 @@ lcm-right a b = dvd-mul-left b (a / gcd a b)
 lcm-other : (a b : ℕ) → lcm a b ≡ a * (b / gcd a b)
 unfolding lcm
 lcm-other a b =
-    ap (λ (c : ℕ). a / gcd a b * c) (sym (mul-div-cancel' (gcd a b) (gcd-right a b))) ∙ sym (mul-assoc (a / gcd a b) (gcd a b) (b / gcd a b))
+    ap (λ (c : ℕ). a / gcd a b * c) (sym (mul-div-cancel' (gcd a b) (gcd-right a b)))
+    ∙ sym (mul-assoc (a / gcd a b) (gcd a b) (b / gcd a b))
     ∙ ap (λ (c : ℕ). c * (b / gcd a b)) (div-mul-cancel (gcd a b) (gcd-left a b))
 
 pub lcm-left : (a b : ℕ) → a ∣ lcm a b
 lcm-left a b = rw (lcm-other a b) (dvd-mul-right a (b / gcd a b))
 
 pub lcm-mul-gcd : (a b : ℕ) → lcm a b * gcd a b ≡ a * b
-lcm-mul-gcd a b = rw (lcm-other a b) (mul-assoc a (b / gcd a b) (gcd a b) ∙ ap (λ (c : ℕ). a * c) (div-mul-cancel (gcd a b) (gcd-right a b)))
+lcm-mul-gcd a b =
+    rw (lcm-other a b) (mul-assoc a (b / gcd a b) (gcd a b) ∙ ap (λ (c : ℕ). a * c) (div-mul-cancel (gcd a b) (gcd-right a b)))
 
 pub lcm-least : (a b m : ℕ) → a ∣ m → b ∣ m → lcm a b ∣ m
 lcm-least a b m p q = by-case (eq-zero-or-pos (gcd a b))

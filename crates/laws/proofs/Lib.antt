@@ -6,3 +6,4 @@ pub mod Divisors
 pub mod Table
 pub mod Little
 pub mod Members
+pub mod Orders

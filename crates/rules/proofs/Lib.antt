@@ -1,4 +1,6 @@
 pub mod Jobs
+pub mod Period
+pub mod FramesOf
+pub mod PlanKept
 pub mod Placing
 pub mod TableBytes
-pub mod PlanKept

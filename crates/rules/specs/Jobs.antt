@@ -388,6 +388,8 @@ ownEntries =
     ∷ fails (file (recordsS 0 4 2 4)) tableOff 24 2  -- 24: resolution
     ∷ fails planA (tableAWith 5 (rec 18 (0 ∷ 60000 ∷ 40999 ∷ 41095 ∷ []))) 25 5  -- 25: a frame shared by two modes has the greater release
     ∷ passes planA (tableAWith 5 (rec 18 (0 ∷ 60000 ∷ 41000 ∷ 41096 ∷ [])))
+    ∷ fails (file (set (set (recordsA 1000 1) 9 (rec 6 (0 ∷ 0 ∷ 3 ∷ []))) 10 (rec 6 (1 ∷ 0 ∷ 2 ∷ []))))
+    (tableAWith 5 (rec 18 (0 ∷ 60000 ∷ 40999 ∷ 41095 ∷ []))) 25 5  -- the modes the other way round
     ∷ fails planA tableTwoFaults 25 5  -- a lower number goes before a lower record
     ∷ fails (file (recordsS 8 1 2 4)) tableInGap 27 2  -- 27: the last control row counts
     ∷ fails (file recordsJ) tableA 21 0
