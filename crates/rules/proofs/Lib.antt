@@ -4,3 +4,4 @@ pub mod FramesOf
 pub mod PlanKept
 pub mod Placing
 pub mod TableBytes
+pub mod LaidOut
