@@ -1,36 +1,36 @@
--- The table of body lengths is that of document 01: one test over its nineteen entries, which antt computes; every later kind is
+-- A table of body lengths is that of document 01: one test over its nineteen entries, which antt computes. Every later kind is
 -- unknown.
 -- Assumes nothing.
-use mathlib.Core.Path.{_≡_, refl, sym, ap, _∙_}
-use mathlib.Core.Bool.{Bool, true, false, cond, not, _&&_}
-use mathlib.Core.List.{List, [], _∷_}
-use mathlib.Core.Option.{Option, none}
+use mathlib.Core.Path.{_≡_, refl, ap}
+use mathlib.Core.Bool.{Bool, true, false, cond, not}
+use mathlib.Core.List.{List}
+use mathlib.Core.Option.{none}
 use Prim.Native.Nat.{ℕ, _≤_, _<_}
 use native.Mathlib.Omega.{arith}
 use lib.Dec.{eqb, ltb}
 use lib.ListN.{getD, List·getD-eq-default}
 use borrow.Author.Tests.{eqb-true, ne-eqb, ltb-true, ltb-false}
-use Rattle.laws.proofs.Table.{below, both-left, both-right}
-use Rattle.rules.specs.Records.{Field, kinds, known, fields, widths, bodyLength}
+use Rattle.laws.proofs.Table.{everyBelow, below}
+use Rattle.rules.specs.Records.{kinds, known, fields, bodyLength}
 use Rattle.records.specs.Kinds.{lengthOf}
 
--- the table as the code has it
-unfoldable pub lengths : List ℕ
-lengths = 0 ∷ 16 ∷ 1 ∷ 1 ∷ 9 ∷ 6 ∷ 4 ∷ 2 ∷ 255 ∷ 255 ∷ 255 ∷ 255 ∷ 255 ∷ 255 ∷ 255 ∷ 255 ∷ 7 ∷ 9 ∷ 13 ∷ []
+-- the entry of a table is the kind's length
+unfoldable pub right : List ℕ → ℕ → Bool
+right table k = eqb (getD table k 0) (lengthOf k)
 
--- an entry is the kind's length, and no body is 255 bytes long
-right : ℕ → Bool
-right k = eqb (getD lengths k 0) (lengthOf k) && ltb (bodyLength k) 255
+pub entry : (table : List ℕ) → everyBelow (right table) 19 ≡ true → (k : ℕ) → k < 19 → getD table k 0 ≡ lengthOf k
+unfolding right
+entry table e k h = eqb-true (getD table k 0) (lengthOf k) (below (right table) 19 e k h)
 
-computed : (k : ℕ) → k < 19 → right k ≡ true
-unfolding right lengths lengthOf known bodyLength fields kinds
-computed = below right 19 refl
+-- no body is 255 bytes long
+isShort : ℕ → Bool
+isShort k = ltb (bodyLength k) 255
+
+listed-short : (k : ℕ) → k < 19 → isShort k ≡ true
+unfolding isShort bodyLength fields kinds
+listed-short = below isShort 19 refl
 
 module _ (k : ℕ) where
-  pub entry : k < 19 → getD lengths k 0 ≡ lengthOf k
-  unfolding right
-  entry h = eqb-true _ _ (both-left (eqb (getD lengths k 0) (lengthOf k)) (ltb (bodyLength k) 255) (computed k h))
-
   unlisted : 19 ≤ k → getD kinds k none ≡ none
   unfolding kinds
   unlisted h = List·getD-eq-default kinds none h
@@ -40,8 +40,8 @@ module _ (k : ℕ) where
   above h = rw (unlisted h)
 
   short-if : (b : Bool) → ltb k 19 ≡ b → bodyLength k < 255
-  unfolding right bodyLength fields
-  short-if true e = ltb-true _ _ (both-right (eqb (getD lengths k 0) (lengthOf k)) (ltb (bodyLength k) 255) (computed k (ltb-true k 19 e)))
+  unfolding isShort bodyLength fields
+  short-if true e = ltb-true (bodyLength k) 255 (listed-short k (ltb-true k 19 e))
   short-if false e = rw (unlisted (ltb-false k 19 e)) (omega arith)
 
   pub short : bodyLength k < 255

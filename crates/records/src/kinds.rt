@@ -11,25 +11,25 @@ const UNKNOWN: u8 = 255;
 
 // The length of each kind's body.
 const LENGTHS: [u8; 19] = [
-    0,
-    16,
-    1,
-    1,
-    9,
-    6,
-    4,
-    2,
-    255,
-    255,
-    255,
-    255,
-    255,
-    255,
-    255,
-    255,
-    7,
-    9,
-    13,
+    0, // end
+    16, // bus
+    1, // number of nodes
+    1, // module
+    9, // mode
+    6, // task
+    4, // invocation
+    2, // connection
+    UNKNOWN,
+    UNKNOWN,
+    UNKNOWN,
+    UNKNOWN,
+    UNKNOWN,
+    UNKNOWN,
+    UNKNOWN,
+    UNKNOWN,
+    7, // table
+    9, // control row
+    13, // data row
 ];
 
 pub fn body_length(kind: u8) -> u8

@@ -1,6 +1,8 @@
 // Records: the table of kinds, little-endian numbers, and the reader that gives one record of a lent file at a time.
 ghost use mathlib.Core.Path.{_≡_};
 ghost use mathlib.Core.Bool.{_&&_};
+ghost use Prim.Native.Nat.{_-_};
+ghost use lib.ListN.{take, drop};
 ghost use Rattle.rules.specs.Records.{known};
 ghost use Rattle.records.specs.Reader.{follows, nextAt};
 
@@ -64,4 +66,19 @@ pub fn next(s: &[u8], sort: Sort, previous: u8, at: usize) -> Step
         return Step::Wrong(end);
     }
     Step::Wrong(at)
+}
+
+// The bytes of a file from `start` to before `end`, as far as it reaches: a body is that part of the lent file itself.
+pub fn body(s: &[u8], start: usize, end: usize) -> &[u8]
+    ensures { λ r. ⌜ now r ≡ take (end - start) (drop start (now (s .entry))) ⌝ }
+{
+    if start <= end {
+        if end <= s.len() {
+            return &s[start..end];
+        }
+        if start <= s.len() {
+            return &s[start..];
+        }
+    }
+    &s[..0]
 }
