@@ -3,8 +3,6 @@ pub mod Loops
 pub mod Res
 pub mod Tests
 pub mod Divisors
-pub mod Table
-pub mod Little
 pub mod Members
 pub mod Orders
 pub mod Table
