@@ -80,6 +80,11 @@ module _ {A : Type 0} where
   all-passed p [] e = empty
   all-passed p (x ∷ l) e = all-of-places (x ∷ l) x (λ k w. firstBad-passes p (x ∷ l) x k e w)
 
+  pub member-getD : (l : List A) (d : A) (k : ℕ) → k < length l → List·Memᴰ (getD l k d) l
+  member-getD [] d k h = absurd (not-suc-le-zero h)
+  member-getD (x ∷ l) d zero h = List·Memᴰ·head refl
+  member-getD (x ∷ l) d (suc k) h = List·Memᴰ·tail (member-getD l d k (le-of-suc-le-suc h))
+
   -- ---- keep
 
   module _ (p : A → Bool) where

@@ -6,3 +6,5 @@ pub mod PlanKept
 pub mod Placing
 pub mod TableBytes
 pub mod LaidOut
+pub mod CheckerExact
+pub mod RefusalNumbers
