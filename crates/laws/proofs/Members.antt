@@ -201,6 +201,12 @@ module _ {A B : Type 0} {P : B → Type 0} (f : A → B) where
   all-unmap [] empty = empty
   all-unmap (x ∷ l) (also p r) = also p (all-unmap l r)
 
+-- an element within a mapped list, whatever the defaults
+pub map-getD : {A B : Type 0} (f : A → B) (l : List A) (d : A) (e : B) (k : ℕ) → k < length l → getD (map f l) k e ≡ f (getD l k d)
+map-getD f [] d e k h = absurd (not-suc-le-zero h)
+map-getD f (x ∷ l) d e zero h = refl
+map-getD f (x ∷ l) d e (suc k) h = map-getD f l d e k (le-of-suc-le-suc h)
+
 -- what a mapped list's element was made of
 pub record Source {A B : Type 0} (f : A → B) (l : List A) (y : B) : Type 0 where
   pub one : A

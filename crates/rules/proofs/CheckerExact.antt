@@ -297,13 +297,13 @@ module _ (plan table : List ℕ) where
 -- ---- the checker
 
 module _ (plan table : List ℕ) (rows : List FrameRow) where
-  lent : (256 ≤ length rows) → check plan table rows ≡ checkOutcome (passed plan table) rows
+  pub lent-enough : 256 ≤ length rows → check plan table rows ≡ checkOutcome (passed plan table) rows
   unfolding check mostFrames
-  lent h = rw (le-leb 256 (length rows) h, check)
+  lent-enough h = rw (le-leb 256 (length rows) h, check)
 
-  short : length rows < 256 → check plan table rows ≡ record { answer = refuse 19 256; rows = rows }
+  pub lent-short : length rows < 256 → check plan table rows ≡ record { answer = refuse 19 256; rows = rows }
   unfolding check mostFrames
-  short h = rw (lt-leb 256 (length rows) h, check)
+  lent-short h = rw (lt-leb 256 (length rows) h, check)
 
   answer-ok : (m : Res Passed) → checkOutcome m rows .answer ≡ ok tt → (c : Passed) × (m ≡ ok c)
   answer-ok (ok c) e = (c, refl)
@@ -314,11 +314,11 @@ module _ (plan table : List ℕ) (rows : List FrameRow) where
   answer-refused (refuse m q) n p e = rw (refuse-number e, refuse-place e)
 
   passes-only : (256 ≤ length rows) ⊎ (length rows < 256) → check plan table rows .answer ≡ ok tt → (256 ≤ length rows) × Passes plan table
-  passes-only (inl h) e = let c = answer-ok (passed plan table) (rw (lent h) at e) in (h, passed-says plan table (c .0) (c .1))
-  passes-only (inr h) e = let f : refuse 19 256 ≡ ok tt = rw (short h) at e in refuse≢ok f
+  passes-only (inl h) e = let c = answer-ok (passed plan table) (rw (lent-enough h) at e) in (h, passed-says plan table (c .0) (c .1))
+  passes-only (inr h) e = let f : refuse 19 256 ≡ ok tt = rw (lent-short h) at e in refuse≢ok f
 
   passes-all : (256 ≤ length rows) × Passes plan table → check plan table rows .answer ≡ ok tt
-  passes-all h = rw (lent (h .0), passed-passes plan table (h .1))
+  passes-all h = rw (lent-enough (h .0), passed-passes plan table (h .1))
 
   -- the checker passes exactly the tables of laid out plans that keep every rule
   pub checker-exact : (check plan table rows .answer ≡ ok tt) ↔ ((256 ≤ length rows) × Passes plan table)
@@ -329,14 +329,14 @@ module _ (plan table : List ℕ) (rows : List FrameRow) where
   CheckRefuses n p = ((length rows < 256) × (n ≡ 19) × (p ≡ 256)) ⊎ ((256 ≤ length rows) × CheckFault plan table n p)
 
   refuses-only : (256 ≤ length rows) ⊎ (length rows < 256) → (n p : ℕ) → check plan table rows .answer ≡ refuse n p → CheckRefuses n p
-  refuses-only (inl h) n p e = inr (h, passed-faults plan table n p (answer-refused (passed plan table) n p (rw (lent h) at e)))
+  refuses-only (inl h) n p e = inr (h, passed-faults plan table n p (answer-refused (passed plan table) n p (rw (lent-enough h) at e)))
   refuses-only (inr h) n p e =
-      let f : refuse 19 256 ≡ refuse n p = rw (short h) at e in
+      let f : refuse 19 256 ≡ refuse n p = rw (lent-short h) at e in
       inl (h, sym (refuse-number f), sym (refuse-place f))
 
   refuses-all : (n p : ℕ) → CheckRefuses n p → check plan table rows .answer ≡ refuse n p
-  refuses-all n p (inl h) = rw (short (h .0), h .1, h .2)
-  refuses-all n p (inr h) = rw (lent (h .0), fault-refuses plan table n p (h .1))
+  refuses-all n p (inl h) = rw (lent-short (h .0), h .1, h .2)
+  refuses-all n p (inr h) = rw (lent-enough (h .0), fault-refuses plan table n p (h .1))
 
   pub checker-refuses : (n p : ℕ) → (check plan table rows .answer ≡ refuse n p) ↔ CheckRefuses n p
   checker-refuses n p = (refuses-only (le-or-lt 256 (length rows)) n p, refuses-all n p)

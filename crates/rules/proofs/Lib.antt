@@ -8,3 +8,4 @@ pub mod TableBytes
 pub mod LaidOut
 pub mod CheckerExact
 pub mod RefusalNumbers
+pub mod MadePasses
