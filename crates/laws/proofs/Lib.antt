@@ -7,3 +7,5 @@ pub mod Members
 pub mod Orders
 pub mod Table
 pub mod Little
+pub mod Faults
+pub mod Refusals

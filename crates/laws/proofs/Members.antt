@@ -3,13 +3,14 @@ use mathlib.Core.Path.{_≡_, refl, sym, ap, _∙_, subst}
 use mathlib.Core.Bool.{Bool, true, false, not, _||_}
 use mathlib.Core.List.{List, [], _∷_, _++_, map, List·Memᴰ, List·Memᴰ·head, List·Memᴰ·tail, Memᴰ·cast}
 use mathlib.Core.Option.{Option, none, some}
-use native.Mathlib.Nat.{not-suc-le-zero, le-of-suc-le-suc}
+use mathlib.Core.Logic.{_⊎_, inl, inr}
+use native.Mathlib.Nat.{not-suc-le-zero, le-of-suc-le-suc, eq-or-lt-of-le}
 use native.Mathlib.Omega.{arith}
 use lib.Dec.{eqb}
 use lib.ListN.{length, getD}
 use borrow.Author.Tests.{eqb-true, eqb-false, ne-eqb, not-true}
-use Prim.Native.Nat.{ℕ, zero, suc, _≤_, _<_, zero-le, suc-le-suc}
-use Rattle.laws.specs.Lists.{consIf, keep, any, firstBad}
+use Prim.Native.Nat.{ℕ, zero, suc, _+_, _≤_, _<_, zero-le, suc-le-suc}
+use Rattle.laws.specs.Lists.{consIf, keep, any, firstBad, joined, tab, upTo}
 use Rattle.laws.proofs.Lists.{true-false, keep-yes, keep-no, neither-left, neither-right}
 use Rattle.laws.proofs.Loops.{firstBad-passes}
 
@@ -78,6 +79,11 @@ module _ {A : Type 0} where
   pub all-passed : (p : A → Bool) (l : List A) → firstBad p l ≡ none → All (λ x. p x ≡ true) l
   all-passed p [] e = empty
   all-passed p (x ∷ l) e = all-of-places (x ∷ l) x (λ k w. firstBad-passes p (x ∷ l) x k e w)
+
+  pub member-getD : (l : List A) (d : A) (k : ℕ) → k < length l → List·Memᴰ (getD l k d) l
+  member-getD [] d k h = absurd (not-suc-le-zero h)
+  member-getD (x ∷ l) d zero h = List·Memᴰ·head refl
+  member-getD (x ∷ l) d (suc k) h = List·Memᴰ·tail (member-getD l d k (le-of-suc-le-suc h))
 
   -- ---- keep
 
@@ -195,6 +201,12 @@ module _ {A B : Type 0} {P : B → Type 0} (f : A → B) where
   all-unmap [] empty = empty
   all-unmap (x ∷ l) (also p r) = also p (all-unmap l r)
 
+-- an element within a mapped list, whatever the defaults
+pub map-getD : {A B : Type 0} (f : A → B) (l : List A) (d : A) (e : B) (k : ℕ) → k < length l → getD (map f l) k e ≡ f (getD l k d)
+map-getD f [] d e k h = absurd (not-suc-le-zero h)
+map-getD f (x ∷ l) d e zero h = refl
+map-getD f (x ∷ l) d e (suc k) h = map-getD f l d e k (le-of-suc-le-suc h)
+
 -- what a mapped list's element was made of
 pub record Source {A B : Type 0} (f : A → B) (l : List A) (y : B) : Type 0 where
   pub one : A
@@ -216,6 +228,29 @@ module _ {A B : Type 0} (f : A → B) where
   pub pairs-map : {R : B → B → Type 0} {l : List A} → Pairs (λ x y. R (f x) (f y)) l → Pairs R (map f l)
   pairs-map alone = alone
   pairs-map {R} (before {x} a r) = before (all-map {P = R (f x)} f a) (pairs-map r)
+
+-- ---- lists made by tab, upTo and joined
+
+module _ {A : Type 0} {P : A → Type 0} where
+  pub all-tab : (f : ℕ → A) (lo n : ℕ) → ((k : ℕ) → lo ≤ k → k < lo + n → P (f k)) → All P (tab f lo n)
+  all-tab f lo zero h = empty
+  all-tab f lo (suc n) h = also (h lo (omega arith) (omega arith)) (all-tab f (suc lo) n (λ k a b. h k (omega arith) (omega arith)))
+
+  pub all-joined : {ls : List (List A)} → All (All P) ls → All P (joined ls)
+  all-joined empty = empty
+  all-joined (also a r) = all-append a (all-joined r)
+
+pub all-upTo : (n : ℕ) → All (λ k. k < n) (upTo n)
+all-upTo n = all-tab {P = λ k. k < n} (λ k. k) 0 n (λ k a b. omega arith)
+
+member-tab-step : {A : Type 0} (f : ℕ → A) (lo n k : ℕ) → (suc lo ≤ k → k < suc lo + n → List·Memᴰ (f k) (tab f (suc lo) n))
+    → (lo ≡ k) ⊎ (lo < k) → k < lo + suc n → List·Memᴰ (f k) (f lo ∷ tab f (suc lo) n)
+member-tab-step f lo n k later (inl e) b = List·Memᴰ·head (ap f (sym e))
+member-tab-step f lo n k later (inr h) b = List·Memᴰ·tail (later h (omega arith))
+
+pub member-tab : {A : Type 0} (f : ℕ → A) (lo n k : ℕ) → lo ≤ k → k < lo + n → List·Memᴰ (f k) (tab f lo n)
+member-tab f lo zero k a b = absurd (omega arith)
+member-tab f lo (suc n) k a b = member-tab-step f lo n k (member-tab f (suc lo) n k) (eq-or-lt-of-le a) b
 
 -- ---- as many distinct numbers below n as there are numbers below n
 

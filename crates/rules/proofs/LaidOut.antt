@@ -1,0 +1,226 @@
+-- LaidOut: what refusals 6 to 11 leave of a plan, and how large its numbers can be: P is at most a mode period, the frames' deadlines
+-- and the control rows lie within P, and tasks and nodes are those of the plan.
+use mathlib.Core.Path.{_≡_, refl, sym, ap, _∙_, subst}
+use mathlib.Core.Bool.{Bool, true, false, _&&_}
+use mathlib.Core.List.{List, [], _∷_, map, List·Memᴰ}
+use native.Mathlib.Nat.{dvd-trans, le-of-dvd, pos-of-dvd-of-pos, div-mul-le-self, mul-le-mul-right}
+use native.Mathlib.Omega.{arith}
+use borrow.Author.Tests.{leb-true, eqb-true, eq-eqb}
+use lib.Dec.{eqb, leb}
+use lib.ListN.{length, getD}
+use Prim.Native.Nat.{ℕ, zero, suc, _+_, _*_, _/_, _≤_, _<_, _∣_}
+use Rattle.laws.specs.Res.{Res, ok, unless}
+use Rattle.laws.specs.Lists.{keep, any, lastD, tab, upTo}
+use Rattle.laws.specs.Numbers.{divides}
+use Rattle.laws.proofs.Lists.{both-left, both-right, any-upTo-true, length-keep, length-upTo}
+use Rattle.laws.proofs.Res.{ok-injective, then-case, unless-ok}
+use Rattle.laws.proofs.Divisors.{divides-true}
+use Rattle.laws.proofs.Members.{
+  All,
+  empty,
+  also,
+  all-weaker,
+  all-member,
+  all-of-members,
+  all-getD,
+  all-keep,
+  all-map,
+  all-tab,
+  all-joined,
+  all-upTo,
+  any-member,
+  any-among,
+  keep-member,
+  member-tab,
+}
+use Rattle.rules.specs.Plan.{Bus, Mode, Task, Invocation, Plan, noMode, theMode, theTask, periodOf}
+use Rattle.rules.specs.Frames.{
+  Run,
+  runOf,
+  ofBusTask,
+  busRuns,
+  invokes,
+  isBusTask,
+  busTasks,
+  livesIn,
+  isSending,
+  isSendingNode,
+  sendingNodes,
+  ofSender,
+  switchGrid,
+  busPeriod,
+  Frame,
+  message,
+  messagesOf,
+  messages,
+  frames,
+  sendingTime,
+  gapTime,
+  controlPayload,
+  ControlRow,
+  noControlRow,
+  controlFrom,
+  controlRows,
+  controlEnd,
+  someBusTask,
+  payloadsFit,
+  Layout,
+  layoutOf,
+  layout,
+  mostFrames,
+}
+use Rattle.rules.proofs.Period.{switch-grid}
+use Rattle.rules.proofs.FramesOf.{plan-frames}
+use Rattle.rules.proofs.PlanKept.{Between, PlanKept, InvocationKept}
+
+-- refusals 6 to 11 passed
+pub record LaidOut (p : Plan) (l : Layout) : Type 0 where
+  pub someBus : someBusTask p ≡ true
+  pub divides : busPeriod p ∣ switchGrid p
+  pub onGrid : p .bus .resolution ∣ busPeriod p
+  pub few : length (frames p) ≤ 256
+  pub payloads : payloadsFit p ≡ true
+  pub room : controlEnd p ≤ busPeriod p
+  pub is : layoutOf p ≡ l
+
+pub laid-out : (p : Plan) (l : Layout) → layout p ≡ ok l → LaidOut p l
+unfolding layout mostFrames
+laid-out p l e =
+    then-case (unless 6 0 (someBusTask p)) _ e λ _ a₆ e₆.
+    then-case (unless 7 0 (divides (busPeriod p) (switchGrid p))) _ e₆ λ _ a₇ e₇.
+    then-case (unless 8 0 (divides (p .bus .resolution) (busPeriod p))) _ e₇ λ _ a₈ e₈.
+    then-case (unless 9 0 (leb (length (frames p)) 256)) _ e₈ λ _ a₉ e₉.
+    then-case (unless 10 0 (payloadsFit p)) _ e₉ λ _ a₁₀ e₁₀.
+    then-case (unless 11 0 (leb (controlEnd p) (busPeriod p))) _ e₁₀ λ _ a₁₁ e₁₁.
+    record {
+      someBus = unless-ok 6 0 (someBusTask p) a₆;
+      divides = divides-true (busPeriod p) (switchGrid p) (unless-ok 7 0 (divides (busPeriod p) (switchGrid p)) a₇);
+      onGrid = divides-true (p .bus .resolution) (busPeriod p) (unless-ok 8 0 (divides (p .bus .resolution) (busPeriod p)) a₈);
+      few = leb-true (length (frames p)) 256 (unless-ok 9 0 (leb (length (frames p)) 256) a₉);
+      payloads = unless-ok 10 0 (payloadsFit p) a₁₀;
+      room = leb-true (controlEnd p) (busPeriod p) (unless-ok 11 0 (leb (controlEnd p) (busPeriod p)) a₁₁);
+      is = ok-injective e₁₁;
+    }
+
+-- ---- P is at most a mode period
+
+-- a bus task has an invocation, whose mode is of a sending module
+pub record SendingMode (p : Plan) : Type 0 where
+  pub mode : ℕ
+  pub within : mode < length (p .modes)
+  pub sending : ofSender p (theMode p mode) ≡ true
+
+module _ (p : Plan) (k : PlanKept p) where
+  sender : (t : ℕ) → t < length (p .tasks) → isBusTask p t ≡ true → isSending p (theTask p t .home) ≡ true
+  unfolding isSending busTasks livesIn
+  sender t w b =
+      any-among (livesIn p (theTask p t .home)) (keep-member (isBusTask p) b (member-tab (λ k. k) 0 (length (p .tasks)) t (omega arith) (omega arith)))
+      (eq-eqb (theTask p t .home) (theTask p t .home) refl)
+
+  mode-of : (t : ℕ) → t < length (p .tasks) → isBusTask p t ≡ true → SendingMode p
+  unfolding isBusTask invokes ofSender
+  mode-of t w b =
+      let f = any-member (invokes t) (p .invocations) (both-left (any (invokes t) (p .invocations)) _ b) in
+      let i = all-member (k .invocations) (f .among) in
+      let t-is : f .one .task ≡ t = eqb-true (f .one .task) t (f .passes) in
+      let home : theTask p t .home ≡ theMode p (f .one .mode) .home = rw t-is at (i .home) in
+      record { mode = f .one .mode; within = i .mode; sending = rw (← home) (sender t w b) }
+
+  pub sending-mode : someBusTask p ≡ true → SendingMode p
+  unfolding someBusTask
+  sending-mode e = let f = any-upTo-true (isBusTask p) (length (p .tasks)) e in mode-of (f .0) (f .1) (f .2)
+
+  pub period-divides-mode : busPeriod p ∣ switchGrid p → (m : SendingMode p) → busPeriod p ∣ theMode p (m .mode) .period
+  period-divides-mode d m = dvd-trans (busPeriod p) d (switch-grid p .divisor .periods (m .mode) (m .within) (m .sending))
+
+  pub period-kept : {l : Layout} → LaidOut p l → Between 1 1000000 (busPeriod p)
+  unfolding theMode
+  period-kept h =
+      let m = sending-mode (h .someBus) in
+      let μ = all-getD noMode (k .modes) (m .mode) (m .within) in
+      let d = period-divides-mode (h .divides) m in
+      record { least = pos-of-dvd-of-pos d (μ .period .least); most = omega (arith, le-of-dvd (μ .period .least) d, μ .period .most) }
+
+-- ---- frames
+
+-- a frame's task is one of the plan, and its deadline lies within P
+pub record FrameKept (p : Plan) (f : Frame) : Type 0 where
+  pub task : f .task < length (p .tasks)
+  pub deadline : f .deadline ≤ busPeriod p
+
+module _ (p : Plan) (k : PlanKept p) where
+  message-kept : (r : Run) → r .task < length (p .tasks) → (i : ℕ) → i ≤ busPeriod p / r .period → FrameKept p (message r i)
+  unfolding message
+  message-kept r t i h =
+      let within : i * r .period ≤ busPeriod p / r .period * r .period = mul-le-mul-right (r .period) h in
+      record { task = t; deadline = omega (arith, within, div-mul-le-self (busPeriod p) (r .period)) }
+
+  messagesOf-kept : (r : Run) → r .task < length (p .tasks) → All (FrameKept p) (messagesOf (busPeriod p) r)
+  unfolding messagesOf
+  messagesOf-kept r t = all-tab (message r) 1 (busPeriod p / r .period) (λ i a b. message-kept r t i (omega arith))
+
+  runs-kept : All (λ r. r .task < length (p .tasks)) (busRuns p)
+  unfolding busRuns runOf
+  runs-kept = all-map (runOf p) (all-weaker (λ i h. h .task) (all-keep (ofBusTask p) (k .invocations)))
+
+  messages-kept : All (FrameKept p) (messages (busPeriod p) (busRuns p))
+  unfolding messages
+  messages-kept = all-joined (all-map (messagesOf (busPeriod p)) (all-weaker messagesOf-kept runs-kept))
+
+  pub frames-kept : All (FrameKept p) (frames p)
+  frames-kept = all-of-members (frames p) (λ f m. all-member messages-kept (plan-frames p .comes f m))
+
+-- ---- control rows
+
+pub record ControlKept (p : Plan) (end : ℕ) (r : ControlRow) : Type 0 where
+  pub node : r .node < p .nodes
+  pub start : r .start ≤ r .stop
+  pub stop : r .stop ≤ end
+
+module _ (p : Plan) where
+  last-later : (start : ℕ) (ns : List ℕ) (r : ControlRow) → r .stop ≤ start → r .stop ≤ lastD (controlFrom p start ns) r .stop
+  unfolding controlFrom
+  last-later start [] r h = omega arith
+  last-later start (n ∷ ns) r h =
+      let stop = start + sendingTime (p .bus) (controlPayload p n) in
+      let later = last-later (stop + gapTime (p .bus)) ns (record { node = n; start = start; stop = stop }) (omega arith) in
+      omega (arith, later)
+
+  control-from : (start : ℕ) {ns : List ℕ} (r : ControlRow) → All (λ n. n < p .nodes) ns
+      → All (ControlKept p (lastD (controlFrom p start ns) r .stop)) (controlFrom p start ns)
+  unfolding controlFrom
+  control-from start r empty = empty
+  control-from start r (also {x = n} {l = ns} h a) =
+      let stop = start + sendingTime (p .bus) (controlPayload p n) in
+      let row : ControlRow = record { node = n; start = start; stop = stop } in
+      also
+      {x = row}
+      (record { node = h; start = omega arith; stop = last-later (stop + gapTime (p .bus)) ns row (omega arith) })
+      (control-from (stop + gapTime (p .bus)) row a)
+
+  nodes-there : All (λ n. n < p .nodes) (sendingNodes p)
+  unfolding sendingNodes
+  nodes-there = all-keep (isSendingNode p) (all-upTo (p .nodes))
+
+  pub control-kept : All (ControlKept p (controlEnd p)) (controlRows p)
+  unfolding controlRows controlEnd
+  control-kept =
+      all-weaker
+      (λ r h. record { node = h .node; start = h .start; stop = omega (arith, h .stop) })
+      (control-from 0 noControlRow nodes-there)
+
+  length-control : (start : ℕ) (ns : List ℕ) → length (controlFrom p start ns) ≡ length ns
+  unfolding controlFrom
+  length-control start [] = refl
+  length-control start (n ∷ ns) = ap suc (length-control (start + sendingTime (p .bus) (controlPayload p n) + gapTime (p .bus)) ns)
+
+  pub control-count : length (controlRows p) ≤ p .nodes
+  unfolding controlRows sendingNodes
+  control-count =
+      rw (length-control 0 (keep (isSendingNode p) (upTo (p .nodes))))
+      (omega (arith, length-keep (isSendingNode p) (upTo (p .nodes)), length-upTo (p .nodes)))
+
+  -- C is at least a gap
+  pub gap-within : gapTime (p .bus) ≤ controlEnd p
+  unfolding controlEnd
+  gap-within = omega arith
