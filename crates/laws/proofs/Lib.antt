@@ -1,2 +1,4 @@
 pub mod Table
 pub mod Little
+pub mod Lists
+pub mod Loops
