@@ -1,6 +1,7 @@
-pub mod Table
-pub mod Little
 pub mod Lists
 pub mod Loops
 pub mod Res
 pub mod Tests
+pub mod Divisors
+pub mod Members
+pub mod Orders

@@ -1,16 +1,16 @@
 -- Lists: laws of keep, any, all, tab, upTo and padTo that loops and theorems ask for. A loop's turn adds one element at the end,
 -- so each has a law for `l ++ (x ∷ [])` and for `take (i + 1) l`; a theorem reads places, so each has a law by `getD`.
 use mathlib.Core.Path.{_≡_, refl, sym, ap, _∙_}
-use mathlib.Core.Bool.{Bool, true, false, _&&_, _||_}
+use mathlib.Core.Bool.{Bool, true, false, cond, _&&_, _||_}
 use mathlib.Core.List.{List, [], _∷_, _++_, map}
 use mathlib.Core.Logic.{_⊎_, inl, inr}
 use native.Mathlib.Nat.{not-suc-le-zero, le-of-suc-le-suc, zero-add, add-zero, add-suc, suc-add}
 use native.Mathlib.Numerals.{add-one}
 use native.Mathlib.Omega.{arith}
 use lib.ListN.{length, getD, set, take, replicate, length-append}
-use lib.Seq.{take-suc, take-nil}
+use lib.Seq.{take-suc}
 use Prim.Native.Nat.{ℕ, zero, suc, _+_, _≤_, _<_, zero-le, suc-le-suc}
-use Rattle.laws.specs.Lists.{consIf, keep, any, all, joined, tab, upTo}
+use Rattle.laws.specs.Lists.{consIf, keep, any, all, tab, upTo}
 use Rattle.laws.specs.Loops.{padTo}
 
 -- ---- passed and failed tests
@@ -185,6 +185,19 @@ module _ {A : Type 0} (p : A → Bool) where
   all-true [] d i e h = absurd (not-suc-le-zero h)
   all-true (x ∷ l) d zero e h = both-left (p x) (all p l) e
   all-true (x ∷ l) d (suc i) e h = all-true l d i (both-right (p x) (all p l) e) (le-of-suc-le-suc h)
+
+-- a test of what was kept is a test asked only of what passes
+pub all-keep : {A : Type 0} (q r : A → Bool) (l : List A) → all r (keep q l) ≡ all (λ x. cond (q x) (r x) true) l
+all-keep q r [] = refl
+all-keep {A} q r (x ∷ l) = one (q x) (keep q l) ∙ ap (λ (b : Bool). cond (q x) (r x) true && b) (all-keep q r l)
+  where
+    one : (b : Bool) (m : List A) → all r (consIf b x m) ≡ (cond b (r x) true && all r m)
+    one true m = refl
+    one false m = refl
+
+pub all-map : {A B : Type 0} (f : A → B) (r : B → Bool) (l : List A) → all r (map f l) ≡ all (λ x. r (f x)) l
+all-map f r [] = refl
+all-map f r (x ∷ l) = ap (λ (b : Bool). r (f x) && b) (all-map f r l)
 
 -- ---- tab and upTo
 

@@ -11,9 +11,9 @@ use native.Mathlib.Omega.{arith}
 use lib.ListN.{length, getD, set, take, length-set}
 use lib.Seq.{ext-getD, getD-take, length-take-le, set-getD, getD-set-same, getD-set-other, take-all}
 use Prim.Native.Nat.{ℕ, zero, suc, _+_, _≤_, _<_, zero-le, suc-le-suc}
-use Rattle.laws.specs.Lists.{next, orNext, firstBad, tab, upTo}
+use Rattle.laws.specs.Lists.{orNext, firstBad, tab, upTo}
 use Rattle.laws.specs.Loops.{stores, orAt, firstBelow}
-use Rattle.laws.proofs.Lists.{take-more, length-tab, getD-tab, length-upTo, getD-upTo, take-upTo, upTo-more}
+use Rattle.laws.proofs.Lists.{take-more, length-tab, getD-tab, length-upTo, getD-upTo, upTo-more}
 
 -- ---- stores
 

@@ -1,21 +1,20 @@
 -- A test and what it means, both ways at once; and a step that is accepted exactly when something holds. "The checker is exact" is
 -- then one line for each rule.
-use mathlib.Core.Path.{_≡_, refl, sym, ap, _∙_}
+use mathlib.Core.Path.{_≡_, refl, sym}
 use mathlib.Core.Bool.{Bool, true, false, cond, not, _&&_, _||_}
-use mathlib.Core.List.{List, [], _∷_}
+use mathlib.Core.List.{List}
 use mathlib.Core.Logic.{_⊎_, inl, inr}
-use mathlib.Core.Option.{Option, none, some}
 use native.Mathlib.Nat.{mod-eq-zero-of-dvd, dvd-of-mod-eq-zero}
 use borrow.Author.Tests.{leb-true, ltb-true, eqb-true, le-leb, lt-ltb, eq-eqb}
 use lib.Dec.{leb, ltb, eqb}
 use lib.ListN.{length, getD}
-use Prim.Native.Nat.{ℕ, _+_, _≤_, _<_, _%_, _∣_}
-use Rattle.laws.specs.Lists.{any, all, firstBad, upTo}
+use Prim.Native.Nat.{ℕ, _≤_, _<_, _%_, _∣_}
+use Rattle.laws.specs.Lists.{keep, any, all, firstBad, upTo}
 use Rattle.laws.specs.Numbers.{divides}
-use Rattle.laws.specs.Res.{Res, ok, refuse, _>>=_, _>>_, unless, at, given}
-use Rattle.laws.proofs.Lists.{true-false, both-left, both-right, any-hit, any-true, any-upTo-hit, any-upTo-true, all-each, all-true, all-upTo-each, all-upTo-true}
+use Rattle.laws.specs.Res.{Res, ok, _>>=_, _>>_, unless, at}
+use Rattle.laws.proofs.Lists.{true-false, both-left, both-right, any-hit, any-true, any-upTo-hit, any-upTo-true, all-each, all-true, all-upTo-each, all-upTo-true, all-keep}
 use Rattle.laws.proofs.Loops.{firstBad-none, firstBad-passes, firstBad-upTo-none, firstBad-upTo-passes}
-use Rattle.laws.proofs.Res.{refuse≢ok, unless-ok, at-ok, at-none, bind-case, then-case}
+use Rattle.laws.proofs.Res.{unless-ok, at-ok, at-none, bind-case, then-case}
 
 pub record Tests (b : Bool) (P : Type 0) : Type 0 where
   pub says : b ≡ true → P
@@ -24,6 +23,19 @@ pub record Tests (b : Bool) (P : Type 0) : Type 0 where
 -- a test that means P means whatever P means
 pub by-iff : {b : Bool} {P Q : Type 0} → Tests b P → (P → Q) → (Q → P) → Tests b Q
 by-iff t f g = record { says = λ e. f (t .says e); passes = λ q. t .passes (g q) }
+
+-- a test means that it passes
+pub by-itself : (b : Bool) → Tests b (b ≡ true)
+by-itself b = record { says = λ e. e; passes = λ e. e }
+
+-- two tests that mean the same are the same
+pub by-same : {b c : Bool} {P Q : Type 0} → Tests b P → Tests c Q → (P → Q) → (Q → P) → b ≡ c
+by-same {b} {c} {P} {Q} s t f g = go b c s t
+  where
+    go : (b c : Bool) → Tests b P → Tests c Q → b ≡ c
+    go true c s t = sym (t .passes (f (s .says refl)))
+    go false true s t = s .passes (g (t .says refl))
+    go false false s t = refl
 
 pub by-le : (a b : ℕ) → Tests (leb a b) (a ≤ b)
 by-le a b = record { says = leb-true a b; passes = le-leb a b }
@@ -85,6 +97,11 @@ module _ {A : Type 0} {P : ℕ → Type 0} (p : A → Bool) (l : List A) (d : A)
 
   pub by-all : ((k : ℕ) → k < length l → Tests (p (getD l k d)) (P k)) → Tests (all p l) ((k : ℕ) → k < length l → P k)
   by-all t = record { says = λ e k w. t k w .says (all-true p l d k e w); passes = λ h. all-each p l d (λ k w. t k w .passes (h k w)) }
+
+-- the elements that were kept, by their places in the whole list
+pub by-all-keep : {A : Type 0} {P Q : ℕ → Type 0} (q r : A → Bool) (l : List A) (d : A) → ((k : ℕ) → k < length l → Tests (q (getD l k d)) (P k))
+    → ((k : ℕ) → k < length l → Tests (r (getD l k d)) (Q k)) → Tests (all r (keep q l)) ((k : ℕ) → k < length l → P k → Q k)
+by-all-keep q r l d s t = rw (all-keep q r l) (by-all (λ x. cond (q x) (r x) true) l d (λ k w. by-where (s k w) (t k w)))
 
 module _ {P : ℕ → Type 0} (p : ℕ → Bool) (n : ℕ) where
   pub by-any-upTo : ((k : ℕ) → k < n → Tests (p k) (P k)) → Tests (any p (upTo n)) ((k : ℕ) × (k < n) × P k)

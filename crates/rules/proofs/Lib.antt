@@ -1,1 +1,4 @@
 pub mod Jobs
+pub mod Period
+pub mod Placing
+pub mod FramesOf
