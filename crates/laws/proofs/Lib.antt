@@ -5,3 +5,4 @@ pub mod Tests
 pub mod Divisors
 pub mod Members
 pub mod Orders
+pub mod Bus

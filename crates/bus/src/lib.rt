@@ -1,0 +1,2 @@
+// What a plan asks of the bus: times, bus tasks and senders, bus period, control rows.
+pub mod times;
