@@ -1,6 +1,6 @@
 // Bits and bytes on the bus as time: the only place where bytes become ticks.
 ghost use mathlib.Core.Path.{_≡_};
-ghost use Prim.Native.Nat.{_+_, _*_, _≤_, _<_, _^_, max};
+ghost use Prim.Native.Nat.{_+_, _≤_, _<_, _^_, max};
 ghost use Rattle.laws.specs.Numbers.{ceil, up};
 ghost use Rattle.plan.specs.Memory.{busSeen};
 ghost use Rattle.rules.specs.Frames.{ticksOfBits, sendingTime, gapTime};
