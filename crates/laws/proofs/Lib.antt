@@ -5,4 +5,6 @@ pub mod Tests
 pub mod Divisors
 pub mod Members
 pub mod Orders
+pub mod Table
+pub mod Little
 pub mod Bus
