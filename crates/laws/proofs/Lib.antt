@@ -9,3 +9,4 @@ pub mod Table
 pub mod Little
 pub mod Faults
 pub mod Refusals
+pub mod Bus
