@@ -3,3 +3,4 @@ pub mod StationJobs
 pub mod Period
 pub mod FramesOf
 pub mod Placing
+pub mod Grid
