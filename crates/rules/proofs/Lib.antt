@@ -9,3 +9,4 @@ pub mod LaidOut
 pub mod CheckerExact
 pub mod RefusalNumbers
 pub mod MadePasses
+pub mod Grid
