@@ -6,3 +6,6 @@ pub mod PlanKept
 pub mod Placing
 pub mod TableBytes
 pub mod LaidOut
+pub mod StationExact
+pub mod TransparentTick
+pub mod TransparentOwn
