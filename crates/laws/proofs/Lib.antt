@@ -10,3 +10,4 @@ pub mod Little
 pub mod Faults
 pub mod Refusals
 pub mod Bus
+pub mod Runs

@@ -10,3 +10,6 @@ pub mod CheckerExact
 pub mod RefusalNumbers
 pub mod MadePasses
 pub mod Grid
+pub mod StationExact
+pub mod TransparentTick
+pub mod TransparentOwn

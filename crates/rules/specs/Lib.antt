@@ -10,3 +10,4 @@ pub mod Station
 pub mod StationRange
 pub mod OneBoard
 pub mod Obeys
+pub mod History

@@ -1,0 +1,175 @@
+-- Demand 3, the fields: what one tick makes of each place of the state, and of the one board. Nothing behind this file opens `tick`.
+use mathlib.Core.Path.{_≡_, refl, sym, ap, _∙_}
+use mathlib.Core.Bool.{Bool, true, false, cond, not, _&&_, _||_}
+use mathlib.Core.List.{List, [], _∷_}
+use mathlib.Core.Option.{Option, none, some}
+use native.Mathlib.Omega.{arith}
+use lib.Dec.{eqb, ltb}
+use borrow.Author.Tests.{lt-ltb, le-ltb, eq-eqb, ne-eqb}
+use Prim.Native.Nat.{ℕ, zero, suc, _+_, _-_, _%_, _≤_, _<_, _∣_}
+use Rattle.laws.proofs.Lists.{true-false}
+use Rattle.laws.proofs.Runs.{withinRun}
+use Rattle.laws.proofs.Tests.{Tests, by-iff, by-lt, by-divides, by-and}
+use Rattle.rules.specs.Playing.{Input, isGiven}
+use Rattle.rules.specs.Station.{Kept, State, homeNode, runPeriod, taskAge, runAge, isRunning, outAfter, landedAfter, heldAfter, endsNow, hasMessage, ownShows, otherShows, shownAfter, modeAfter, oneOn, ageAfter, givenAfter, modeByteAfter, fullAfter, loadAfter, tick}
+use Rattle.rules.specs.OneBoard.{modeNow, sinceMode, periodNow, runEnds, resultWithin, value}
+
+-- a run ends at the tick to come
+pub record Ending (k : Kept) (s : State) (t : ℕ) : Type 0 where
+  pub invoked : 0 < runPeriod k s t
+  pub released : 0 < taskAge k s t
+  pub whole : runPeriod k s t ∣ taskAge k s t
+
+pub ending-tests : (k : Kept) (s : State) (t : ℕ) → Tests (endsNow k s t) (Ending k s t)
+unfolding endsNow isRunning
+ending-tests k s t =
+    by-iff (by-and (by-and (by-lt 0 (runPeriod k s t)) (by-lt 0 (taskAge k s t))) (by-divides (runPeriod k s t) (taskAge k s t)))
+    (λ h. record { invoked = h .0 .0; released = h .0 .1; whole = h .1 })
+    (λ h. ((h .invoked, h .released), h .whole))
+
+-- a message of the task in the mode has the deadline
+pub record Messages (k : Kept) (t μ deadline : ℕ) : Type 0 where
+  pub bus : k .isBus t ≡ true
+  pub invoked : 0 < k .run μ t
+  pub whole : k .run μ t ∣ deadline
+
+pub message-tests : (k : Kept) (t μ deadline : ℕ) → Tests (hasMessage k t μ deadline) (Messages k t μ deadline)
+unfolding hasMessage
+message-tests k t μ deadline =
+    by-iff
+    (by-and (record { says = λ e. e; passes = λ e. e }) (by-and (by-lt 0 (k .run μ t)) (by-divides (k .run μ t) deadline)))
+    (λ h. record { bus = h .0; invoked = h .1 .0; whole = h .1 .1 })
+    (λ h. (h .bus, (h .invoked, h .whole)))
+
+module _ (k : Kept) (s : State) (i : Input) where
+  pub clock-on : s .clock < k .period → tick k s i .clock ≡ s .clock + 1
+  unfolding tick oneOn
+  clock-on h = rw (lt-ltb (s .clock) (k .period) h)
+
+  pub clock-turns : k .period ≤ s .clock → tick k s i .clock ≡ 1
+  unfolding tick oneOn
+  clock-turns h = rw (le-ltb (s .clock) (k .period) h)
+
+  module _ (m : ℕ) where
+    pub mode-kept : i .change m ≡ none → tick k s i .mode m ≡ s .mode m
+    unfolding tick modeAfter
+    mode-kept e = rw e
+
+    pub mode-new : {μ : ℕ} → i .change m ≡ some μ → tick k s i .mode m ≡ μ
+    unfolding tick modeAfter
+    mode-new e = rw e
+
+    pub age-new : {μ : ℕ} → i .change m ≡ some μ → tick k s i .age m ≡ 1
+    unfolding tick ageAfter
+    age-new e = rw e
+
+    pub age-on : i .change m ≡ none → s .age m < k .modePeriod (s .mode m) → tick k s i .age m ≡ s .age m + 1
+    unfolding tick ageAfter oneOn
+    age-on e h = rw (e, lt-ltb (s .age m) (k .modePeriod (s .mode m)) h)
+
+    pub age-turns : i .change m ≡ none → k .modePeriod (s .mode m) ≤ s .age m → tick k s i .age m ≡ 1
+    unfolding tick ageAfter oneOn
+    age-turns e h = rw (e, le-ltb (s .age m) (k .modePeriod (s .mode m)) h)
+
+  module _ (t : ℕ) where
+    pub out-kept : i .result t ≡ none → tick k s i .out t ≡ s .out t
+    unfolding tick outAfter
+    out-kept e = rw e
+
+    pub out-new : {v : ℕ} → i .result t ≡ some v → tick k s i .out t ≡ v
+    unfolding tick outAfter
+    out-new e = rw e
+
+    pub given-over : endsNow k s t ≡ true → tick k s i .given t ≡ false
+    unfolding tick givenAfter
+    given-over e = rw e
+
+    pub given-changed : {μ : ℕ} → i .change (k .taskHome t) ≡ some μ → tick k s i .given t ≡ false
+    unfolding tick givenAfter
+    given-changed e = rw e (go (endsNow k s t))
+      where
+        go : (b : Bool) → (not (b || true) && (s .given t || isGiven (i .result t))) ≡ false
+        go true = refl
+        go false = refl
+
+    pub given-on : endsNow k s t ≡ false → i .change (k .taskHome t) ≡ none → tick k s i .given t ≡ (s .given t || isGiven (i .result t))
+    unfolding tick givenAfter
+    given-on e q = rw (e, q)
+
+    -- (c)
+    pub shown-own : endsNow k s t ≡ true → tick k s i .shown (homeNode k t) t ≡ tick k s i .out t
+    unfolding tick shownAfter ownShows
+    shown-own e = rw (e, eq-eqb (homeNode k t) (homeNode k t) refl)
+
+    module _ (n : ℕ) where
+      pub shown-other : endsNow k s t ≡ true → (homeNode k t ≡ n → ⊥) → hasMessage k t (tick k s i .held n (k .taskHome t)) (s .clock) ≡ true
+          → tick k s i .shown n t ≡ tick k s i .landed n t
+      unfolding tick shownAfter ownShows otherShows
+      shown-other e d q = rw (e, ne-eqb (homeNode k t) n d, q)
+
+      pub shown-still : endsNow k s t ≡ false → tick k s i .shown n t ≡ s .shown n t
+      unfolding tick shownAfter ownShows otherShows
+      shown-still e = rw e
+
+-- ---- the task's period and age
+
+module _ (k : Kept) (s : State) (i : Input) (t : ℕ) where
+  pub period-kept : i .change (k .taskHome t) ≡ none → runPeriod k (tick k s i) t ≡ runPeriod k s t
+  unfolding runPeriod
+  period-kept e = ap (λ (μ : ℕ). k .run μ t) (mode-kept k s i (k .taskHome t) e)
+
+  pub taskAge-new : {μ : ℕ} → i .change (k .taskHome t) ≡ some μ → taskAge k (tick k s i) t ≡ 1
+  unfolding taskAge
+  taskAge-new e = age-new k s i (k .taskHome t) e
+
+  pub taskAge-on : i .change (k .taskHome t) ≡ none → taskAge k s t < k .modePeriod (s .mode (k .taskHome t))
+      → taskAge k (tick k s i) t ≡ taskAge k s t + 1
+  unfolding taskAge
+  taskAge-on e h = age-on k s i (k .taskHome t) e h
+
+  pub taskAge-turns : i .change (k .taskHome t) ≡ none → k .modePeriod (s .mode (k .taskHome t)) ≤ taskAge k s t
+      → taskAge k (tick k s i) t ≡ 1
+  unfolding taskAge
+  taskAge-turns e h = age-turns k s i (k .taskHome t) e h
+
+pub run-age : (k : Kept) (s : State) (t : ℕ) → runAge k s t ≡ withinRun (taskAge k s t) (runPeriod k s t)
+unfolding runAge
+run-age k s t = refl
+
+-- ---- one board
+
+module _ (home : ℕ → ℕ) (run : ℕ → ℕ → ℕ) (first : ℕ → ℕ) (i : Input) (past : List Input) where
+  module _ (m : ℕ) where
+    pub modeNow-kept : i .change m ≡ none → modeNow home run first m (i ∷ past) ≡ modeNow home run first m past
+    unfolding modeNow
+    modeNow-kept e = rw e
+
+    pub modeNow-new : {μ : ℕ} → i .change m ≡ some μ → modeNow home run first m (i ∷ past) ≡ μ
+    unfolding modeNow
+    modeNow-new e = rw e
+
+    pub since-on : i .change m ≡ none → sinceMode home run first m (i ∷ past) ≡ sinceMode home run first m past + 1
+    unfolding sinceMode
+    since-on e = rw e
+
+    pub since-new : {μ : ℕ} → i .change m ≡ some μ → sinceMode home run first m (i ∷ past) ≡ 1
+    unfolding sinceMode
+    since-new e = rw e
+
+  module _ (t : ℕ) where
+    pub within-none : (n : ℕ) → i .result t ≡ none → resultWithin home run first t (suc n) (i ∷ past) ≡ resultWithin home run first t n past
+    unfolding resultWithin
+    within-none n e = rw e
+
+    pub within-some : (n : ℕ) {v : ℕ} → i .result t ≡ some v → resultWithin home run first t (suc n) (i ∷ past) ≡ v
+    unfolding resultWithin
+    within-some n e = rw e
+
+    pub value-ends : runEnds home run first t past ≡ true
+        → value home run first t (i ∷ past) ≡ resultWithin home run first t (periodNow home run first t past) (i ∷ past)
+    unfolding value
+    value-ends e = rw e
+
+    pub value-still : runEnds home run first t past ≡ false → value home run first t (i ∷ past) ≡ value home run first t past
+    unfolding value
+    value-still e = rw e
