@@ -13,3 +13,4 @@ pub mod Grid
 pub mod StationExact
 pub mod TransparentTick
 pub mod TransparentOwn
+pub mod Room

@@ -11,7 +11,8 @@ use Rattle.laws.specs.Faults.{Rule, BreaksAt, AllKept, FirstFault}
 use Rattle.rules.specs.Records.{Rec, records, tableFollows}
 use Rattle.rules.specs.Plan.{Plan, readPlan}
 use Rattle.rules.specs.Frames.{Frame, Layout, layout, gapTime}
-use Rattle.rules.specs.LatestRelease.{noFrame, frameTime}
+use Rattle.rules.specs.LatestRelease.{Placed, noFrame, frameTime, latestRelease}
+use Rattle.rules.specs.Table.{tableBytes}
 use Rattle.rules.specs.Checker.{TableRead, tableOf, controlAt, rowAt, stopBefore, firstRow}
 use Rattle.rules.specs.Playing.{modulePlaces, taskPlaces, Input}
 use Rattle.rules.specs.Station.{Kept, State, runPeriod, taskAge, runAge}
@@ -132,6 +133,37 @@ pub record BrokenAt (plan table : List ℕ) (i p : ℕ) : Type 0 where
   pub areRows : records tableFollows 20 table ≡ ok rows
   pub kept : AllKept (take i (tableRules laid (tableOf rows)))
   pub broken : BreaksAt (getD (tableRules laid (tableOf rows)) i noRule) (21 + i) p
+
+-- ---- what is made
+
+-- What `make` needs to give a table of n bytes: the plan passes 1 to 11, the latest-release rule places every frame, and the table fits.
+pub record MakesTable (plan : List ℕ) (room n : ℕ) : Type 0 where
+  pub read : Plan
+  pub isRead : readPlan plan ≡ ok read
+  pub laid : Layout
+  pub isLaid : layout read ≡ ok laid
+  pub placed : List Placed
+  pub rule : latestRelease laid ≡ ok placed
+  pub fits : length (tableBytes laid placed) ≤ room
+  pub long : length (tableBytes laid placed) ≡ n
+
+-- Number n at p is the first fault: 1 to 5, 6 to 11, the rule's refusal (12), the room's (13).
+pub data MakeFault (plan : List ℕ) (room n p : ℕ) : Type 0 where
+  inPlan : readPlan plan ≡ refuse n p → MakeFault plan room n p
+  inLayout : {q : Plan} → readPlan plan ≡ ok q → layout q ≡ refuse n p → MakeFault plan room n p
+  inRule :
+      {q : Plan} {l : Layout} → readPlan plan ≡ ok q → layout q ≡ ok l → latestRelease l ≡ refuse n p → MakeFault plan room n p
+  inRoom :
+      {q : Plan} {l : Layout} {placed : List Placed} → readPlan plan ≡ ok q → layout q ≡ ok l → latestRelease l ≡ ok placed →
+      room < length (tableBytes l placed) → n ≡ 13 → p ≡ length (tableBytes l placed) → MakeFault plan room n p
+
+-- The plan passes 1 to 11, and the latest-release rule refuses at this frame.
+pub record RuleRefuses (plan : List ℕ) (frame : ℕ) : Type 0 where
+  pub read : Plan
+  pub isRead : readPlan plan ≡ ok read
+  pub laid : Layout
+  pub isLaid : layout read ≡ ok laid
+  pub rule : latestRelease laid ≡ refuse 12 frame
 
 -- ---- ticks
 
