@@ -14,3 +14,4 @@ pub mod StationExact
 pub mod TransparentTick
 pub mod TransparentOwn
 pub mod Room
+pub mod RecordsExact

@@ -1,14 +1,14 @@
 -- What it means that document 01's rules are kept: records of propositions, one field for each rule.
 use mathlib.Core.Path.{_≡_}
 use mathlib.Core.Bool.{Bool, true, false}
-use mathlib.Core.List.{List, [], _∷_}
+use mathlib.Core.List.{List, [], _∷_, _++_}
 use mathlib.Core.Logic.{_⊎_}
 use mathlib.Core.Option.{Option, none, some}
 use lib.ListN.{length, getD, take}
 use Prim.Native.Nat.{ℕ, zero, suc, _+_, _-_, _%_, _^_, _≤_, _<_, _∣_}
 use Rattle.laws.specs.Res.{Res, ok, refuse}
 use Rattle.laws.specs.Faults.{Rule, BreaksAt, AllKept, FirstFault}
-use Rattle.rules.specs.Records.{Rec, records, tableFollows}
+use Rattle.rules.specs.Records.{Rec, known, bodyLength, recordOf, records, tableFollows}
 use Rattle.rules.specs.Plan.{Plan, readPlan}
 use Rattle.rules.specs.Frames.{Frame, Layout, layout, gapTime}
 use Rattle.rules.specs.LatestRelease.{Placed, noFrame, frameTime, latestRelease}
@@ -16,6 +16,40 @@ use Rattle.rules.specs.Table.{tableBytes}
 use Rattle.rules.specs.Checker.{TableRead, tableOf, controlAt, rowAt, stopBefore, firstRow}
 use Rattle.rules.specs.Playing.{modulePlaces, taskPlaces, Input}
 use Rattle.rules.specs.Station.{Kept, State, runPeriod, taskAge, runAge}
+
+-- ---- files (1 and 20)
+
+-- A record of this kind may stand behind one of the kind `previous` (0: at the front).
+pub record MayStand (follows : ℕ → ℕ → Bool) (previous kind : ℕ) : Type 0 where
+  pub isKnown : known kind ≡ true
+  pub isNext : follows previous kind ≡ true
+
+-- The bytes behind a record of the kind `previous` are these records, the end record, and nothing more.
+pub data AreRecords (follows : ℕ → ℕ → Bool) : ℕ → List ℕ → List Rec → Type 0 where
+  theEnd : {previous : ℕ} {file : List ℕ} → MayStand follows previous 0 → file ≡ 0 ∷ [] → AreRecords follows previous file []
+  oneMore :
+      {previous kind : ℕ} {file rest : List ℕ} {rs : List Rec} (body : List ℕ) → MayStand follows previous kind → (kind ≡ 0 → ⊥) →
+      length body ≡ bodyLength kind → file ≡ kind ∷ body ++ rest → AreRecords follows kind rest rs →
+      AreRecords follows previous file (recordOf kind body ∷ rs)
+
+-- The bytes from the offset `at` on, behind a record of the kind `previous`, first break the record rules at the offset p: the file
+-- ends where a record should begin, or inside a body (p is the file's length); a kind that may not stand there; something behind
+-- the end record.
+pub data BreakRecords (follows : ℕ → ℕ → Bool) : ℕ → ℕ → List ℕ → ℕ → Type 0 where
+  noRecord : {previous at p : ℕ} {file : List ℕ} → file ≡ [] → at ≡ p → BreakRecords follows previous at file p
+  wrongKind :
+      {previous at p kind : ℕ} {file rest : List ℕ} → file ≡ kind ∷ rest → (MayStand follows previous kind → ⊥) → at ≡ p →
+      BreakRecords follows previous at file p
+  behindEnd :
+      {previous at p b : ℕ} {file rest : List ℕ} → file ≡ 0 ∷ b ∷ rest → MayStand follows previous 0 → suc at ≡ p →
+      BreakRecords follows previous at file p
+  cutBody :
+      {previous at p kind : ℕ} {file body : List ℕ} → file ≡ kind ∷ body → MayStand follows previous kind → (kind ≡ 0 → ⊥) →
+      length body < bodyLength kind → suc at + length body ≡ p → BreakRecords follows previous at file p
+  goodRecord :
+      {previous at p kind : ℕ} {file rest : List ℕ} (body : List ℕ) → file ≡ kind ∷ body ++ rest → MayStand follows previous kind →
+      (kind ≡ 0 → ⊥) → length body ≡ bodyLength kind → BreakRecords follows kind (suc at + length body) rest p →
+      BreakRecords follows previous at file p
 
 -- ---- tables
 
