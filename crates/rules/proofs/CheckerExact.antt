@@ -76,7 +76,8 @@ use Rattle.rules.specs.Obeys.{
 }
 use Rattle.rules.proofs.FramesOf.{Before, one-of-a-pair, plan-frames}
 use Rattle.rules.proofs.LaidOut.{laid-out}
-use Rattle.rules.proofs.RefusalNumbers.{plan-gives, layout-gives, records-give, judged-gives}
+use Rattle.rules.proofs.RefusalNumbers.{plan-gives, layout-gives, judged-gives}
+use Rattle.rules.proofs.RecordsExact.{records-exact, records-refused}
 
 module _ (l : Layout) (t : TableRead) where
   -- 21
@@ -259,7 +260,7 @@ module _ (plan table : List ℕ) where
         laid = l;
         isLaid = isLaid;
         rows = rs;
-        areRows = areRows;
+        areRows = records-exact tableFollows 20 table rs .0 areRows;
         obeys = kept-obeys l sorted (tableOf rs) (judged-exact l sorted (tableOf rs) .says isJudged);
       }
 
@@ -272,27 +273,27 @@ module _ (plan table : List ℕ) where
   passed-passes h =
       let sorted = sorted-frames (h .read) (h .laid) (h .isLaid) in
       let t = tableOf (h .rows) in
-      rw (h .isRead, h .isLaid, h .areRows, judged-exact (h .laid) sorted t .passes (obeys-kept (h .laid) sorted t (h .obeys)))
+      rw (h .isRead, h .isLaid, records-exact tableFollows 20 table (h .rows) .1 (h .areRows), judged-exact (h .laid) sorted t .passes (obeys-kept (h .laid) sorted t (h .obeys)))
 
   pub passed-faults : (n p : ℕ) → passed plan table ≡ refuse n p → CheckFault plan table n p
   unfolding passed
   passed-faults n p e =
       bind-refused (readPlan plan) _ e ofPlan λ q isRead e₁.
       bind-refused (layout q) _ e₁ (ofLayout isRead) λ l isLaid e₂.
-      bind-refused (records tableFollows 20 table) _ e₂ (ofRecords isRead isLaid) λ rs areRows e₃.
+      bind-refused (records tableFollows 20 table) _ e₂ (λ f. let b = records-refused tableFollows 20 table n p .0 f in ofRecords isRead isLaid (b .0) (b .1)) λ rs areRows e₃.
       let sorted = sorted-frames q l isLaid in
       then-refused (judged l (tableOf rs)) _ e₃
-      (λ f. ofTable isRead isLaid areRows (judged-exact l sorted (tableOf rs) .refuses n p f))
+      (λ f. ofTable isRead isLaid (records-exact tableFollows 20 table rs .0 areRows) (judged-exact l sorted (tableOf rs) .refuses n p f))
       (λ _ _ f. refuse≢ok (sym f))
 
   pub fault-refuses : (n p : ℕ) → CheckFault plan table n p → passed plan table ≡ refuse n p
   unfolding passed
   fault-refuses n p (ofPlan e) = rw e
   fault-refuses n p (ofLayout a e) = rw (a, e)
-  fault-refuses n p (ofRecords a b e) = rw (a, b, e)
+  fault-refuses n p (ofRecords a b e f) = rw (a, b, records-refused tableFollows 20 table n p .1 (e, f))
   fault-refuses n p (ofTable {q} {l} {rs} a b c f) =
       let sorted = sorted-frames q l b in
-      rw (a, b, c, judged-exact l sorted (tableOf rs) .refused n p f)
+      rw (a, b, records-exact tableFollows 20 table rs .1 c, judged-exact l sorted (tableOf rs) .refused n p f)
 
 -- ---- the checker
 
@@ -350,14 +351,14 @@ module _ (plan table : List ℕ) where
   fault-twenty : (p : ℕ) → CheckFault plan table 20 p → UnreadAt plan table p
   fault-twenty p (ofPlan e) = absurd (omega (arith, plan-gives plan .number 20 p e))
   fault-twenty p (ofLayout {q} a e) = absurd (omega (arith, layout-gives q .number 20 p e))
-  fault-twenty p (ofRecords {q} {l} a b e) = record { read = q; isRead = a; laid = l; isLaid = b; unread = e }
+  fault-twenty p (ofRecords {q} {l} a b e f) = record { read = q; isRead = a; laid = l; isLaid = b; unread = f }
   fault-twenty p (ofTable {q} {l} {rs} a b c f) =
       absurd (omega (arith, judged-gives l (tableOf rs) .number 20 p (judged-exact l (sorted-frames q l b) (tableOf rs) .refused 20 p f)))
 
   fault-rule : (i p : ℕ) → i < 7 → CheckFault plan table (21 + i) p → BrokenAt plan table i p
   fault-rule i p w (ofPlan e) = absurd (omega (arith, plan-gives plan .number (21 + i) p e))
   fault-rule i p w (ofLayout {q} a e) = absurd (omega (arith, layout-gives q .number (21 + i) p e))
-  fault-rule i p w (ofRecords a b e) = absurd (omega (arith, records-give tableFollows 20 table .number (21 + i) p e))
+  fault-rule i p w (ofRecords a b e f) = absurd (omega (arith, e))
   fault-rule i p w (ofTable {q} {l} {rs} a b c f) =
       let t = tableOf rs in
       let r = fault-of-rule noRule 21 i p (tableRules l t) (rules-count-up l t) w f in
@@ -368,12 +369,25 @@ module _ (plan table : List ℕ) where
       ofTable (h .isRead) (h .isLaid) (h .areRows)
       (rule-of-fault noRule 21 i p (tableRules (h .laid) (tableOf (h .rows))) w (h .kept, h .broken))
 
-  -- 20: the plan is laid out and the table does not read as records
-  pub unread-exact : (p : ℕ) → (passed plan table ≡ refuse 20 p) ↔ UnreadAt plan table p
-  unread-exact p =
-      (λ e. fault-twenty p (passed-faults plan table 20 p e), λ h. fault-refuses plan table 20 p (ofRecords (h .isRead) (h .isLaid) (h .unread)))
+module _ (plan table : List ℕ) (rows : List FrameRow) where
+  -- the first fault, where enough rows are lent
+  faults : (n p : ℕ) → 20 ≤ n → check plan table rows .answer ≡ refuse n p → (256 ≤ length rows) × CheckFault plan table n p
+  faults n p w e = lent (checker-refuses plan table rows n p .0 e)
+    where
+      lent : CheckRefuses plan table rows n p → (256 ≤ length rows) × CheckFault plan table n p
+      lent (inl h) = absurd (omega (arith, h .1))
+      lent (inr h) = h
+
+  -- 20: the plan passes 1 to 11, and the table breaks the record rules, first there
+  pub unread-exact : (p : ℕ) → (check plan table rows .answer ≡ refuse 20 p) ↔ ((256 ≤ length rows) × UnreadAt plan table p)
+  unread-exact p = (
+    λ e. let f = faults 20 p (omega arith) e in (f .0, fault-twenty plan table p (f .1)),
+    λ h. checker-refuses plan table rows 20 p .1 (inr (h .0, ofRecords (h .1 .isRead) (h .1 .isLaid) refl (h .1 .unread))),
+  )
 
   -- 21 to 27: the rules before are kept, and this one is broken, first there
-  pub rule-exact : (i p : ℕ) → i < 7 → (passed plan table ≡ refuse (21 + i) p) ↔ BrokenAt plan table i p
-  rule-exact i p w =
-      (λ e. fault-rule i p w (passed-faults plan table (21 + i) p e), λ h. fault-refuses plan table (21 + i) p (rule-fault i p w h))
+  pub rule-exact : (i p : ℕ) → i < 7 → (check plan table rows .answer ≡ refuse (21 + i) p) ↔ ((256 ≤ length rows) × BrokenAt plan table i p)
+  rule-exact i p w = (
+    λ e. let f = faults (21 + i) p (omega arith) e in (f .0, fault-rule plan table i p w (f .1)),
+    λ h. checker-refuses plan table rows (21 + i) p .1 (inr (h .0, rule-fault plan table i p w (h .1))),
+  )

@@ -41,6 +41,7 @@ use Rattle.rules.proofs.LaidOut.{LaidOut, laid-out, period-kept, FrameK
 use Rattle.rules.proofs.FramesOf.{Before, before-not-same, one-of-a-pair, plan-frames}
 use Rattle.rules.proofs.Placing.{Known, Good, PlacedWell, placed-well}
 use Rattle.rules.proofs.TableBytes.{ControlFits, DataFits, TableFits, tableRead, tableRecords, table-reads, table-read}
+use Rattle.rules.proofs.RecordsExact.{records-exact}
 use Rattle.rules.proofs.CheckerExact.{passed-passes, lent-enough}
 
 abbrev noPlaced : Placed
@@ -332,7 +333,7 @@ module _ {plan : List ℕ} {room : ℕ} {t : MadeTable} (m : TableMade plan room
         laid = m .laid;
         isLaid = m .isLaid;
         rows = tableRecords (m .laid) (m .placed);
-        areRows = read-back;
+        areRows = records-exact tableFollows 20 (t .table) (tableRecords (m .laid) (m .placed)) .0 read-back;
         obeys = rw (table-read (m .laid) (m .placed)) (fineOf .obeys);
       }
 

@@ -8,7 +8,7 @@ use lib.ListN.{length, getD, take}
 use Prim.Native.Nat.{ℕ, zero, suc, _+_, _-_, _%_, _^_, _≤_, _<_, _∣_}
 use Rattle.laws.specs.Res.{Res, ok, refuse}
 use Rattle.laws.specs.Faults.{Rule, BreaksAt, AllKept, FirstFault}
-use Rattle.rules.specs.Records.{Rec, known, bodyLength, recordOf, records, tableFollows}
+use Rattle.rules.specs.Records.{Rec, known, bodyLength, recordOf, tableFollows}
 use Rattle.rules.specs.Plan.{Plan, readPlan}
 use Rattle.rules.specs.Frames.{Frame, Layout, layout, gapTime}
 use Rattle.rules.specs.LatestRelease.{Placed, noFrame, frameTime, latestRelease}
@@ -131,7 +131,7 @@ pub record Passes (plan table : List ℕ) : Type 0 where
   pub laid : Layout
   pub isLaid : layout read ≡ ok laid
   pub rows : List Rec
-  pub areRows : records tableFollows 20 table ≡ ok rows
+  pub areRows : AreRecords tableFollows 0 table rows
   pub obeys : ObeysTable laid (tableOf rows)
 
 -- Number n at p is the first fault of plan and table: 1 to 5, 6 to 11, 20, then the first of 21 to 27 at its lowest record.
@@ -139,10 +139,10 @@ pub data CheckFault (plan table : List ℕ) (n p : ℕ) : Type 0 where
   ofPlan : readPlan plan ≡ refuse n p → CheckFault plan table n p
   ofLayout : {q : Plan} → readPlan plan ≡ ok q → layout q ≡ refuse n p → CheckFault plan table n p
   ofRecords :
-      {q : Plan} {l : Layout} → readPlan plan ≡ ok q → layout q ≡ ok l → records tableFollows 20 table ≡ refuse n p →
+      {q : Plan} {l : Layout} → readPlan plan ≡ ok q → layout q ≡ ok l → n ≡ 20 → BreakRecords tableFollows 0 0 table p →
       CheckFault plan table n p
   ofTable :
-      {q : Plan} {l : Layout} {rs : List Rec} → readPlan plan ≡ ok q → layout q ≡ ok l → records tableFollows 20 table ≡ ok rs →
+      {q : Plan} {l : Layout} {rs : List Rec} → readPlan plan ≡ ok q → layout q ≡ ok l → AreRecords tableFollows 0 table rs →
       FirstFault (tableRules l (tableOf rs)) n p → CheckFault plan table n p
 
 -- The plan passes 1 to 11, and the table does not read as records, first at p.
@@ -151,7 +151,7 @@ pub record UnreadAt (plan table : List ℕ) (p : ℕ) : Type 0 where
   pub isRead : readPlan plan ≡ ok read
   pub laid : Layout
   pub isLaid : layout read ≡ ok laid
-  pub unread : records tableFollows 20 table ≡ refuse 20 p
+  pub unread : BreakRecords tableFollows 0 0 table p
 
 -- The plan passes 1 to 11, the table reads as records and keeps the first i of the rules 21 to 27; the next, 21 + i, is broken, first
 -- at record p.
@@ -164,7 +164,7 @@ pub record BrokenAt (plan table : List ℕ) (i p : ℕ) : Type 0 where
   pub laid : Layout
   pub isLaid : layout read ≡ ok laid
   pub rows : List Rec
-  pub areRows : records tableFollows 20 table ≡ ok rows
+  pub areRows : AreRecords tableFollows 0 table rows
   pub kept : AllKept (take i (tableRules laid (tableOf rows)))
   pub broken : BreaksAt (getD (tableRules laid (tableOf rows)) i noRule) (21 + i) p
 
