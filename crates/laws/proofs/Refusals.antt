@@ -3,7 +3,7 @@ use mathlib.Core.Path.{_≡_, sym}
 use mathlib.Core.Bool.{Bool, true, false}
 use mathlib.Core.Option.{Option, none, some}
 use native.Mathlib.Omega.{arith}
-use Prim.Native.Nat.{ℕ, _≤_, _<_}
+use Prim.Native.Nat.{ℕ, _≤_}
 use Rattle.laws.specs.Res.{Res, ok, refuse, _>>=_, _>>_, unless, at}
 use Rattle.laws.proofs.Res.{refuse≢ok, refuse-number, bind-refused, then-refused}
 

@@ -1,27 +1,26 @@
 -- CheckerExact: each test of 21 to 27 means its rule, so the checker passes exactly the tables that keep all of them, and gives a number
 -- exactly where its rule is the first that is broken, at the lowest record.
 use mathlib.Core.Path.{_≡_, refl, sym, ap, _∙_, subst}
-use mathlib.Core.Bool.{Bool, true, false, cond, not, _&&_}
+use mathlib.Core.Bool.{Bool, true, false}
 use mathlib.Core.List.{List, [], _∷_, List·Memᴰ, List·Memᴰ·head, List·Memᴰ·tail}
 use mathlib.Core.Logic.{_⊎_, inl, inr, _↔_}
 use native.Mathlib.Omega.{arith}
 use borrow.Author.Tests.{le-leb, lt-leb}
-use lib.Dec.{eqb, leb}
 use lib.ListN.{length, getD, take}
 use lib.Seq.{length-take-le, getD-take}
-use Prim.Native.Nat.{ℕ, zero, suc, _+_, _≤_, _<_, _∣_}
+use Prim.Native.Nat.{ℕ, _+_, _≤_, _<_}
 use Rattle.laws.specs.Res.{Res, ok, refuse}
-use Rattle.laws.specs.Lists.{any, firstBad, upTo}
-use Rattle.laws.specs.Faults.{Rule, IsKept, AllKept, FirstFault, CountUp}
-use Rattle.laws.proofs.Lists.{true-false, tested, both-left, both-right}
+use Rattle.laws.specs.Lists.{any}
+use Rattle.laws.specs.Faults.{AllKept, CountUp}
+use Rattle.laws.proofs.Lists.{true-false}
 use Rattle.laws.proofs.Tests.{Tests, by-iff, by-and, by-not, by-any, by-eq, by-le, by-divides}
 use Rattle.laws.proofs.Res.{refuse≢ok, refuse-number, refuse-place, bind-case, then-case, bind-refused, then-refused}
 use Rattle.laws.proofs.Faults.{Exact, exact-rule, exact-once, exact-then, fault-of-rule, rule-of-fault}
 use Rattle.laws.proofs.Orders.{le-or-lt}
-use Rattle.laws.proofs.Members.{Pairs, member-getD, any-member}
-use Rattle.rules.specs.Records.{Rec, records, tableFollows}
+use Rattle.laws.proofs.Members.{Pairs, member-getD}
+use Rattle.rules.specs.Records.{records, tableFollows}
 use Rattle.rules.specs.Plan.{Plan, readPlan}
-use Rattle.rules.specs.Frames.{Frame, ControlRow, noControlRow, Layout, layout, layoutOf, gapTime, mostFrames}
+use Rattle.rules.specs.Frames.{Frame, ControlRow, Layout, layout, layoutOf, gapTime, mostFrames}
 use Rattle.rules.specs.LatestRelease.{noFrame, frameTime}
 use Rattle.rules.specs.Table.{DataRow, FrameRow}
 use Rattle.rules.specs.Checker.{
@@ -43,7 +42,6 @@ use Rattle.rules.specs.Checker.{
   deadlineKept,
   stopBefore,
   gapKept,
-  firstRow,
   rowsKeep,
   judged,
   Passed,
@@ -197,7 +195,8 @@ module _ (l : Layout) (sorted : Pairs Before (l .frames)) (t : TableRead) where
   unfolding judged rowsKeep
   judged-exact =
       exact-then (exact-once 21 0 (header-means l t)) λ h₂₁.
-      exact-then (exact-rule (record { number = 22; first = 1; places = length (t .control); asks = IsFixed l t }) (controlKept l t) (control-means l t)) λ h₂₂.
+      exact-then
+      (exact-rule (record { number = 22; first = 1; places = length (t .control); asks = IsFixed l t }) (controlKept l t) (control-means l t)) λ h₂₂.
       exact-then (exact-rule (rowsAsk 23 t (NamesNew l t)) (namesNewFrame l t) (names-means l t)) λ h₂₃.
       exact-then (exact-rule (rowsAsk 24 t (TimeIsRight l t)) (timeKept l t) (λ k w. time-means k (h₂₃ .each k w))) λ h₂₄.
       exact-then (exact-rule (rowsAsk 25 t (IsReleased l t)) (releaseKept l t) (λ k w. release-means k (h₂₃ .each k w))) λ h₂₅.
@@ -273,14 +272,16 @@ module _ (plan table : List ℕ) where
   passed-passes h =
       let sorted = sorted-frames (h .read) (h .laid) (h .isLaid) in
       let t = tableOf (h .rows) in
-      rw (h .isRead, h .isLaid, records-exact tableFollows 20 table (h .rows) .1 (h .areRows), judged-exact (h .laid) sorted t .passes (obeys-kept (h .laid) sorted t (h .obeys)))
+      let isTable = records-exact tableFollows 20 table (h .rows) .1 (h .areRows) in
+      rw (h .isRead, h .isLaid, isTable, judged-exact (h .laid) sorted t .passes (obeys-kept (h .laid) sorted t (h .obeys)))
 
   pub passed-faults : (n p : ℕ) → passed plan table ≡ refuse n p → CheckFault plan table n p
   unfolding passed
   passed-faults n p e =
       bind-refused (readPlan plan) _ e ofPlan λ q isRead e₁.
       bind-refused (layout q) _ e₁ (ofLayout isRead) λ l isLaid e₂.
-      bind-refused (records tableFollows 20 table) _ e₂ (λ f. let b = records-refused tableFollows 20 table n p .0 f in ofRecords isRead isLaid (b .0) (b .1)) λ rs areRows e₃.
+      bind-refused (records tableFollows 20 table) _ e₂
+      (λ f. let b = records-refused tableFollows 20 table n p .0 f in ofRecords isRead isLaid (b .0) (b .1)) λ rs areRows e₃.
       let sorted = sorted-frames q l isLaid in
       then-refused (judged l (tableOf rs)) _ e₃
       (λ f. ofTable isRead isLaid (records-exact tableFollows 20 table rs .0 areRows) (judged-exact l sorted (tableOf rs) .refuses n p f))
