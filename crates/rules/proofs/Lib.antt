@@ -9,3 +9,4 @@ pub mod LaidOut
 pub mod StationExact
 pub mod TransparentTick
 pub mod TransparentOwn
+pub mod TransparentBus
