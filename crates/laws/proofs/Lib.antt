@@ -7,4 +7,7 @@ pub mod Members
 pub mod Orders
 pub mod Table
 pub mod Little
+pub mod Faults
+pub mod Refusals
+pub mod Bus
 pub mod Runs

@@ -80,6 +80,11 @@ module _ {A : Type 0} where
   all-passed p [] e = empty
   all-passed p (x ∷ l) e = all-of-places (x ∷ l) x (λ k w. firstBad-passes p (x ∷ l) x k e w)
 
+  pub member-getD : (l : List A) (d : A) (k : ℕ) → k < length l → List·Memᴰ (getD l k d) l
+  member-getD [] d k h = absurd (not-suc-le-zero h)
+  member-getD (x ∷ l) d zero h = List·Memᴰ·head refl
+  member-getD (x ∷ l) d (suc k) h = List·Memᴰ·tail (member-getD l d k (le-of-suc-le-suc h))
+
   -- ---- keep
 
   module _ (p : A → Bool) where
@@ -195,6 +200,12 @@ module _ {A B : Type 0} {P : B → Type 0} (f : A → B) where
   pub all-unmap : (l : List A) → All P (map f l) → All (λ x. P (f x)) l
   all-unmap [] empty = empty
   all-unmap (x ∷ l) (also p r) = also p (all-unmap l r)
+
+-- an element within a mapped list, whatever the defaults
+pub map-getD : {A B : Type 0} (f : A → B) (l : List A) (d : A) (e : B) (k : ℕ) → k < length l → getD (map f l) k e ≡ f (getD l k d)
+map-getD f [] d e k h = absurd (not-suc-le-zero h)
+map-getD f (x ∷ l) d e zero h = refl
+map-getD f (x ∷ l) d e (suc k) h = map-getD f l d e k (le-of-suc-le-suc h)
 
 -- what a mapped list's element was made of
 pub record Source {A B : Type 0} (f : A → B) (l : List A) (y : B) : Type 0 where

@@ -2,3 +2,4 @@ pub mod Res
 pub mod Lists
 pub mod Numbers
 pub mod Loops
+pub mod Faults

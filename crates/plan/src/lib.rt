@@ -1,6 +1,11 @@
 // A plan in memory: flat, by value, arrays of structs with counts.
 ghost use mathlib.Core.Path.{_≡_};
 ghost use Rattle.plan.specs.Memory.{emptyPlan};
+
+pub mod bodies;
+pub mod gather;
+pub mod look;
+
 use units::ByteCount;
 use units::ModeNo;
 use units::ModuleNo;
@@ -40,9 +45,17 @@ pub struct Invocation {
     pub rate: u32,
 }
 
+impl Invocation {
+    pub const MOST: usize = 64;
+}
+
 pub struct Connection {
     pub producer: TaskNo,
     pub consumer: TaskNo,
+}
+
+impl Connection {
+    pub const MOST: usize = 64;
 }
 
 // `counts` is by kind: 2 is the number of nodes, 3 to 7 how many things of that kind the file has. A thing without a place left is
@@ -50,11 +63,11 @@ pub struct Connection {
 pub struct Plan {
     pub bus: Bus,
     pub counts: [usize; 8],
-    pub modules: [Module; 16],
-    pub modes: [Mode; 32],
-    pub tasks: [Task; 32],
-    pub invocations: [Invocation; 64],
-    pub connections: [Connection; 64],
+    pub modules: [Module; ModuleNo::MOST],
+    pub modes: [Mode; ModeNo::MOST],
+    pub tasks: [Task; TaskNo::MOST],
+    pub invocations: [Invocation; Invocation::MOST],
+    pub connections: [Connection; Connection::MOST],
 }
 
 impl Plan {
@@ -90,11 +103,11 @@ impl Plan {
                 resolution: Ticks(0),
             },
             counts: [0; 8],
-            modules: [Module { node: NodeNo(0) }; 16],
-            modes: [mode; 32],
-            tasks: [task; 32],
-            invocations: [invocation; 64],
-            connections: [connection; 64],
+            modules: [Module { node: NodeNo(0) }; ModuleNo::MOST],
+            modes: [mode; ModeNo::MOST],
+            tasks: [task; TaskNo::MOST],
+            invocations: [invocation; Invocation::MOST],
+            connections: [connection; Connection::MOST],
         }
     }
 }

@@ -6,7 +6,13 @@ pub mod PlanKept
 pub mod Placing
 pub mod TableBytes
 pub mod LaidOut
+pub mod CheckerExact
+pub mod RefusalNumbers
+pub mod MadePasses
+pub mod Grid
 pub mod StationExact
 pub mod TransparentTick
 pub mod TransparentOwn
 pub mod TransparentBus
+pub mod Room
+pub mod RecordsExact

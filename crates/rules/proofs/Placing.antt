@@ -308,7 +308,7 @@ module _ (resolution gap floor : ℕ) (sending : Frame → ℕ) where
     free : Ahead e []
     ahead : {x : Placed} {l : List Placed} → e + gap ≤ x .start → Ahead e (x ∷ l)
 
-  module _ (Q : Numbered → Type 0) (low : gap ≤ floor) where
+  module _ (Q : Numbered → Type 0) where
     -- what holds at every turn: n frames are left, told apart from each other and from those placed
     pub record Sofar (n e : ℕ) (left : List Numbered) (done : List Placed) : Type 0 where
       pub count : length left ≡ n
@@ -329,9 +329,9 @@ module _ (resolution gap floor : ℕ) (sending : Frame → ℕ) where
         let room : Spaced (putOf e left) y = omega (arith, fitting (endOf e left) (takenOf e left .frame) h .time) in
         link room c
 
-    ahead-turn : (e : ℕ) (left : List Numbered) (done : List Placed) → floor ≤ startAt e left
+    ahead-turn : gap ≤ floor → (e : ℕ) (left : List Numbered) (done : List Placed) → floor ≤ startAt e left
         → Ahead (startAt e left - gap) (putOf e left ∷ done)
-    ahead-turn e left done h =
+    ahead-turn low e left done h =
         let room : startAt e left - gap + gap ≤ startAt e left = omega (arith, low) in
         ahead room
 
@@ -339,9 +339,9 @@ module _ (resolution gap floor : ℕ) (sending : Frame → ℕ) where
         → x .number ≡ y .number → ⊥
     clash y left x a m = all-member a m
 
-    sofar-turn : (n e : ℕ) (left : List Numbered) (done : List Placed) → fitsAt e left ≡ true → Sofar (suc n) e left done
+    sofar-turn : gap ≤ floor → (n e : ℕ) (left : List Numbered) (done : List Placed) → fitsAt e left ≡ true → Sofar (suc n) e left done
         → Sofar n (startAt e left - gap) (leftOf e left) (putOf e left ∷ done)
-    sofar-turn n e left done h s =
+    sofar-turn low n e left done h s =
         let other = isOther (takenOf e left .number) in
         let w : 0 < length left = omega (arith, s .count) in
         let t = takes-from e left w in
@@ -358,7 +358,7 @@ module _ (resolution gap floor : ℕ) (sending : Frame → ℕ) where
               (all-weaker (λ x a. all-keep other a) (s .apart));
           placed = before (all-weaker (λ x a q. clash (takenOf e left) left x a (t .among) (sym q)) (s .apart)) (s .placed);
           spaced = spaced-turn n e left done h (s .ahead) (s .spaced);
-          ahead = ahead-turn e left done (g .behind);
+          ahead = ahead-turn low e left done (g .behind);
         }
 
     -- what a run of the rule gives
@@ -380,12 +380,12 @@ module _ (resolution gap floor : ℕ) (sending : Frame → ℕ) where
           spaced = subst (Chain Spaced) q (s .spaced);
         }
 
-    pub settled : {n e : ℕ} {left : List Numbered} {done all : List Placed} (k : ℕ) → Run n e left done all → n + length done ≡ k
+    pub settled : gap ≤ floor → {n e : ℕ} {left : List Numbered} {done all : List Placed} (k : ℕ) → Run n e left done all → n + length done ≡ k
         → Sofar n e left done → Settled k all
-    settled k (over {e} {left} {done} {all} q) c s = settled-same k e left done all q (omega arith) s
-    settled k (turn {n} {e} {left} {done} q r) c s =
+    settled low k (over {e} {left} {done} {all} q) c s = settled-same k e left done all q (omega arith) s
+    settled low k (turn {n} {e} {left} {done} q r) c s =
         let d : n + suc (length done) ≡ k = omega arith in
-        settled k r d (sofar-turn n e left done q s)
+        settled low k r d (sofar-turn low n e left done q s)
 
 -- ---- the frames with their numbers
 
@@ -438,12 +438,11 @@ module _ (l : Layout) where
   resolutionOf = l .plan .bus .resolution
 
   -- what was placed: as many as frames, each one a frame with its number, none twice, each where the plan lets it start, spaced
-  abbrev pub PlacedWell : (low : gapOf ≤ l .afterControl) → List Placed → Type 0
-  PlacedWell low = Settled resolutionOf gapOf (l .afterControl) (frameTime l) (Known (l .frames)) low (length (l .frames))
+  abbrev pub PlacedWell : List Placed → Type 0
+  PlacedWell = Settled resolutionOf gapOf (l .afterControl) (frameTime l) (Known (l .frames)) (length (l .frames))
 
-  begun : (low : gapOf ≤ l .afterControl)
-      → Sofar resolutionOf gapOf (l .afterControl) (frameTime l) (Known (l .frames)) low (length (l .frames)) (firstEnd l) (numberedFrom 0 (l .frames)) []
-  begun low =
+  begun : Sofar resolutionOf gapOf (l .afterControl) (frameTime l) (Known (l .frames)) (length (l .frames)) (firstEnd l) (numberedFrom 0 (l .frames)) []
+  begun =
       record {
         count = length-numbered 0 (l .frames);
         distinct = numbered-distinct 0 (l .frames);
@@ -456,18 +455,18 @@ module _ (l : Layout) where
         ahead = free;
       }
 
-  pub placed-well : (low : gapOf ≤ l .afterControl) (placed : List Placed) → latestRelease l ≡ ok placed → PlacedWell low placed
+  pub placed-well : (low : gapOf ≤ l .afterControl) (placed : List Placed) → latestRelease l ≡ ok placed → PlacedWell placed
   unfolding latestRelease
   placed-well low placed h =
       settled resolutionOf gapOf (l .afterControl) (frameTime l) (Known (l .frames)) low (length (l .frames))
       (run-of resolutionOf gapOf (l .afterControl) (frameTime l) (length (l .frames)) (firstEnd l) (numberedFrom 0 (l .frames)) [] placed h)
       (omega arith)
-      (begun low)
+      begun
 
   -- each frame was placed
-  pub each-placed : (low : gapOf ≤ l .afterControl) (placed : List Placed) → PlacedWell low placed → (k : ℕ) → k < length (l .frames)
+  pub each-placed : (placed : List Placed) → PlacedWell placed → (k : ℕ) → k < length (l .frames)
       → Source numberOf placed k
-  each-placed low placed s k w =
+  each-placed placed s k w =
       source numberOf placed
       (pigeonhole (length (l .frames)) k (pairs-map numberOf {R = Differ} (s .distinct)) (all-map numberOf (all-weaker (λ x h. h .within) (s .origin)))
       (length-map placed numberOf ∙ s .count)

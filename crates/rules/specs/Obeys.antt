@@ -1,11 +1,205 @@
 -- What it means that document 01's rules are kept: records of propositions, one field for each rule.
 use mathlib.Core.Path.{_≡_}
 use mathlib.Core.Bool.{Bool, true, false}
+use mathlib.Core.List.{List, [], _∷_, _++_}
 use mathlib.Core.Logic.{_⊎_}
 use mathlib.Core.Option.{Option, none, some}
+use lib.ListN.{length, getD, take}
 use Prim.Native.Nat.{ℕ, zero, suc, _+_, _-_, _%_, _^_, _≤_, _<_, _∣_}
+use Rattle.laws.specs.Res.{Res, ok, refuse}
+use Rattle.laws.specs.Faults.{Rule, BreaksAt, AllKept, FirstFault}
+use Rattle.rules.specs.Records.{Rec, known, bodyLength, recordOf, records, tableFollows}
+use Rattle.rules.specs.Plan.{Plan, readPlan}
+use Rattle.rules.specs.Frames.{Frame, Layout, layout, gapTime}
+use Rattle.rules.specs.LatestRelease.{Placed, noFrame, frameTime, latestRelease}
+use Rattle.rules.specs.Table.{tableBytes}
+use Rattle.rules.specs.Checker.{TableRead, tableOf, controlAt, rowAt, stopBefore, firstRow}
 use Rattle.rules.specs.Playing.{modulePlaces, taskPlaces, Input}
 use Rattle.rules.specs.Station.{Kept, State, runPeriod, taskAge, runAge}
+
+-- ---- files (1 and 20)
+
+-- A record of this kind may stand behind one of the kind `previous` (0: at the front).
+pub record MayStand (follows : ℕ → ℕ → Bool) (previous kind : ℕ) : Type 0 where
+  pub isKnown : known kind ≡ true
+  pub isNext : follows previous kind ≡ true
+
+-- The bytes behind a record of the kind `previous` are these records, the end record, and nothing more.
+pub data AreRecords (follows : ℕ → ℕ → Bool) : ℕ → List ℕ → List Rec → Type 0 where
+  theEnd : {previous : ℕ} {file : List ℕ} → MayStand follows previous 0 → file ≡ 0 ∷ [] → AreRecords follows previous file []
+  oneMore :
+      {previous kind : ℕ} {file rest : List ℕ} {rs : List Rec} (body : List ℕ) → MayStand follows previous kind → (kind ≡ 0 → ⊥) →
+      length body ≡ bodyLength kind → file ≡ kind ∷ body ++ rest → AreRecords follows kind rest rs →
+      AreRecords follows previous file (recordOf kind body ∷ rs)
+
+-- The bytes from the offset `at` on, behind a record of the kind `previous`, first break the record rules at the offset p: the file
+-- ends where a record should begin, or inside a body (p is the file's length); a kind that may not stand there; something behind
+-- the end record.
+pub data BreakRecords (follows : ℕ → ℕ → Bool) : ℕ → ℕ → List ℕ → ℕ → Type 0 where
+  noRecord : {previous at p : ℕ} {file : List ℕ} → file ≡ [] → at ≡ p → BreakRecords follows previous at file p
+  wrongKind :
+      {previous at p kind : ℕ} {file rest : List ℕ} → file ≡ kind ∷ rest → (MayStand follows previous kind → ⊥) → at ≡ p →
+      BreakRecords follows previous at file p
+  behindEnd :
+      {previous at p b : ℕ} {file rest : List ℕ} → file ≡ 0 ∷ b ∷ rest → MayStand follows previous 0 → suc at ≡ p →
+      BreakRecords follows previous at file p
+  cutBody :
+      {previous at p kind : ℕ} {file body : List ℕ} → file ≡ kind ∷ body → MayStand follows previous kind → (kind ≡ 0 → ⊥) →
+      length body < bodyLength kind → suc at + length body ≡ p → BreakRecords follows previous at file p
+  goodRecord :
+      {previous at p kind : ℕ} {file rest : List ℕ} (body : List ℕ) → file ≡ kind ∷ body ++ rest → MayStand follows previous kind →
+      (kind ≡ 0 → ⊥) → length body ≡ bodyLength kind → BreakRecords follows kind (suc at + length body) rest p →
+      BreakRecords follows previous at file p
+
+-- ---- tables
+
+-- the frame with this number
+unfoldable pub frameAt : Layout → ℕ → Frame
+frameAt l f = getD (l .frames) f noFrame
+
+-- The k-th data row names frame f: it has its task and its deadline.
+pub record NamesFrame (l : Layout) (t : TableRead) (k f : ℕ) : Type 0 where
+  pub there : f < length (l .frames)
+  pub task : rowAt t k .task ≡ frameAt l f .task
+  pub deadline : rowAt t k .deadline ≡ frameAt l f .deadline
+
+-- 21: P, the header's counts and the numbers of rows are what the plan gives.
+pub record HeaderIsRight (l : Layout) (t : TableRead) : Type 0 where
+  pub period : t .period ≡ l .period
+  pub controls : t .controls ≡ length (l .control)
+  pub datas : t .datas ≡ length (l .frames)
+  pub controlRows : length (t .control) ≡ length (l .control)
+  pub dataRows : length (t .rows) ≡ length (l .frames)
+
+-- 22: the control row is the fixed one.
+abbrev pub IsFixed : Layout → TableRead → ℕ → Type 0
+IsFixed l t k = controlAt (t .control) k ≡ controlAt (l .control) k
+
+-- 23: the data row names a frame, and none that a row before it names.
+pub record NamesNew (l : Layout) (t : TableRead) (k : ℕ) : Type 0 where
+  pub frame : ℕ
+  pub names : NamesFrame l t k frame
+  pub new : (j : ℕ) → j < k → rowAt t j .task ≡ rowAt t k .task → rowAt t j .deadline ≡ rowAt t k .deadline → ⊥
+
+-- 24: stop is start plus sending time, and start is on the resolution.
+pub record TimeIsRight (l : Layout) (t : TableRead) (k : ℕ) : Type 0 where
+  pub stop : (f : ℕ) → NamesFrame l t k f → rowAt t k .stop ≡ rowAt t k .start + frameTime l (frameAt l f)
+  pub grid : l .plan .bus .resolution ∣ rowAt t k .start
+
+-- 25: start is not before release.
+abbrev pub IsReleased : Layout → TableRead → ℕ → Type 0
+IsReleased l t k = (f : ℕ) → NamesFrame l t k f → frameAt l f .release ≤ rowAt t k .start
+
+-- 26: stop is not after deadline.
+abbrev pub IsInTime : TableRead → ℕ → Type 0
+IsInTime t k = rowAt t k .stop ≤ rowAt t k .deadline
+
+-- 27: the data row starts no earlier than the stop plus gap of the row before it, control rows included.
+abbrev pub IsSpaced : Layout → TableRead → ℕ → Type 0
+IsSpaced l t k = stopBefore t k + gapTime (l .plan .bus) ≤ rowAt t k .start
+
+-- What a table must keep to pass: 21 to 27.
+pub record ObeysTable (l : Layout) (t : TableRead) : Type 0 where
+  pub header : HeaderIsRight l t
+  pub control : (k : ℕ) → k < length (t .control) → IsFixed l t k
+  pub names : (k : ℕ) → k < length (t .rows) → NamesNew l t k
+  pub time : (k : ℕ) → k < length (t .rows) → TimeIsRight l t k
+  pub released : (k : ℕ) → k < length (t .rows) → IsReleased l t k
+  pub inTime : (k : ℕ) → k < length (t .rows) → IsInTime t k
+  pub spaced : (k : ℕ) → k < length (t .rows) → IsSpaced l t k
+
+-- The same rules in order, with their numbers and the records of their first places.
+abbrev pub rowsAsk : ℕ → TableRead → (ℕ → Type 0) → Rule
+rowsAsk n t asks = record { number = n; first = firstRow t; places = length (t .rows); asks = asks }
+
+abbrev pub tableRules : Layout → TableRead → List Rule
+tableRules l t =
+    record { number = 21; first = 0; places = 1; asks = λ k. HeaderIsRight l t }
+    ∷ record { number = 22; first = 1; places = length (t .control); asks = IsFixed l t }
+    ∷ rowsAsk 23 t (NamesNew l t)
+    ∷ rowsAsk 24 t (TimeIsRight l t)
+    ∷ rowsAsk 25 t (IsReleased l t)
+    ∷ rowsAsk 26 t (IsInTime t)
+    ∷ rowsAsk 27 t (IsSpaced l t)
+    ∷ []
+
+-- What the checker asks of plan and table: the plan passes 1 to 5 and is laid out by 6 to 11, the table reads as records (20) and
+-- keeps 21 to 27.
+pub record Passes (plan table : List ℕ) : Type 0 where
+  pub read : Plan
+  pub isRead : readPlan plan ≡ ok read
+  pub laid : Layout
+  pub isLaid : layout read ≡ ok laid
+  pub rows : List Rec
+  pub areRows : records tableFollows 20 table ≡ ok rows
+  pub obeys : ObeysTable laid (tableOf rows)
+
+-- Number n at p is the first fault of plan and table: 1 to 5, 6 to 11, 20, then the first of 21 to 27 at its lowest record.
+pub data CheckFault (plan table : List ℕ) (n p : ℕ) : Type 0 where
+  ofPlan : readPlan plan ≡ refuse n p → CheckFault plan table n p
+  ofLayout : {q : Plan} → readPlan plan ≡ ok q → layout q ≡ refuse n p → CheckFault plan table n p
+  ofRecords :
+      {q : Plan} {l : Layout} → readPlan plan ≡ ok q → layout q ≡ ok l → records tableFollows 20 table ≡ refuse n p →
+      CheckFault plan table n p
+  ofTable :
+      {q : Plan} {l : Layout} {rs : List Rec} → readPlan plan ≡ ok q → layout q ≡ ok l → records tableFollows 20 table ≡ ok rs →
+      FirstFault (tableRules l (tableOf rs)) n p → CheckFault plan table n p
+
+-- The plan passes 1 to 11, and the table does not read as records, first at p.
+pub record UnreadAt (plan table : List ℕ) (p : ℕ) : Type 0 where
+  pub read : Plan
+  pub isRead : readPlan plan ≡ ok read
+  pub laid : Layout
+  pub isLaid : layout read ≡ ok laid
+  pub unread : records tableFollows 20 table ≡ refuse 20 p
+
+-- The plan passes 1 to 11, the table reads as records and keeps the first i of the rules 21 to 27; the next, 21 + i, is broken, first
+-- at record p.
+abbrev pub noRule : Rule
+noRule = record { number = 0; first = 0; places = 0; asks = λ k. Unit {0} }
+
+pub record BrokenAt (plan table : List ℕ) (i p : ℕ) : Type 0 where
+  pub read : Plan
+  pub isRead : readPlan plan ≡ ok read
+  pub laid : Layout
+  pub isLaid : layout read ≡ ok laid
+  pub rows : List Rec
+  pub areRows : records tableFollows 20 table ≡ ok rows
+  pub kept : AllKept (take i (tableRules laid (tableOf rows)))
+  pub broken : BreaksAt (getD (tableRules laid (tableOf rows)) i noRule) (21 + i) p
+
+-- ---- what is made
+
+-- What `make` needs to give a table of n bytes: the plan passes 1 to 11, the latest-release rule places every frame, and the table fits.
+pub record MakesTable (plan : List ℕ) (room n : ℕ) : Type 0 where
+  pub read : Plan
+  pub isRead : readPlan plan ≡ ok read
+  pub laid : Layout
+  pub isLaid : layout read ≡ ok laid
+  pub placed : List Placed
+  pub rule : latestRelease laid ≡ ok placed
+  pub fits : length (tableBytes laid placed) ≤ room
+  pub long : length (tableBytes laid placed) ≡ n
+
+-- Number n at p is the first fault: 1 to 5, 6 to 11, the rule's refusal (12), the room's (13).
+pub data MakeFault (plan : List ℕ) (room n p : ℕ) : Type 0 where
+  inPlan : readPlan plan ≡ refuse n p → MakeFault plan room n p
+  inLayout : {q : Plan} → readPlan plan ≡ ok q → layout q ≡ refuse n p → MakeFault plan room n p
+  inRule :
+      {q : Plan} {l : Layout} → readPlan plan ≡ ok q → layout q ≡ ok l → latestRelease l ≡ refuse n p → MakeFault plan room n p
+  inRoom :
+      {q : Plan} {l : Layout} {placed : List Placed} → readPlan plan ≡ ok q → layout q ≡ ok l → latestRelease l ≡ ok placed →
+      room < length (tableBytes l placed) → n ≡ 13 → p ≡ length (tableBytes l placed) → MakeFault plan room n p
+
+-- The plan passes 1 to 11, and the latest-release rule refuses at this frame.
+pub record RuleRefuses (plan : List ℕ) (frame : ℕ) : Type 0 where
+  pub read : Plan
+  pub isRead : readPlan plan ≡ ok read
+  pub laid : Layout
+  pub isLaid : layout read ≡ ok laid
+  pub rule : latestRelease laid ≡ refuse 12 frame
+
+-- ---- ticks
 
 -- A run of the task is under way.
 pub record IsRunning (k : Kept) (s : State) (t : ℕ) : Type 0 where

@@ -1,0 +1,16 @@
+use borrow.Author.Needs.{needs}
+use native.Mathlib.Nat.{mod-zero}
+use Rattle.bus.proofs.numbers.divides.Statement.{statement}
+use Rattle.bus.proofs.numbers.divides.Tie as tie
+
+returns : tie.Need-returns
+returns c = rw (c .if1 .taken, mod-zero)
+
+rem-result : tie.Need-rem-result
+rem-result c = search needs
+
+returns-2 : tie.Need-returns-2
+returns-2 c = search needs
+
+pub divides-spec : {M : Type 1} → statement M
+divides-spec = tie.close (tie.spec returns rem-result returns-2)

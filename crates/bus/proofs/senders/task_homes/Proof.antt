@@ -1,0 +1,84 @@
+use borrow.Author.Needs.{needs}
+use mathlib.Core.Path.{_≡_, refl, sym, ap, _∙_}
+use lib.ListN.{length, getD, replicate, List·getD-eq-default}
+use native.Mathlib.Omega.{arith}
+use Prim.Native.Nat.{ℕ, _≤_, _<_, _-_}
+use Rattle.laws.specs.Loops.{stores}
+use Rattle.laws.proofs.Loops.{stores-turn}
+use Rattle.plan.specs.Memory.{seen, taskSeen, taskLaid}
+use Rattle.plan.specs.declared.Plan.{Plan}
+use Rattle.rules.specs.Plan.{Task, noTask, theTask}
+use Rattle.bus.specs.Senders.{taskHome}
+use Rattle.bus.proofs.Tables.{filled}
+use Rattle.bus.proofs.Things.{task-here}
+use Rattle.bus.proofs.senders.task_homes.Statement.{statement}
+use Rattle.bus.proofs.senders.task_homes.Tie as tie
+
+abbrev Inv-loop : tie.InvT-loop
+Inv-loop p n homes₀ t₀ homes t = (t ≤ n) × (homes ≡ stores (replicate 256 0) (taskHome (seen p)) t)
+
+abbrev μ-loop : tie.MeasureT-loop
+μ-loop p n homes₀ t₀ homes t = n - t
+
+abbrev home : Task → ℕ
+home t = t .home
+
+-- a task of the plan, and a number behind them
+here : (p : Plan) (t : ℕ) → t < length (seen p .tasks) → getD (p .tasks) t (taskLaid noTask) .home .0 ≡ taskHome (seen p) t
+unfolding taskHome theTask taskSeen taskLaid
+here p t h = sym (ap home (task-here p t h))
+
+behind : (p : Plan) (t : ℕ) → length (seen p .tasks) ≤ t → taskHome (seen p) t ≡ 0
+unfolding taskHome theTask
+behind p t h = ap home (List·getD-eq-default (seen p .tasks) noTask h)
+
+task-count-requires : tie.Need-task-count-requires Inv-loop μ-loop
+task-count-requires c κs = search needs
+
+loop-holds : tie.Need-loop-holds Inv-loop μ-loop
+loop-holds c = (search needs, refl)
+
+mul-homes : tie.Need-mul-homes Inv-loop μ-loop
+mul-homes c = search needs
+
+element-copy-out-homes : tie.Need-element-copy-out-homes Inv-loop μ-loop
+element-copy-out-homes c = search needs
+
+array-write-homes : tie.Need-array-write-homes Inv-loop μ-loop
+array-write-homes c = search needs
+
+add-t : tie.Need-add-t Inv-loop μ-loop
+add-t c = search needs
+
+loop-less : tie.Need-loop-less Inv-loop μ-loop
+loop-less c = search needs
+
+loop-again : tie.Need-loop-again Inv-loop μ-loop
+unfolding taskLaid
+loop-again c =
+    let p = c .before .before .before .args .t1 in
+    let w : c .before .loop .t < length (seen p .tasks) = omega arith in
+    (search needs, stores-turn _ _ _ (c .before .loop .inv .1) (here p _ w))
+
+returns : tie.Need-returns Inv-loop μ-loop
+returns c =
+    let p = c .before .before .before .args .t1 in
+    let n = length (seen p .tasks) in
+    let e : c .before .loop .t ≡ n = omega arith in
+    c .before .loop .inv .1 ∙ rw e (filled (taskHome (seen p)) 0 n (omega arith) (λ k h v. behind p k h))
+
+pub task-homes-spec : {M : Type 1} → statement M
+task-homes-spec =
+    tie.close
+    (tie.spec
+    Inv-loop
+    μ-loop
+    task-count-requires
+    loop-holds
+    mul-homes
+    element-copy-out-homes
+    array-write-homes
+    add-t
+    loop-less
+    loop-again
+    returns)

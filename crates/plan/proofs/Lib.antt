@@ -1,0 +1,4 @@
+pub mod Gathering
+pub mod Parts
+pub mod Sizes
+pub mod SoFar

@@ -1,0 +1,32 @@
+use borrow.Author.Needs.{needs}
+use mathlib.Core.Path.{sym, ap}
+use mathlib.Core.List.{List}
+use Prim.Native.Nat.{ℕ}
+use Rattle.rules.specs.Records.{fields, kinds}
+use Rattle.rules.specs.Plan.{invocationOf}
+use Rattle.records.proofs.BodyNumbers.{numbers-laid}
+use Rattle.plan.specs.Memory.{invocationLaid}
+use Rattle.plan.proofs.bodies.invocation.Statement.{statement}
+use Rattle.plan.proofs.bodies.invocation.Tie as tie
+
+read16-requires : tie.Need-read16-requires
+read16-requires c κs = search needs
+
+read8-requires : tie.Need-read8-requires
+read8-requires c κs = search needs
+
+read8-requires-2 : tie.Need-read8-requires-2
+read8-requires-2 c κs = search needs
+
+cast-t7 : tie.Need-cast-t7
+cast-t7 c = search needs
+
+returns : tie.Need-returns
+unfolding invocationLaid invocationOf fields kinds
+returns c =
+    rw (c .before .before .read16 .ensures, c .before .read8 .ensures, c .read82 .ensures)
+    (ap (λ (b : List ℕ). invocationLaid (invocationOf b)) (sym (numbers-laid (c .before .before .before .before .args .body .now) 0 6)))
+
+pub invocation-spec : {M : Type 1} → statement M
+invocation-spec =
+    tie.close (tie.spec read16-requires read8-requires read8-requires-2 cast-t7 returns)

@@ -1,0 +1,24 @@
+use borrow.Author.Needs.{needs}
+use mathlib.Core.Path.{_∙_, sym}
+use native.Mathlib.Omega.{arith}
+use Rattle.plan.specs.Memory.{seen, countSeen, connectionSeen}
+use Rattle.plan.proofs.Parts.{part-length}
+use Rattle.plan.proofs.Sizes.{sizes}
+use Rattle.plan.proofs.look.connection_count.Statement.{statement}
+use Rattle.plan.proofs.look.connection_count.Tie as tie
+
+element-copy-out-smaller : tie.Need-element-copy-out-smaller
+element-copy-out-smaller c = search needs
+
+smaller-requires : tie.Need-smaller-requires
+smaller-requires c κs = search needs
+
+returns : tie.Need-returns
+unfolding seen countSeen
+returns c =
+    let p = c .before .before .args .t1 in
+    let h = sizes p _ (c .before .before .good .0) in
+    (c .smaller .ensures ∙ sym (part-length connectionSeen (countSeen p 7) (p .connections) 64 (h .connections)), omega arith)
+
+pub connection-count-spec : {M : Type 1} → statement M
+connection-count-spec = tie.close (tie.spec element-copy-out-smaller smaller-requires returns)

@@ -1,0 +1,35 @@
+use borrow.Author.Needs.{needs}
+use mathlib.Core.Path.{sym, ap}
+use native.Mathlib.Omega.{arith}
+use Rattle.rules.specs.Plan as rules
+use Rattle.plan.specs.Memory.{modeLaid, modeSeen, seen, countSeen}
+use Rattle.plan.proofs.Parts.{part-at, part-behind}
+use Rattle.plan.proofs.look.mode_at.Statement.{statement}
+use Rattle.plan.proofs.look.mode_at.Tie as tie
+
+mode-count-requires : tie.Need-mode-count-requires
+mode-count-requires c κs = search needs
+
+mul-result : tie.Need-mul-result
+mul-result c = search needs
+
+element-copy-out-result : tie.Need-element-copy-out-result
+element-copy-out-result c = search needs
+
+returns : tie.Need-returns
+unfolding modeLaid modeSeen seen countSeen rules.theMode
+returns c =
+    let p = c .before .before .before .args .t1 in
+    let k = c .before .before .before .args .k in
+    ap modeLaid (sym (part-at modeSeen (countSeen p 4) (p .modes) k (modeLaid rules.noMode) (omega arith)))
+
+returns-2 : tie.Need-returns-2
+unfolding modeLaid modeSeen seen countSeen rules.theMode
+returns-2 c =
+    let p = c .before .before .args .t1 in
+    let k = c .before .before .args .k in
+    ap modeLaid (sym (part-behind modeSeen (countSeen p 4) (p .modes) k rules.noMode (omega arith)))
+
+pub mode-at-spec : {M : Type 1} → statement M
+mode-at-spec =
+    tie.close (tie.spec mode-count-requires mul-result element-copy-out-result returns returns-2)

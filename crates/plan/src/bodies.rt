@@ -1,0 +1,86 @@
+// The bodies of a plan's records as things. A byte that a body lacks reads as 0, so that no body is refused here.
+ghost use mathlib.Core.Path.{_≡_};
+ghost use Rattle.rules.specs.Records.{recordOf};
+ghost use Rattle.rules.specs.Plan.{busOf, moduleOf, modeOf, taskOf, invocationOf, connectionOf};
+ghost use Rattle.plan.specs.Memory.{busLaid, moduleLaid, modeLaid, taskLaid, invocationLaid, connectionLaid};
+use crate::Bus;
+use crate::Connection;
+use crate::Invocation;
+use crate::Mode;
+use crate::Module;
+use crate::Task;
+use records::little::read8;
+use records::little::read16;
+use records::little::read32;
+use units::ByteCount;
+use units::ModeNo;
+use units::ModuleNo;
+use units::NodeNo;
+use units::TaskNo;
+use units::Ticks;
+
+pub fn bus(body: &[u8]) -> Bus
+    ensures { λ r. ⌜ r ≡ busLaid (busOf (recordOf 1 (now (body .entry)) .numbers)) ⌝ }
+{
+    let overhead = read16(body, 4);
+    let least = read16(body, 6);
+    let most = read16(body, 8);
+    let gap = read16(body, 10);
+    Bus {
+        rate: read32(body, 0),
+        overhead: ByteCount(overhead as u32),
+        least: ByteCount(least as u32),
+        most: ByteCount(most as u32),
+        gap: gap as u32,
+        resolution: Ticks(read32(body, 12)),
+    }
+}
+
+pub fn module(body: &[u8]) -> Module
+    ensures { λ r. ⌜ r ≡ moduleLaid (moduleOf (recordOf 3 (now (body .entry)) .numbers)) ⌝ }
+{
+    Module {
+        node: NodeNo(read8(body, 0)),
+    }
+}
+
+pub fn mode(body: &[u8]) -> Mode
+    ensures { λ r. ⌜ r ≡ modeLaid (modeOf (recordOf 4 (now (body .entry)) .numbers)) ⌝ }
+{
+    Mode {
+        home: ModuleNo(read8(body, 0)),
+        period: Ticks(read32(body, 1)),
+        switch: Ticks(read32(body, 5)),
+    }
+}
+
+pub fn task(body: &[u8]) -> Task
+    ensures { λ r. ⌜ r ≡ taskLaid (taskOf (recordOf 5 (now (body .entry)) .numbers)) ⌝ }
+{
+    let size = read8(body, 1);
+    Task {
+        home: ModuleNo(read8(body, 0)),
+        size: ByteCount(size as u32),
+        worst: Ticks(read32(body, 2)),
+    }
+}
+
+pub fn invocation(body: &[u8]) -> Invocation
+    ensures { λ r. ⌜ r ≡ invocationLaid (invocationOf (recordOf 6 (now (body .entry)) .numbers)) ⌝ }
+{
+    let rate = read16(body, 2);
+    Invocation {
+        mode: ModeNo(read8(body, 0)),
+        task: TaskNo(read8(body, 1)),
+        rate: rate as u32,
+    }
+}
+
+pub fn connection(body: &[u8]) -> Connection
+    ensures { λ r. ⌜ r ≡ connectionLaid (connectionOf (recordOf 7 (now (body .entry)) .numbers)) ⌝ }
+{
+    Connection {
+        producer: TaskNo(read8(body, 0)),
+        consumer: TaskNo(read8(body, 1)),
+    }
+}

@@ -1,0 +1,194 @@
+-- Room: `make` gives 12 exactly where the latest-release rule refuses, at the frame that it had taken, and a table exactly where the rule
+-- places every frame and the room suffices.
+use mathlib.Core.Path.{_≡_, refl, sym, ap, _∙_}
+use mathlib.Core.List.{List, []}
+use mathlib.Core.Logic.{_⊎_, inl, inr, _↔_}
+use mathlib.Core.Bool.{Bool, true, false}
+use native.Mathlib.Omega.{arith}
+use borrow.Author.Tests.{leb-true, leb-false, le-leb, lt-leb}
+use lib.Dec.{leb}
+use lib.ListN.{length}
+use Prim.Native.Nat.{ℕ, _≤_, _<_}
+use Rattle.laws.specs.Res.{Res, ok, refuse, _>>=_, _>>_, unless}
+use Rattle.laws.proofs.Res.{refuse≢ok, ok-injective, refuse-number, refuse-place, bind-case, then-case, bind-refused, then-refused, unless-ok}
+use Rattle.laws.proofs.Orders.{le-or-lt}
+use Rattle.laws.proofs.Faults.{unless-refused}
+use Rattle.rules.specs.Plan.{Plan, readPlan}
+use Rattle.rules.specs.Frames.{Layout, layout, gapTime}
+use Rattle.rules.specs.LatestRelease.{Placed, numberedFrom, firstEnd, frameTime, latestRelease}
+use Rattle.rules.specs.Table.{FrameRow, tableBytes, MadeTable, madeTable, tableFor, outcome, make}
+use Rattle.rules.specs.Obeys.{MakesTable, MakeFault, inPlan, inLayout, inRule, inRoom, RuleRefuses}
+use Rattle.rules.proofs.Placing.{Run, run-of, run-is, Stuck, refused-of, stuck-is, gapOf, resolutionOf}
+use Rattle.rules.proofs.RefusalNumbers.{plan-gives, layout-gives}
+use Rattle.rules.proofs.MadePasses.{make-enough, make-short, make-gave, table-made}
+
+-- ---- the rule's runs
+
+module _ (l : Layout) where
+  -- the rule, from P on and with every frame left, places them so
+  abbrev pub Places : List Placed → Type 0
+  Places placed =
+      Run (resolutionOf l) (gapOf l) (l .afterControl) (frameTime l) (length (l .frames)) (firstEnd l) (numberedFrom 0 (l .frames)) [] placed
+
+  -- the rule, from P on and with every frame left, comes to take the frame of this number, which does not fit
+  abbrev pub SticksAt : ℕ → Type 0
+  SticksAt frame =
+      Stuck (resolutionOf l) (gapOf l) (l .afterControl) (frameTime l) (length (l .frames)) (firstEnd l) (numberedFrom 0 (l .frames)) frame
+
+  pub rule-places : (placed : List Placed) → (latestRelease l ≡ ok placed) ↔ Places placed
+  unfolding latestRelease
+  rule-places placed = (
+    run-of (resolutionOf l) (gapOf l) (l .afterControl) (frameTime l) (length (l .frames)) (firstEnd l) (numberedFrom 0 (l .frames)) [] placed,
+    run-is (resolutionOf l) (gapOf l) (l .afterControl) (frameTime l),
+  )
+
+  rule-number : (n frame : ℕ) → latestRelease l ≡ refuse n frame → (n ≡ 12) × SticksAt frame
+  unfolding latestRelease
+  rule-number n frame e =
+      let r = refused-of (resolutionOf l) (gapOf l) (l .afterControl) (frameTime l) (length (l .frames)) (firstEnd l) (numberedFrom 0 (l .frames)) [] n frame e in
+      (r .twelve, r .stuck)
+
+  rule-stuck : (n frame : ℕ) → (n ≡ 12) × SticksAt frame → latestRelease l ≡ refuse n frame
+  unfolding latestRelease
+  rule-stuck n frame h =
+      stuck-is (resolutionOf l) (gapOf l) (l .afterControl) (frameTime l) [] (h .1) ∙ ap (λ (m : ℕ). refuse m frame) (sym (h .0))
+
+  pub rule-refuses : (n frame : ℕ) → (latestRelease l ≡ refuse n frame) ↔ ((n ≡ 12) × SticksAt frame)
+  rule-refuses n frame = (rule-number n frame, rule-stuck n frame)
+
+-- ---- tableFor
+
+module _ (plan : List ℕ) (room : ℕ) where
+  pub table-faults : (n p : ℕ) → tableFor plan room ≡ refuse n p → MakeFault plan room n p
+  unfolding tableFor madeTable
+  table-faults n p e =
+      bind-refused (readPlan plan) _ e inPlan λ q isRead e₁.
+      bind-refused (layout q) _ e₁ (inLayout isRead) λ l isLaid e₂.
+      bind-refused (latestRelease l) _ e₂ (inRule isRead isLaid) λ placed rule e₃.
+      let long = length (tableBytes l placed) in
+      then-refused (unless 13 long (leb long room)) _ e₃
+      (λ f.
+      let r = unless-refused 13 long (leb long room) n p f in
+      inRoom isRead isLaid rule (leb-false long room (r .0)) (sym (r .1)) (sym (r .2)))
+      (λ _ _ f. refuse≢ok (sym f))
+
+  pub fault-table : (n p : ℕ) → MakeFault plan room n p → tableFor plan room ≡ refuse n p
+  unfolding tableFor madeTable
+  fault-table n p (inPlan e) = rw e
+  fault-table n p (inLayout a e) = rw (a, e)
+  fault-table n p (inRule a b e) = rw (a, b, e)
+  fault-table n p (inRoom {l = l} {placed = placed} a b c w e f) = rw (a, b, c, lt-leb (length (tableBytes l placed)) room w, e, f)
+
+  pub table-makes : (n : ℕ) (h : MakesTable plan room n) → tableFor plan room ≡ ok (madeTable (h .laid) (h .placed))
+  unfolding tableFor madeTable
+  table-makes n h = rw (h .isRead, h .isLaid, h .rule, le-leb (length (tableBytes (h .laid) (h .placed))) room (h .fits))
+
+-- ---- plans that pass 1 to 11
+
+module _ (plan : List ℕ) (room : ℕ) {p : Plan} {l : Layout} (isRead : readPlan plan ≡ ok p) (isLaid : layout p ≡ ok l) where
+  on : tableFor plan room ≡ _>>=_ (latestRelease l) (λ placed. let t = madeTable l placed in _>>_ (unless 13 (length (t .table)) (leb (length (t .table)) room)) (ok t))
+  unfolding tableFor
+  on = rw (isRead, isLaid)
+
+  twelve-says : (frame : ℕ) → tableFor plan room ≡ refuse 12 frame → latestRelease l ≡ refuse 12 frame
+  unfolding madeTable
+  twelve-says frame e =
+      bind-refused (latestRelease l) _ (sym on ∙ e) (λ r. r) λ placed rule e₁.
+      let long = length (tableBytes l placed) in
+      then-refused (unless 13 long (leb long room)) _ e₁
+      (λ f. let z : 13 ≡ 12 = unless-refused 13 long (leb long room) 12 frame f .1 in absurd (omega arith))
+      (λ _ _ f. refuse≢ok (sym f))
+
+  -- 12 is the rule's own refusal, at the frame that it had taken
+  pub room-twelve : (frame : ℕ) → (tableFor plan room ≡ refuse 12 frame) ↔ SticksAt l frame
+  room-twelve frame = (
+    λ e. rule-refuses l 12 frame .0 (twelve-says frame e) .1,
+    λ s. fault-table plan room 12 frame (inRule isRead isLaid (rule-refuses l 12 frame .1 (refl, s))),
+  )
+
+  made-says : (t : MadeTable) → tableFor plan room ≡ ok t → (placed : List Placed) × Places l placed × (length (tableBytes l placed) ≤ room) × (madeTable l placed ≡ t)
+  unfolding madeTable
+  made-says t e =
+      bind-case (latestRelease l) _ (sym on ∙ e) λ placed rule e₁.
+      let long = length (tableBytes l placed) in
+      then-case (unless 13 long (leb long room)) _ e₁ λ _ fits e₂.
+      (placed, rule-places l placed .0 rule, leb-true long room (unless-ok 13 long (leb long room) fits), ok-injective e₂)
+
+  made-is : (t : MadeTable) → (placed : List Placed) × Places l placed × (length (tableBytes l placed) ≤ room) × (madeTable l placed ≡ t) → tableFor plan room ≡ ok t
+  made-is t h =
+      table-makes plan room (length (tableBytes l (h .0)))
+      (record { read = p; isRead = isRead; laid = l; isLaid = isLaid; placed = h .0; rule = rule-places l (h .0) .1 (h .1); fits = h .2; long = refl })
+      ∙ ap ok (h .3)
+
+  -- a table is made exactly where the rule places every frame and the room suffices
+  pub room-made : (t : MadeTable)
+      → (tableFor plan room ≡ ok t) ↔ ((placed : List Placed) × Places l placed × (length (tableBytes l placed) ≤ room) × (madeTable l placed ≡ t))
+  room-made t = (made-says t, made-is t)
+
+-- ---- make
+
+outcome-refused : (r : Res MadeTable) (rows : List FrameRow) (buffer : List ℕ) (n p : ℕ) → outcome r rows buffer .answer ≡ refuse n p → r ≡ refuse n p
+outcome-refused (ok t) rows buffer n p e = refuse≢ok (sym e)
+outcome-refused (refuse m q) rows buffer n p e = rw (refuse-number e, refuse-place e)
+
+module _ (plan : List ℕ) (rows : List FrameRow) (buffer : List ℕ) where
+  makes-only : (n : ℕ) → make plan rows buffer .answer ≡ ok n → (256 ≤ length rows) × MakesTable plan (length buffer) n
+  unfolding madeTable
+  makes-only n e =
+      let g = make-gave plan rows buffer n e in
+      let m = table-made plan (length buffer) (g .table) (g .made) in (
+        g .lent,
+        record {
+          read = m .read;
+          isRead = m .isRead;
+          laid = m .laid;
+          isLaid = m .isLaid;
+          placed = m .placed;
+          rule = m .rule;
+          fits = m .fits;
+          long = ap (λ (t : MadeTable). length (t .table)) (m .is) ∙ g .long;
+        },
+      )
+
+  makes-all : (n : ℕ) → (256 ≤ length rows) × MakesTable plan (length buffer) n → make plan rows buffer .answer ≡ ok n
+  unfolding madeTable
+  makes-all n h = rw (make-enough plan rows buffer (h .0), table-makes plan (length buffer) n (h .1), h .1 .long)
+
+  -- `make` gives a table exactly where the plan passes 1 to 11, the rule places every frame and the room suffices
+  pub make-exact : (n : ℕ) → (make plan rows buffer .answer ≡ ok n) ↔ ((256 ≤ length rows) × MakesTable plan (length buffer) n)
+  make-exact n = (makes-only n, makes-all n)
+
+  -- 19 before all; else the first fault
+  abbrev pub MakeRefuses : ℕ → ℕ → Type 0
+  MakeRefuses n p = ((length rows < 256) × (n ≡ 19) × (p ≡ 256)) ⊎ ((256 ≤ length rows) × MakeFault plan (length buffer) n p)
+
+  refuses-only : (256 ≤ length rows) ⊎ (length rows < 256) → (n p : ℕ) → make plan rows buffer .answer ≡ refuse n p → MakeRefuses n p
+  refuses-only (inl h) n p e =
+      inr (h, table-faults plan (length buffer) n p (outcome-refused (tableFor plan (length buffer)) rows buffer n p (rw (make-enough plan rows buffer h) at e)))
+  refuses-only (inr h) n p e =
+      let f : refuse 19 256 ≡ refuse n p = rw (make-short plan rows buffer h) at e in
+      inl (h, sym (refuse-number f), sym (refuse-place f))
+
+  refuses-all : (n p : ℕ) → MakeRefuses n p → make plan rows buffer .answer ≡ refuse n p
+  refuses-all n p (inl h) = rw (make-short plan rows buffer (h .0), h .1, h .2)
+  refuses-all n p (inr h) = rw (make-enough plan rows buffer (h .0), fault-table plan (length buffer) n p (h .1))
+
+  pub make-refuses : (n p : ℕ) → (make plan rows buffer .answer ≡ refuse n p) ↔ MakeRefuses n p
+  make-refuses n p = (refuses-only (le-or-lt 256 (length rows)) n p, refuses-all n p)
+
+  fault-twelve : (frame : ℕ) → MakeFault plan (length buffer) 12 frame → RuleRefuses plan frame
+  fault-twelve frame (inPlan e) = absurd (omega (arith, plan-gives plan .number 12 frame e))
+  fault-twelve frame (inLayout {q} a e) = absurd (omega (arith, layout-gives q .number 12 frame e))
+  fault-twelve frame (inRule {q} {l} a b e) = record { read = q; isRead = a; laid = l; isLaid = b; rule = e }
+  fault-twelve frame (inRoom a b c w e f) = absurd (omega (arith, e))
+
+  twelve-only : (frame : ℕ) → MakeRefuses 12 frame → (256 ≤ length rows) × RuleRefuses plan frame
+  twelve-only frame (inl h) = absurd (omega (arith, h .1))
+  twelve-only frame (inr h) = (h .0, fault-twelve frame (h .1))
+
+  -- 12 exactly where the latest-release rule refuses
+  pub twelve-exact : (frame : ℕ) → (make plan rows buffer .answer ≡ refuse 12 frame) ↔ ((256 ≤ length rows) × RuleRefuses plan frame)
+  twelve-exact frame = (
+    λ e. twelve-only frame (make-refuses 12 frame .0 e),
+    λ h. make-refuses 12 frame .1 (inr (h .0, inRule (h .1 .isRead) (h .1 .isLaid) (h .1 .rule))),
+  )

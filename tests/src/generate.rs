@@ -1,0 +1,138 @@
+//! Seeded cases: plans, tables and histories, good, near the limits and damaged. The same seed
+//! gives the same cases.
+
+mod damage;
+mod draft;
+mod histories;
+mod plans;
+mod random;
+mod tables;
+
+pub use damage::{break_plan_rule, break_table_rule, damage_bytes};
+pub use draft::{Draft, TableDraft, job_a, job_j};
+pub use histories::{History, Tick, broken_starting_modes, starting_modes};
+pub use plans::{Size, near_limit_plan, valid_plan};
+pub use random::Rng;
+pub use tables::{Made, made_plan, move_rows};
+
+use crate::MOST_FRAMES;
+use crate::station::Modes;
+
+#[derive(Clone, Debug)]
+pub struct MakeCase {
+    pub plan: Vec<u8>,
+    pub rows: usize,
+    pub room: usize,
+}
+
+#[derive(Clone, Debug)]
+pub struct CheckCase {
+    pub plan: Vec<u8>,
+    pub table: Vec<u8>,
+    pub rows: usize,
+}
+
+#[derive(Clone, Debug)]
+pub struct PlayCase {
+    pub plan: Vec<u8>,
+    pub table: Vec<u8>,
+    pub modes: Modes,
+}
+
+/// Longer than any table.
+pub const PLENTY: usize = 4_096;
+
+/// A plan file of any sort.
+pub fn plan_file(rng: &mut Rng) -> Vec<u8> {
+    match rng.below(10) {
+        0..3 => any_valid_plan(rng).bytes(),
+        3 => near_limit_plan(rng).bytes(),
+        4..9 => broken_plan(rng, 1),
+        _ => broken_plan(rng, 3),
+    }
+}
+
+fn any_valid_plan(rng: &mut Rng) -> Draft {
+    let size = Size::any(rng);
+    valid_plan(rng, &size)
+}
+
+fn broken_plan(rng: &mut Rng, most_faults: u32) -> Vec<u8> {
+    let mut draft = if rng.one_in(4) { near_limit_plan(rng) } else { any_valid_plan(rng) };
+    let mut cut = false;
+    for _ in 0..rng.between(1, most_faults) {
+        match rng.between(1, 12) {
+            1 => cut = true,
+            rule => break_plan_rule(rng, &mut draft, rule),
+        }
+    }
+    let mut bytes = draft.bytes();
+    if cut {
+        damage_bytes(rng, &mut bytes);
+    }
+    bytes
+}
+
+pub fn make_case(rng: &mut Rng) -> MakeCase {
+    let plan = plan_file(rng);
+    let room = match tables::Made::of(&plan) {
+        Some(made) if rng.one_in(2) => {
+            let length = made.table.bytes().len();
+            rng.pick(&[0, length / 2, length - 1, length, length + 9])
+        }
+        _ => PLENTY,
+    };
+    MakeCase { plan, rows: lent_rows(rng), room }
+}
+
+fn lent_rows(rng: &mut Rng) -> usize {
+    match rng.below(16) {
+        0 => rng.below(MOST_FRAMES),
+        1 => MOST_FRAMES + rng.below(50),
+        _ => MOST_FRAMES,
+    }
+}
+
+pub fn check_case(rng: &mut Rng) -> CheckCase {
+    let size = Size::any(rng);
+    let mut made = made_plan(rng, &size);
+    let plan = if rng.one_in(4) { plan_file(rng) } else { made.plan.clone() };
+    CheckCase { plan, table: any_table(rng, &mut made), rows: lent_rows(rng) }
+}
+
+/// A made table, a moved one, or a damaged one.
+fn any_table(rng: &mut Rng, made: &mut Made) -> Vec<u8> {
+    if rng.one_in(2) {
+        move_rows(rng, made);
+    }
+    if rng.one_in(4) {
+        return made.table.bytes();
+    }
+    for _ in 0..rng.pick(&[1, 1, 1, 2]) {
+        let rule = rng.between(21, 27);
+        break_table_rule(rng, made, rule);
+    }
+    let mut bytes = made.table.bytes();
+    if rng.one_in(6) {
+        damage_bytes(rng, &mut bytes);
+    }
+    bytes
+}
+
+pub fn play_case(rng: &mut Rng) -> PlayCase {
+    let size = Size::short(rng);
+    let mut made = made_plan(rng, &size);
+    let modes = if rng.one_in(4) {
+        broken_starting_modes(rng, &made.read_plan)
+    } else {
+        starting_modes(rng, &made.read_plan)
+    };
+    let table = if rng.one_in(8) {
+        any_table(rng, &mut made)
+    } else {
+        move_rows(rng, &mut made);
+        made.table.bytes()
+    };
+    let plan = if rng.one_in(16) { plan_file(rng) } else { made.plan };
+    PlayCase { plan, table, modes }
+}

@@ -1,0 +1,351 @@
+//! Plans that keep rules 1 to 5, most of them with a table.
+
+use super::draft::{Draft, job_a};
+use super::random::Rng;
+use crate::plan::{Bits, Connection, Invocation, LONGEST_PERIOD, Mode, Module, Task};
+use crate::{
+    FrameRow, MOST_CONNECTIONS, MOST_FRAMES, MOST_INVOCATIONS, MOST_MODES, MOST_MODULES,
+    MOST_NODES, MOST_TASKS, bus, plan,
+};
+
+/// How many things a plan has, and the period from which those of its senders are built.
+#[derive(Clone, Debug)]
+pub struct Size {
+    pub nodes: usize,
+    pub modules: usize,
+    pub modes: usize,
+    pub tasks: usize,
+    pub invocations: usize,
+    pub connections: usize,
+    pub base: u32,
+}
+
+const BASES: [u32; 14] =
+    [20, 36, 60, 120, 240, 360, 720, 1_000, 5_040, 20_000, 60_000, 100_000, 360_360, 720_720];
+
+impl Size {
+    pub fn any(rng: &mut Rng) -> Size {
+        match rng.below(4) {
+            0 => Size::up_to(rng, 3),
+            1 => Size::up_to(rng, 8),
+            2 => Size::up_to(rng, MOST_TASKS),
+            _ => Size { base: rng.pick(&BASES[4..]), ..Size::full(rng) },
+        }
+    }
+
+    /// A plan whose cycles are short enough to be played.
+    pub fn short(rng: &mut Rng) -> Size {
+        let tasks = rng.pick(&[3, 6, 12, MOST_TASKS]);
+        Size { base: rng.pick(&BASES[..8]), ..Size::up_to(rng, tasks) }
+    }
+
+    pub fn full(rng: &mut Rng) -> Size {
+        Size {
+            nodes: MOST_NODES,
+            modules: MOST_MODULES,
+            modes: MOST_MODES,
+            tasks: MOST_TASKS,
+            invocations: MOST_INVOCATIONS,
+            connections: MOST_CONNECTIONS,
+            base: rng.pick(&BASES[8..]),
+        }
+    }
+
+    fn up_to(rng: &mut Rng, most_tasks: usize) -> Size {
+        let mut count =
+            |least: u32, most: usize| rng.between(least, least.max(most as u32)) as usize;
+        let nodes = count(2, MOST_NODES.min(most_tasks));
+        let modules = count(2, MOST_MODULES.min(most_tasks));
+        Size {
+            nodes,
+            modules,
+            modes: count(modules as u32, MOST_MODES.min(2 * most_tasks)),
+            tasks: count(2, most_tasks),
+            invocations: count(1, 2 * most_tasks),
+            connections: count(1, 2 * most_tasks),
+            base: rng.pick(&BASES),
+        }
+    }
+}
+
+/// A plan that keeps rules 1 to 5. Modules that may send have periods built from the base, and
+/// their tasks may be read on other nodes; the others have any periods.
+pub fn valid_plan(rng: &mut Rng, size: &Size) -> Draft {
+    let mut draft = Draft { nodes: size.nodes as u8, ..Draft::default() };
+    draft.modules = modules(rng, size);
+    let senders: Vec<bool> =
+        (0..size.modules).map(|module| module == 0 || !rng.one_in(3)).collect();
+    draft.modes = modes(rng, size, &senders);
+    draft.tasks = tasks(rng, size);
+    draft.invocations = invocations(rng, size, &draft, &senders);
+    shorten_worst_times(rng, &mut draft);
+    draft.connections = connections(rng, size, &draft, &senders);
+    draft.bits = loose_bits();
+    draft.bits = fitting_bits(rng, &draft);
+    draft
+}
+
+/// Modules 0 and 1 stand on different nodes where there are two.
+fn modules(rng: &mut Rng, size: &Size) -> Vec<Module> {
+    let mut modules: Vec<Module> =
+        (0..size.modules).map(|_| Module { node: rng.below(size.nodes) as u8 }).collect();
+    if size.modules > 1 {
+        modules[1].node = (modules[0].node + 1) % size.nodes as u8;
+    }
+    modules
+}
+
+fn modes(rng: &mut Rng, size: &Size, senders: &[bool]) -> Vec<Mode> {
+    let mut modes: Vec<Mode> = (0..size.modes)
+        .map(|number| {
+            let module = if number < size.modules { number } else { rng.below(size.modules) };
+            let unit = if senders[module] { size.base } else { rng.between(1, 2 * size.base) };
+            let switch_period = times_within(rng, unit);
+            let period = times_within(rng, switch_period);
+            Mode { module: module as u8, period, switch_period }
+        })
+        .collect();
+    rng.shuffle(&mut modes);
+    modes
+}
+
+/// A small multiple that is no longer than a period may be.
+fn times_within(rng: &mut Rng, period: u32) -> u32 {
+    let times = rng.pick(&[1, 1, 1, 2, 3]);
+    if period * times <= LONGEST_PERIOD { period * times } else { period }
+}
+
+fn tasks(rng: &mut Rng, size: &Size) -> Vec<Task> {
+    (0..size.tasks)
+        .map(|number| {
+            let module = if number < 2 { number % size.modules } else { rng.below(size.modules) };
+            let size = rng.pick(&[1, 2, 4, 8, 3, 5, 7, 8]);
+            Task { module: module as u8, size, worst_time: LONGEST_PERIOD }
+        })
+        .collect()
+}
+
+/// Different pairs of a mode and a task of one module.
+fn invocations(rng: &mut Rng, size: &Size, draft: &Draft, senders: &[bool]) -> Vec<Invocation> {
+    let mut pairs: Vec<(usize, usize)> = (0..size.modes)
+        .flat_map(|mode| (0..size.tasks).map(move |task| (mode, task)))
+        .filter(|&(mode, task)| draft.modes[mode].module == draft.tasks[task].module)
+        .collect();
+    rng.shuffle(&mut pairs);
+    pairs.truncate(size.invocations);
+    let many = if size.tasks > 12 { 4 } else { 12 };
+    let mut invocations = Vec::new();
+    for (mode, task) in pairs {
+        let Mode { module, period, switch_period } = draft.modes[mode];
+        let longest = if senders[usize::from(module)] { size.base } else { switch_period };
+        let parts = rng.between(1, many);
+        let parts = if longest.is_multiple_of(parts) { parts } else { 1 };
+        let rate = (period / longest * parts) as u16;
+        invocations.push(Invocation { mode: mode as u8, task: task as u8, rate });
+    }
+    invocations
+}
+
+fn shorten_worst_times(rng: &mut Rng, draft: &mut Draft) {
+    let share = rng.pick(&[1, 2, 4, 8, 16]);
+    for run in &draft.invocations {
+        let period = draft.modes[usize::from(run.mode)].period / u32::from(run.rate);
+        let worst_time = &mut draft.tasks[usize::from(run.task)].worst_time;
+        *worst_time = (*worst_time).min(period);
+    }
+    for task in &mut draft.tasks {
+        let least_period = task.worst_time;
+        task.worst_time = rng.between(1, 1.max(least_period / share));
+        if rng.one_in(30) {
+            task.worst_time = least_period;
+        }
+    }
+}
+
+fn connections(rng: &mut Rng, size: &Size, draft: &Draft, senders: &[bool]) -> Vec<Connection> {
+    let mut connections: Vec<Connection> = (0..size.connections)
+        .map(|_| {
+            let producer = rng.below(size.tasks);
+            let may_send = senders[usize::from(draft.tasks[producer].module)];
+            let node = draft.node_of_task(producer);
+            let consumer = rng.below(size.tasks);
+            let stays = !may_send && draft.node_of_task(consumer) != node;
+            Connection {
+                producer: producer as u8,
+                consumer: if stays { producer } else { consumer } as u8,
+            }
+        })
+        .collect();
+    if size.connections > 0 && size.tasks > 1 {
+        connections[0] = Connection { producer: 0, consumer: 1 };
+    }
+    connections
+}
+
+/// No time is shorter than this bus's.
+fn loose_bits() -> Bits {
+    Bits {
+        kbits: 100_000,
+        overhead: 0,
+        least_payload: 0,
+        largest_payload: 254,
+        gap_bits: 0,
+        resolution: 1,
+    }
+}
+
+/// A bus that is loaded from little to a bit too much.
+fn fitting_bits(rng: &mut Rng, draft: &Draft) -> Bits {
+    let mut rows = [FrameRow::default(); MOST_FRAMES];
+    let asked = plan::read(&draft.bytes()).and_then(|plan| bus::derive(&plan, &mut rows));
+    let Ok(asked) = asked else { return draft.bits };
+    let rows = (asked.frames + asked.control.len()) as u32;
+    let room = asked.period / rows;
+    let time = (room * rng.pick(&[1, 2, 4, 7, 9]) / 10).max(1);
+    let resolution = resolution_within(rng, asked.period, time);
+    let least_payload = rng.pick(&[0, 0, 1, 4, 8]);
+    let overhead = rng.pick(&[0, 0, 1, 8, 64]);
+    let bytes = u32::from(overhead) + u32::from(least_payload.max(8));
+    let kbits = (8_000 * bytes).div_ceil(time).clamp(1, 100_000);
+    let gap_time = rng.pick(&[0, 0, time / 8, time / 3]);
+    Bits {
+        kbits,
+        overhead,
+        least_payload,
+        largest_payload: rng.pick(&[254, 254, 64, 16]),
+        gap_bits: (u64::from(kbits) * u64::from(gap_time) / 1_000).min(1_000) as u16,
+        resolution,
+    }
+}
+
+fn resolution_within(rng: &mut Rng, period: u32, time: u32) -> u32 {
+    let resolution = rng.between(1, time.min(1_000));
+    if period.is_multiple_of(resolution) { resolution } else { rng.pick(&[1, 1, 2]) }
+}
+
+/// A plan at a limit or just beside it.
+pub fn near_limit_plan(rng: &mut Rng) -> Draft {
+    match rng.below(7) {
+        0 => frames_near_limit(rng),
+        1 => {
+            let size = Size::full(rng);
+            valid_plan(rng, &size)
+        }
+        2 => extreme_bits(rng),
+        3 => tight_window(rng),
+        4 => control_near_period(rng),
+        5 => long_common_multiple(rng),
+        _ => counts_near_limits(rng),
+    }
+}
+
+/// Two nodes; task i of node 0 has `frames[i]` frames in a period of 720,720 ticks.
+fn plan_with_frames(frames: &[u32]) -> Draft {
+    let period = 720_720;
+    let mut draft = job_a();
+    draft.bits = loose_bits();
+    draft.modes = [0, 1].map(|module| Mode { module, period, switch_period: period }).to_vec();
+    draft.tasks = frames.iter().map(|_| Task { module: 0, size: 1, worst_time: 1 }).collect();
+    draft.tasks.push(Task { module: 1, size: 1, worst_time: 1 });
+    draft.invocations = (0..)
+        .zip(frames)
+        .map(|(task, &rate)| Invocation { mode: 0, task, rate: rate as u16 })
+        .collect();
+    let consumer = frames.len() as u8;
+    draft.connections = (0..consumer).map(|producer| Connection { producer, consumer }).collect();
+    draft
+}
+
+fn frames_near_limit(rng: &mut Rng) -> Draft {
+    let mut left = rng.between(254, 258);
+    let mut frames = Vec::new();
+    while left > 0 && frames.len() < MOST_TASKS - 1 {
+        let most = if frames.len() + 2 == MOST_TASKS { left } else { left.min(30) };
+        let some = rng.between(1, most);
+        if 720_720_u32.is_multiple_of(some) {
+            frames.push(some);
+            left -= some;
+        }
+    }
+    plan_with_frames(&frames)
+}
+
+fn extreme_bits(rng: &mut Rng) -> Draft {
+    let mut draft = plan_with_frames(&[1, 2, 3]);
+    let largest_payload = rng.often_extreme(1, 254);
+    draft.bits = Bits {
+        kbits: rng.often_extreme(1, 100_000),
+        overhead: rng.often_extreme(0, 64) as u16,
+        least_payload: rng.often_extreme(0, largest_payload) as u16,
+        largest_payload: largest_payload as u16,
+        gap_bits: rng.often_extreme(0, 1_000) as u16,
+        resolution: rng.pick(&[1, 1, 3, 7, 13, 720, 1_000]),
+    };
+    draft.tasks[0].size = rng.between(1, 8) as u8;
+    draft
+}
+
+/// Job B: the sending time just fits between worst time and deadline, or just not.
+fn tight_window(rng: &mut Rng) -> Draft {
+    let mut draft = job_a();
+    draft.tasks[0].worst_time = rng.between(19_902, 19_907);
+    draft.bits.resolution = rng.pick(&[1, 1, 2, 4, 8]);
+    draft.bits.gap_bits = rng.pick(&[0, 10, 1_000]);
+    draft
+}
+
+/// C is the bus period, or one tick beside it.
+fn control_near_period(rng: &mut Rng) -> Draft {
+    let mut draft = job_a();
+    let period = rng.pick(&[72, 100, 240, 600, 1_000]);
+    for mode in &mut draft.modes {
+        (mode.period, mode.switch_period) = (period, period);
+    }
+    draft.invocations.iter_mut().for_each(|run| run.rate = 1);
+    draft.tasks.iter_mut().for_each(|task| task.worst_time = 1);
+    let control = draft.bits.sending_time(1);
+    let left = period.saturating_sub(control);
+    draft.bits.gap_bits = rng.pick(&[left.saturating_sub(1), left, left + 1]).min(1_000) as u16;
+    draft
+}
+
+/// Periods whose common multiple does not fit into a machine number.
+fn long_common_multiple(rng: &mut Rng) -> Draft {
+    let primes = [999_983, 999_979, 999_961, 999_959, 999_953, 999_931, 65_537, 65_536];
+    let mut draft = plan_with_frames(&[1; 8]);
+    draft.nodes = 2;
+    draft.modules = (0..9).map(|module| Module { node: u8::from(module == 8) }).collect();
+    draft.modes = (0..9)
+        .map(|module| {
+            let period = if module == 8 { 1 } else { rng.pick(&primes) };
+            Mode { module, period, switch_period: period }
+        })
+        .collect();
+    for (module, task) in (0..).zip(&mut draft.tasks) {
+        task.module = module;
+    }
+    draft.invocations = (0..8).map(|task| Invocation { mode: task, task, rate: 1 }).collect();
+    draft
+}
+
+/// A full plan with one list a thing shorter or longer.
+fn counts_near_limits(rng: &mut Rng) -> Draft {
+    let size = Size::full(rng);
+    let mut draft = valid_plan(rng, &size);
+    let longer = rng.one_in(2);
+    match rng.below(5) {
+        0 => resize(&mut draft.modules, longer),
+        1 => resize(&mut draft.modes, longer),
+        2 => resize(&mut draft.tasks, longer),
+        3 => resize(&mut draft.invocations, longer),
+        _ => resize(&mut draft.connections, longer),
+    }
+    draft
+}
+
+fn resize<T: Copy>(things: &mut Vec<T>, longer: bool) {
+    let last = things.pop();
+    if longer {
+        things.extend([last, last].into_iter().flatten());
+    }
+}

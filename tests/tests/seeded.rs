@@ -1,0 +1,295 @@
+//! Seeded cases: every refusal is reached, and the answers agree with each other and with document
+//! 01 read word by word.
+
+use reference::bus::{Bus, derive};
+use reference::checker::DataRow;
+use reference::generate::{
+    self, CheckCase, History, MakeCase, PLENTY, PlayCase, Rng, Size, break_table_rule, made_plan,
+    move_rows, starting_modes,
+};
+use reference::plan::{self, Plan};
+use reference::{FrameRow, Refusal, Row, Station, check, make};
+use std::collections::BTreeMap;
+
+const MAKE_CASES: u64 = 60_000;
+const CHECK_CASES: u64 = 60_000;
+const PLAY_CASES: u64 = 3_000;
+const TICKS: usize = 1_500;
+
+const OLD_BYTE: u8 = 0x5a;
+const OLD_ROW: FrameRow = FrameRow { task: 9, release: 99, deadline: 999, start: 9_999 };
+
+/// Refused by the number of the refusal; not refused under 0.
+type Counts = BTreeMap<u32, usize>;
+
+fn count<T>(counts: &mut Counts, answer: &Result<T, Refusal>) {
+    let number = answer.as_ref().err().map_or(0, |refusal| refusal.number);
+    *counts.entry(number).or_default() += 1;
+}
+
+fn assert_reached(counts: &Counts, numbers: impl IntoIterator<Item = u32>) {
+    println!("{counts:?}");
+    for number in numbers {
+        assert!(counts.contains_key(&number), "{number} was not reached");
+    }
+}
+
+fn assert_rows_refused(rows: &[FrameRow], refusal: Refusal) {
+    let left = if refusal.number == 19 { OLD_ROW } else { FrameRow::default() };
+    assert!(rows.iter().all(|row| *row == left));
+}
+
+fn checked(plan: &[u8], table: &[u8]) -> Result<(), Refusal> {
+    check(plan, table, &mut [OLD_ROW; 256])
+}
+
+#[test]
+fn make_cases() {
+    let mut counts = Counts::new();
+    for seed in 0..MAKE_CASES {
+        let MakeCase { plan, rows, room } = generate::make_case(&mut Rng::new(seed));
+        let (mut rows, mut buffer) = (vec![OLD_ROW; rows], vec![OLD_BYTE; room]);
+        let made = make(&plan, &mut rows, &mut buffer);
+        count(&mut counts, &made);
+        let unchanged = made.unwrap_or(0);
+        assert!(buffer[unchanged..].iter().all(|&byte| byte == OLD_BYTE), "seed {seed}");
+        match made {
+            Err(refusal) => assert_rows_refused(&rows, refusal),
+            Ok(length) => {
+                let mut checked_rows = vec![OLD_ROW; rows.len()];
+                assert_eq!(
+                    check(&plan, &buffer[..length], &mut checked_rows),
+                    Ok(()),
+                    "seed {seed}"
+                );
+                assert_eq!(rows, checked_rows, "seed {seed}");
+            }
+        }
+    }
+    assert_reached(&counts, (0..=13).chain([19]));
+}
+
+#[test]
+fn check_cases() {
+    let mut counts = Counts::new();
+    for seed in 0..CHECK_CASES {
+        let CheckCase { plan, table, rows } = generate::check_case(&mut Rng::new(seed));
+        let mut rows = vec![OLD_ROW; rows];
+        let answer = check(&plan, &table, &mut rows);
+        count(&mut counts, &answer);
+        if let Err(refusal) = answer {
+            assert_rows_refused(&rows, refusal);
+        }
+    }
+    assert_reached(&counts, (0..=11).chain([19]).chain(20..=27));
+}
+
+/// Rows moved within their windows pass; a table with any fault does not.
+#[test]
+fn moved_tables() {
+    let mut counts = Counts::new();
+    for seed in 0..20_000 {
+        let rng = &mut Rng::new(seed);
+        let size = Size::any(rng);
+        let mut made = made_plan(rng, &size);
+        move_rows(rng, &mut made);
+        assert_eq!(checked(&made.plan, &made.table.bytes()), Ok(()), "seed {seed}");
+        let good = made.table.clone();
+        let rule = rng.between(21, 27);
+        break_table_rule(rng, &mut made, rule);
+        let answer = checked(&made.plan, &made.table.bytes());
+        count(&mut counts, &answer);
+        assert_eq!(answer.is_ok(), made.table == good, "seed {seed}, rule {rule}");
+    }
+    assert_reached(&counts, 21..=27);
+}
+
+#[test]
+fn frames_and_rule_word_by_word() {
+    let mut compared = 0;
+    for seed in 0..20_000 {
+        let rng = &mut Rng::new(seed);
+        let plan = generate::plan_file(rng);
+        let mut rows = [OLD_ROW; 256];
+        let Ok(read) = plan::read(&plan) else { continue };
+        let Ok(bus) = derive(&read, &mut rows) else { continue };
+        let frames = frames_word_by_word(&read, &bus);
+        assert_eq!(rows[..bus.frames], frames, "seed {seed}");
+        let made = make(&plan, &mut rows, &mut [0; PLENTY]);
+        match starts_word_by_word(&bus, &frames) {
+            Err(number) => {
+                assert_eq!(made, Err(Refusal { number: 12, place: number }), "seed {seed}")
+            }
+            Ok(placed) => assert_eq!(rows[..bus.frames], placed, "seed {seed}"),
+        }
+        compared += 1;
+    }
+    println!("{compared} plans compared");
+    assert!(compared > 1_000);
+}
+
+/// All messages, one frame for each pair, with the greatest of the releases.
+fn frames_word_by_word(plan: &Plan, bus: &Bus) -> Vec<FrameRow> {
+    let mut releases = BTreeMap::new();
+    for run in plan.invocations.iter().filter(|run| bus.tasks >> run.task & 1 == 1) {
+        let period = plan.period_of(run);
+        for message in 1..=bus.period / period {
+            let pair = (message * period, u32::from(run.task));
+            let release = (message - 1) * period + plan.task_of(run).worst_time;
+            let greatest = releases.entry(pair).or_insert(release);
+            *greatest = release.max(*greatest);
+        }
+    }
+    let frame = |((deadline, task), release)| FrameRow { task, release, deadline, start: 0 };
+    releases.into_iter().map(frame).collect()
+}
+
+/// The latest-release rule by scanning the frames left; on refusal the number of the frame taken.
+fn starts_word_by_word(bus: &Bus, frames: &[FrameRow]) -> Result<Vec<FrameRow>, usize> {
+    let mut placed = frames.to_vec();
+    let mut left: Vec<usize> = (0..frames.len()).collect();
+    let mut end = i64::from(bus.period);
+    while let Some(greatest) = left.iter().map(|&number| frames[number].deadline).max() {
+        end = end.min(i64::from(greatest));
+        let candidates =
+            left.iter().copied().filter(|&number| i64::from(frames[number].deadline) >= end);
+        let taken = candidates.max_by_key(|&number| (frames[number].release, number)).unwrap();
+        let FrameRow { task, release, .. } = frames[taken];
+        let latest = end - i64::from(bus.sending_times[task as usize]);
+        let start = latest.div_euclid(i64::from(bus.resolution)) * i64::from(bus.resolution);
+        if latest < 0 || start < i64::from(release) || start < i64::from(bus.control_end) {
+            return Err(taken);
+        }
+        placed[taken].start = start as u32;
+        left.retain(|&number| number != taken);
+        end = start - i64::from(bus.gap);
+    }
+    Ok(placed)
+}
+
+#[test]
+fn play_cases() {
+    let (mut counts, mut ticks) = (Counts::new(), Counts::new());
+    for seed in 0..PLAY_CASES {
+        let rng = &mut Rng::new(seed);
+        let PlayCase { plan, table, modes } = generate::play_case(rng);
+        let begun = Station::begin(&plan, &table, modes);
+        count(&mut counts, &begun);
+        match begun {
+            Err(refusal) if refusal.number == 40 => {
+                assert_eq!(checked(&plan, &table), Ok(()), "seed {seed}");
+            }
+            Err(refusal) => assert_eq!(checked(&plan, &table), Err(refusal), "seed {seed}"),
+            Ok(station) => {
+                let read = plan::read(&plan).unwrap();
+                let fault_in = rng.pick(&[Some(5), Some(50), None]);
+                let history = History::new(rng, &read, &modes, fault_in);
+                play(station, history, &consumers(&read), &mut ticks);
+            }
+        }
+    }
+    assert_reached(&counts, (20..=27).chain([0, 40]));
+    assert_reached(&ticks, [0, 41, 42, 43, 44]);
+}
+
+/// Tasks with the nodes that consume them.
+fn consumers(plan: &Plan) -> Vec<(usize, usize)> {
+    let connections = plan.connections.iter();
+    connections
+        .map(|connection| {
+            (connection.producer.into(), plan.node_of_task(connection.consumer).into())
+        })
+        .collect()
+}
+
+fn play(
+    mut station: Station,
+    mut history: History,
+    consumers: &[(usize, usize)],
+    ticks: &mut Counts,
+) {
+    for _ in 0..TICKS {
+        let (tick, expected) = history.next_tick();
+        let answer = station.tick(&tick.results, &tick.modes);
+        count(ticks, &answer);
+        assert_eq!(answer.map(|_| ()), expected);
+        for &(task, node) in consumers {
+            assert_eq!(station.shown(node, task), history.board().shown(task));
+        }
+    }
+}
+
+/// The rows that a station starts are the table's, each at its start, cycle after cycle.
+#[test]
+fn rows_started() {
+    for seed in 0..300 {
+        let rng = &mut Rng::new(seed);
+        let size = Size::short(rng);
+        let made = made_plan(rng, &size);
+        let modes = starting_modes(rng, &made.read_plan);
+        let mut station = Station::begin(&made.plan, &made.table.bytes(), modes).unwrap();
+        let mut history = History::new(rng, &made.read_plan, &modes, None);
+        let control = made.table.control.iter().copied().map(Row::from);
+        let rows: Vec<Row> =
+            control.chain(made.table.data.iter().copied().map(Row::from)).collect();
+        let starts: BTreeMap<u32, Row> = rows.iter().map(|row| (start_of(row), *row)).collect();
+        assert_eq!(starts.len(), rows.len());
+        for time in 0..2 * made.bus.period {
+            let (tick, _) = history.next_tick();
+            let answer = station.tick(&tick.results, &tick.modes);
+            assert_eq!(answer, Ok(starts.get(&(time % made.bus.period)).copied()), "seed {seed}");
+        }
+    }
+}
+
+fn start_of(row: &Row) -> u32 {
+    match *row {
+        Row::Control { start, .. } => start,
+        Row::Data { start, .. } => start,
+    }
+}
+
+/// A row alone, moved outside its window by one step of the resolution.
+#[test]
+fn moved_outside() {
+    for seed in 0..5_000 {
+        let rng = &mut Rng::new(seed);
+        let size = Size::any(rng);
+        let mut made = made_plan(rng, &size);
+        move_rows(rng, &mut made);
+        let index = rng.below(made.table.data.len());
+        let row = made.table.data[index];
+        let (release, time) = made.release_and_time(&row).unwrap();
+        let step = made.bus.resolution;
+        let record = 1 + made.table.control.len() + index;
+        if let Some(start) = release.next_multiple_of(step).checked_sub(step) {
+            made.table.data[index] = DataRow { start, stop: start + time, ..row };
+            let refusal = Refusal { number: 25, place: record };
+            assert_eq!(checked(&made.plan, &made.table.bytes()), Err(refusal), "seed {seed}");
+        }
+        let start = (row.deadline - time) / step * step + step;
+        made.table.data[index] = DataRow { start, stop: start + time, ..row };
+        let refusal = Refusal { number: 26, place: record };
+        assert_eq!(checked(&made.plan, &made.table.bytes()), Err(refusal), "seed {seed}");
+    }
+}
+
+/// Any bytes at all, and long files: an answer, no panic.
+#[test]
+fn any_bytes() {
+    for seed in 0..50_000 {
+        let rng = &mut Rng::new(seed);
+        let mut file: Vec<u8> = (0..rng.below(200)).map(|_| rng.below(20) as u8).collect();
+        if rng.one_in(2) {
+            let mut plan = generate::plan_file(rng);
+            file.iter().for_each(|_| generate::damage_bytes(rng, &mut plan));
+            file = plan;
+        }
+        let _ = make(&file, &mut [OLD_ROW; 256], &mut [0; PLENTY]);
+        let _ = checked(&generate::job_a().bytes(), &file);
+        let _ = Station::begin(&file, &file, [Some(0); 16]);
+    }
+    let many_modules = [[1; 17].as_slice(), &[2, 1], &[3; 2_000_000], &[0]].concat();
+    let refusal = Refusal { number: 2, place: 3 };
+    assert_eq!(make(&many_modules, &mut [OLD_ROW; 256], &mut []), Err(refusal));
+}
