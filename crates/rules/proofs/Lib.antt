@@ -16,3 +16,5 @@ pub mod TransparentOwn
 pub mod TransparentBus
 pub mod Room
 pub mod RecordsExact
+pub mod TransparentPlan
+pub mod Transparent

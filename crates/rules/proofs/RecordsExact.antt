@@ -170,6 +170,7 @@ module _ (follows : ℕ → ℕ → Bool) (refusal : ℕ) where
   -- it is refused exactly at the offset where it first breaks the record rules
   pub records-refused : (file : List ℕ) (n p : ℕ) → (records follows refusal file ≡ refuse n p) ↔ ((n ≡ refusal) × BreakRecords follows 0 0 file p)
   unfolding records
-  records-refused file n p =
-      (read-breaks file n p (sort-file (length file) 0 0 file (omega arith)),
-      λ h. break-read (h .1) ∙ ap (λ (m : ℕ). refuse m p) (sym (h .0)))
+  records-refused file n p = (
+    read-breaks file n p (sort-file (length file) 0 0 file (omega arith)),
+    λ h. break-read (h .1) ∙ ap (λ (m : ℕ). refuse m p) (sym (h .0)),
+  )
