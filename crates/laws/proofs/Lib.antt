@@ -11,3 +11,4 @@ pub mod Faults
 pub mod Refusals
 pub mod Bus
 pub mod Runs
+pub mod Places

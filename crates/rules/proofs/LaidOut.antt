@@ -111,7 +111,7 @@ pub record SendingMode (p : Plan) : Type 0 where
   pub sending : ofSender p (theMode p mode) ≡ true
 
 module _ (p : Plan) (k : PlanKept p) where
-  sender : (t : ℕ) → t < length (p .tasks) → isBusTask p t ≡ true → isSending p (theTask p t .home) ≡ true
+  pub sender : (t : ℕ) → t < length (p .tasks) → isBusTask p t ≡ true → isSending p (theTask p t .home) ≡ true
   unfolding isSending busTasks livesIn
   sender t w b =
       any-among (livesIn p (theTask p t .home))

@@ -13,5 +13,8 @@ pub mod Grid
 pub mod StationExact
 pub mod TransparentTick
 pub mod TransparentOwn
+pub mod TransparentBus
 pub mod Room
 pub mod RecordsExact
+pub mod TransparentPlan
+pub mod Transparent

@@ -100,7 +100,7 @@ module _ (k : Kept) (first : ℕ → ℕ) (t : ℕ) where
       period = k .modePeriod (s .mode (k .taskHome t))
 
       -- the three ways on: a change, a tick within the mode's period, its last tick
-      on-case : {C : Type 0}
+      pub on-case : {C : Type 0}
           → ((μ : ℕ) → i .change homeModule ≡ some μ → ModeOf k t μ → C)
           → (i .change homeModule ≡ none → taskAge k s t < period → C)
           → (i .change homeModule ≡ none → taskAge k s t ≡ period → C) → C
@@ -242,7 +242,7 @@ module _ (k : Kept) (first : ℕ → ℕ) (t : ℕ) where
           let r : runAge k s t ≡ T = run-age k s t ∙ run-ends T age (e .invoked) (e .released) (e .whole) in
           had-by (e .invoked) (e .released) (omega (arith, in-run (e .invoked)))
 
-      result-at-end : Ending k s t → tick k s i .out t ≡ boardResult T (i ∷ past)
+      pub result-at-end : Ending k s t → tick k s i .out t ≡ boardResult T (i ∷ past)
       result-at-end e =
           let r : suc ((age - 1) % T) ≡ T = omega (arith, run-ends T age (e .invoked) (e .released) (e .whole)) in
           result-now (e .invoked) (e .released) (had-at-end e) ∙ ap (λ (n : ℕ). boardResult n (i ∷ past)) r
@@ -274,7 +274,7 @@ module _ (k : Kept) (first : ℕ → ℕ) (t : ℕ) where
           which (inl q) = absurd (d (whole q))
           which (inr l) = taskAge-on k s i t e l
 
-      born : 0 < taskAge k (tick k s i) t
+      pub born : 0 < taskAge k (tick k s i) t
       born =
           on-case (h .timed)
           (λ μ e known. omega (arith, taskAge-new k s i t e))

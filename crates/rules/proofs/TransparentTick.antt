@@ -5,13 +5,15 @@ use mathlib.Core.List.{List, [], _∷_}
 use mathlib.Core.Option.{Option, none, some}
 use native.Mathlib.Omega.{arith}
 use lib.Dec.{eqb, ltb}
-use borrow.Author.Tests.{lt-ltb, le-ltb, eq-eqb, ne-eqb}
+use borrow.Author.Tests.{eqb-true, not-false, lt-ltb, le-ltb, eq-eqb, ne-eqb}
 use Prim.Native.Nat.{ℕ, zero, suc, _+_, _-_, _%_, _≤_, _<_, _∣_}
-use Rattle.laws.proofs.Lists.{true-false}
+use Rattle.laws.specs.Lists.{firstBad, upTo}
+use Rattle.laws.proofs.Lists.{true-false, both-left, both-right}
+use Rattle.laws.proofs.Loops.{firstBad-upTo-none, firstBad-upTo-some, firstBad-upTo-within, firstBad-upTo-fails}
 use Rattle.laws.proofs.Runs.{withinRun}
 use Rattle.laws.proofs.Tests.{Tests, by-iff, by-lt, by-divides, by-and}
 use Rattle.rules.specs.Playing.{Input, isGiven}
-use Rattle.rules.specs.Station.{Kept, State, homeNode, runPeriod, taskAge, runAge, isRunning, outAfter, landedAfter, heldAfter, endsNow, hasMessage, ownShows, otherShows, shownAfter, modeAfter, oneOn, ageAfter, givenAfter, modeByteAfter, fullAfter, loadAfter, tick}
+use Rattle.rules.specs.Station.{Kept, State, homeNode, runPeriod, taskAge, runAge, isRunning, outAfter, hasOther, rowWith, landsOn, landedAfter, isByteOf, heldAfter, endsNow, hasMessage, ownShows, otherShows, shownAfter, modeAfter, oneOn, ageAfter, givenAfter, startingControl, startingData, modeByteAfter, fullAfter, loadAfter, tick}
 use Rattle.rules.specs.OneBoard.{modeNow, sinceMode, periodNow, runEnds, resultWithin, value}
 
 -- a run ends at the tick to come
@@ -110,6 +112,130 @@ module _ (k : Kept) (s : State) (i : Input) where
       pub shown-still : endsNow k s t ≡ false → tick k s i .shown n t ≡ s .shown n t
       unfolding tick shownAfter ownShows otherShows
       shown-still e = rw e
+
+-- ---- (b) and (f): the rows that stop and start now
+
+-- a row has this time
+pub record RowAt (times : ℕ → ℕ) (count now r : ℕ) : Type 0 where
+  pub there : r < count
+  pub time : times r ≡ now
+
+module _ (times : ℕ → ℕ) (count now : ℕ) where
+  pub row-is : (r : ℕ) → rowWith times count now ≡ some r → RowAt times count now r
+  unfolding rowWith hasOther
+  row-is r e =
+      record {
+        there = firstBad-upTo-within (hasOther times now) count r e;
+        time = eqb-true (times r) now (not-false (eqb (times r) now) (firstBad-upTo-fails (hasOther times now) count r e));
+      }
+
+  pub row-none : ((r : ℕ) → r < count → times r ≡ now → ⊥) → rowWith times count now ≡ none
+  unfolding rowWith hasOther
+  row-none h = firstBad-upTo-none (hasOther times now) count (λ r w. rw (ne-eqb (times r) now (h r w)))
+
+  pub row-found : (r : ℕ) → RowAt times count now r → ((j : ℕ) → j < r → times j ≡ now → ⊥) → rowWith times count now ≡ some r
+  unfolding rowWith hasOther
+  row-found r h other =
+      firstBad-upTo-some (hasOther times now) count r (h .there) (rw (eq-eqb (times r) now (h .time)))
+      (λ j w. rw (ne-eqb (times j) now (other j w)))
+
+module _ (k : Kept) (s : State) (i : Input) where
+  -- control frames: what they bring, and what they take
+  module _ (m : ℕ) where
+    abbrev IsByte : ℕ → Type 0
+    IsByte r = (k .sends m ≡ true) × (k .moduleNode m ≡ k .controlNode r)
+
+    is-byte : (r : ℕ) → IsByte r → isByteOf k m r ≡ true
+    unfolding isByteOf
+    is-byte r h = rw (h .0, eq-eqb (k .moduleNode m) (k .controlNode r) (h .1))
+
+    pub held-found : (n r : ℕ) → rowWith (k .controlStop) (k .controls) (s .clock) ≡ some r → k .sends m ≡ true
+        → k .moduleNode m ≡ k .controlNode r → (k .moduleNode m ≡ n → ⊥) → tick k s i .held n m ≡ s .modeByte m
+    unfolding tick heldAfter
+    held-found n r e a b d = rw (e, is-byte r (a, b), ne-eqb (k .moduleNode m) n d)
+
+    pub held-either : {C : Type 0} (n : ℕ) → (tick k s i .held n m ≡ s .held n m → C) → (tick k s i .held n m ≡ s .modeByte m → C) → C
+    unfolding tick heldAfter
+    held-either {C} n old new = go (rowWith (k .controlStop) (k .controls) (s .clock)) refl
+      where
+        pick : (b : Bool) → tick k s i .held n m ≡ cond b (s .modeByte m) (s .held n m) → C
+        pick true e = new e
+        pick false e = old e
+
+        go : (o : Option ℕ) → rowWith (k .controlStop) (k .controls) (s .clock) ≡ o → C
+        go none e = old (rw e)
+        go (some r) e = pick (isByteOf k m r && not (eqb (k .moduleNode m) n)) (rw e)
+
+    pub byte-found : (r : ℕ) → startingControl k s ≡ some r → k .sends m ≡ true → k .moduleNode m ≡ k .controlNode r
+        → tick k s i .modeByte m ≡ tick k s i .mode m
+    unfolding tick modeByteAfter
+    byte-found r e a b = rw (e, is-byte r (a, b))
+
+    pub byte-either : {C : Type 0} → (tick k s i .modeByte m ≡ s .modeByte m → C) → (tick k s i .modeByte m ≡ tick k s i .mode m → C) → C
+    unfolding tick modeByteAfter
+    byte-either {C} old new = go (startingControl k s) refl
+      where
+        pick : (b : Bool) → tick k s i .modeByte m ≡ cond b (modeAfter s i m) (s .modeByte m) → C
+        pick true e = new e
+        pick false e = old e
+
+        go : (o : Option ℕ) → startingControl k s ≡ o → C
+        go none e = old (rw e)
+        go (some r) e = pick (isByteOf k m r) (rw e)
+
+  -- data frames
+  module _ (n t : ℕ) where
+    pub landed-found : (r : ℕ) → rowWith (k .dataStop) (k .datas) (s .clock) ≡ some r → k .dataTask r ≡ t → s .full ≡ true
+        → (homeNode k t ≡ n → ⊥) → tick k s i .landed n t ≡ s .load
+    unfolding tick landedAfter landsOn
+    landed-found r e q f d = rw (e, f, eq-eqb (k .dataTask r) t q, ne-eqb (homeNode k t) n d)
+
+    pub landed-either : {C : Type 0} → (tick k s i .landed n t ≡ s .landed n t → C)
+        → ((r : ℕ) → RowAt (k .dataStop) (k .datas) (s .clock) r → k .dataTask r ≡ t → s .full ≡ true → tick k s i .landed n t ≡ s .load → C)
+        → C
+    unfolding tick landedAfter landsOn
+    landed-either {C} old new = go (rowWith (k .dataStop) (k .datas) (s .clock)) refl
+      where
+        pick : (r : ℕ) → rowWith (k .dataStop) (k .datas) (s .clock) ≡ some r → (b : Bool) → landsOn k s n t r ≡ b
+            → tick k s i .landed n t ≡ cond b (s .load) (s .landed n t) → C
+        pick r q true l e =
+            let rest = both-right (s .full) (eqb (k .dataTask r) t && not (eqb (homeNode k t) n)) l in
+            new r (row-is (k .dataStop) (k .datas) (s .clock) r q)
+            (eqb-true (k .dataTask r) t (both-left (eqb (k .dataTask r) t) (not (eqb (homeNode k t) n)) rest))
+            (both-left (s .full) (eqb (k .dataTask r) t && not (eqb (homeNode k t) n)) l)
+            e
+        pick r q false l e = old e
+
+        go : (o : Option ℕ) → rowWith (k .dataStop) (k .datas) (s .clock) ≡ o → C
+        go none e = old (rw e)
+        go (some r) e = pick r e (landsOn k s n t r) refl (rw e)
+
+  pub full-found : (r : ℕ) → startingData k s ≡ some r
+      → tick k s i .full ≡ hasMessage k (k .dataTask r) (tick k s i .mode (k .taskHome (k .dataTask r))) (k .dataDeadline r)
+  unfolding tick fullAfter
+  full-found r e = rw e
+
+  pub full-none : startingData k s ≡ none → tick k s i .full ≡ s .full
+  unfolding tick fullAfter
+  full-none e = rw e
+
+  pub load-found : (r : ℕ) → startingData k s ≡ some r → tick k s i .load ≡ tick k s i .out (k .dataTask r)
+  unfolding tick loadAfter
+  load-found r e = rw e
+
+  pub load-none : startingData k s ≡ none → tick k s i .load ≡ s .load
+  unfolding tick loadAfter
+  load-none e = rw e
+
+-- P is time 0 of the next cycle
+pub starting-control : (k : Kept) (s : State) (now : ℕ) → s .clock % k .period ≡ now
+    → startingControl k s ≡ rowWith (k .controlStart) (k .controls) now
+unfolding startingControl
+starting-control k s now e = rw e
+
+pub starting-data : (k : Kept) (s : State) (now : ℕ) → s .clock % k .period ≡ now → startingData k s ≡ rowWith (k .dataStart) (k .datas) now
+unfolding startingData
+starting-data k s now e = rw e
 
 -- ---- the task's period and age
 

@@ -1,0 +1,283 @@
+-- Demand 3. For every plan, table and starting modes with which a station begins, and every history of ticks that are all accepted:
+-- on every node that consumes a task of another node, and on each task's own node, the value shown is the one board's.
+use mathlib.Core.Path.{_≡_, refl, sym, ap, _∙_, subst}
+use mathlib.Core.Bool.{Bool, true, false, cond, not, _&&_}
+use mathlib.Core.List.{List, [], _∷_}
+use mathlib.Core.Logic.{_⊎_, inl, inr}
+use mathlib.Core.Option.{Option, none, some, Option·getD}
+use native.Mathlib.Omega.{arith}
+use borrow.Author.Tests.{ltb-true, eqb-true, eqb-false, eq-eqb, ne-eqb, lt-ltb, not-true}
+use lib.Dec.{eqb, ltb}
+use lib.ListN.{length}
+use Prim.Native.Nat.{ℕ, zero, suc, _≤_, _<_}
+use Rattle.laws.specs.Res.{Res, ok, refuse, _>>=_, _>>_, at}
+use Rattle.laws.specs.Lists.{any, firstBad, upTo}
+use Rattle.laws.proofs.Lists.{true-false, both, both-left, both-right, neither-left, neither-right, tested}
+use Rattle.laws.proofs.Loops.{firstBad-upTo-passes}
+use Rattle.laws.proofs.Members.{all-member, all-getD, any-member, any-among}
+use Rattle.laws.proofs.Res.{ok-injective, bind-case, then-case, at-ok}
+use Rattle.rules.specs.Plan.{Plan, Invocation, Connection, readPlan, noTask, theTask}
+use Rattle.rules.specs.Frames.{moduleNode, taskNode, invokes, leaves, isBusTask, Layout, layoutOf}
+use Rattle.rules.specs.Checker.{TableRead, Passed, passed, tableOf}
+use Rattle.rules.specs.Playing.{modulePlaces, Input, isRun, periodAmong, periodIn}
+use Rattle.rules.specs.Station.{Kept, State, Ticked, Begun, keptOf, stateAtStart, homeNode, runPeriod, endsNow, isModeOf, holdsModeOf, startsWell, step, tick, begin}
+use Rattle.rules.specs.OneBoard.{value}
+use Rattle.rules.specs.Obeys.{MayTick, ObeysTable, Passes}
+use Rattle.rules.specs.History.{played, homeIn, firstIn, boardValue, brings, consumes}
+use Rattle.rules.proofs.CheckerExact.{passed-says, passed-passes}
+use Rattle.rules.proofs.PlanKept.{PlanKept, readable-kept}
+use Rattle.rules.proofs.LaidOut.{LaidOut, laid-out}
+use Rattle.rules.proofs.StationExact.{Accepted, step-accepted}
+use Rattle.rules.proofs.TransparentTick.{Ending, ending-tests, shown-still, value-still}
+use Rattle.rules.proofs.TransparentOwn.{ModeOf, FairTask, board, Own, ends-same, own-on, own-start}
+use Rattle.rules.proofs.TransparentBus.{FairBus, Sent, sent-on, sent-start}
+use Rattle.rules.proofs.TransparentPlan.{keptFor, fair-task, fair-bus}
+
+-- ---- what a beginning tells
+
+pub record Beginning (plan table : List ℕ) (starting : ℕ → Option ℕ) (b : Begun) : Type 0 where
+  pub read : Plan
+  pub isRead : readPlan plan ≡ ok read
+  pub kept : PlanKept read
+  pub laid : Layout
+  pub isLaid : LaidOut read laid
+  pub rows : TableRead
+  pub obeys : ObeysTable (layoutOf read) rows
+  pub is : b ≡ record { kept = keptFor read rows; state = stateAtStart starting }
+  pub starts : (m : ℕ) → m < modulePlaces → startsWell (keptFor read rows) starting m ≡ true
+
+-- the checker's answer, with the plan's layout in its place
+passed-is : (plan table : List ℕ) (c : Passed) → passed plan table ≡ ok c → (h : Passes plan table)
+    → c ≡ record { layout = layoutOf (h .read); table = tableOf (h .rows) }
+passed-is plan table c e h =
+    let same : record { layout = h .laid; table = tableOf (h .rows) } ≡ c = ok-injective (sym (passed-passes plan table h) ∙ e) in
+    sym same
+    ∙ ap (λ (l : Layout). record { layout = l; table = tableOf (h .rows) }) (sym (laid-out (h .read) (h .laid) (h .isLaid) .is))
+
+pub begun : (plan table : List ℕ) (starting : ℕ → Option ℕ) (b : Begun) → begin plan table starting ≡ ok b → Beginning plan table starting b
+unfolding begin
+begun plan table starting b e =
+    bind-case (passed plan table) _ e λ c isPassed e₁.
+    then-case (at 40 0 (firstBad (startsWell (keptOf c) starting) (upTo modulePlaces))) _ e₁ λ _ a₄₀ e₂.
+    let h = passed-says plan table c isPassed in
+    let laid = laid-out (h .read) (h .laid) (h .isLaid) in
+    let same = passed-is plan table c isPassed h in
+    let starts : (m : ℕ) → m < modulePlaces → startsWell (keptOf c) starting m ≡ true =
+    λ m w. firstBad-upTo-passes (startsWell (keptOf c) starting) modulePlaces m (at-ok 40 0 (firstBad (startsWell (keptOf c) starting) (upTo modulePlaces)) a₄₀) w in
+    record {
+      read = h .read;
+      isRead = h .isRead;
+      kept = readable-kept plan (h .read) (h .isRead);
+      laid = h .laid;
+      isLaid = laid;
+      rows = tableOf (h .rows);
+      obeys = subst (λ (l : Layout). ObeysTable l (tableOf (h .rows))) (sym (laid .is)) (h .obeys);
+      is = sym (ok-injective e₂) ∙ ap (λ (c : Passed). record { kept = keptOf c; state = stateAtStart starting }) same;
+      starts = subst (λ (c : Passed). (m : ℕ) → m < modulePlaces → startsWell (keptOf c) starting m ≡ true) same starts;
+    }
+
+-- a module's starting place holds a mode of its own
+pub first-mode : (k : Kept) (starting : ℕ → Option ℕ) (t : ℕ) → k .taskHome t < k .modules → startsWell k starting (k .taskHome t) ≡ true
+    → ModeOf k t (firstIn starting (k .taskHome t))
+unfolding startsWell firstIn isModeOf
+first-mode k starting t w = go (starting (k .taskHome t))
+  where
+    go : (o : Option ℕ) → holdsModeOf k (k .taskHome t) o ≡ true → ModeOf k t (Option·getD o 0)
+    go none e = true-false (sym (lt-ltb (k .taskHome t) (k .modules) w) ∙ not-true (ltb (k .taskHome t) (k .modules)) e)
+    go (some μ) e =
+        let rest = both-right (ltb (k .taskHome t) (k .modules)) (ltb μ (k .modes) && eqb (k .modeHome μ) (k .taskHome t)) e in
+        record {
+          there = ltb-true μ (k .modes) (both-left (ltb μ (k .modes)) (eqb (k .modeHome μ) (k .taskHome t)) rest);
+          own = eqb-true (k .modeHome μ) (k .taskHome t) (both-right (ltb μ (k .modes)) (eqb (k .modeHome μ) (k .taskHome t)) rest);
+        }
+
+-- ---- along a history
+
+module _ (k : Kept) (starting : ℕ → Option ℕ) where
+  -- what the beginning has, and each accepted tick keeps, holds behind every accepted history
+  pub along : (Holds : State → List Input → Type 0) → Holds (stateAtStart starting) []
+      → ((s : State) (i : Input) (past : List Input) → MayTick k s i → Holds s past → Holds (tick k s i) (i ∷ past))
+      → (history : List Input) (s : State) → played k (stateAtStart starting) history ≡ ok s → Holds s history
+  unfolding played
+  along Holds start on [] s e = subst (λ (s : State). Holds s []) (ok-injective e) start
+  along Holds start on (i ∷ past) s e =
+      bind-case (played k (stateAtStart starting) past) _ e λ before p e₁.
+      bind-case (step k before i) _ e₁ λ a q e₂.
+      let accepted = step-accepted k before i a q in
+      subst (λ (s : State). Holds s (i ∷ past)) (sym (accepted .is) ∙ ok-injective e₂)
+      (on before i past (accepted .may) (along Holds start on past before p))
+
+  module _ (t : ℕ) (fair : FairTask k t) (first : ModeOf k t (firstIn starting (k .taskHome t))) where
+    pub own-along : (history : List Input) (s : State) → played k (stateAtStart starting) history ≡ ok s → Own k (firstIn starting) t s history
+    own-along =
+        along (Own k (firstIn starting) t) (own-start k starting t first)
+        (λ s i past may h. own-on k (firstIn starting) t fair s i past may h)
+
+    module _ (n : ℕ) where
+      pub record Both (bus : FairBus k t) (s : State) (past : List Input) : Type 0 where
+        pub own : Own k (firstIn starting) t s past
+        pub sent : Sent k (firstIn starting) t n (bus .control) s past
+
+      pub sent-along : (bus : FairBus k t) → (homeNode k t ≡ n → ⊥) → (history : List Input) (s : State)
+          → played k (stateAtStart starting) history ≡ ok s → s .shown n t ≡ board k (firstIn starting) t history
+      sent-along bus away history s e =
+          along (Both bus) (record { own = own-start k starting t first; sent = sent-start k starting t n (bus .control) })
+          (λ s i past may h. record {
+            own = own-on k (firstIn starting) t fair s i past may (h .own);
+            sent = sent-on k (firstIn starting) t n fair bus away s i past may (h .own) (h .sent);
+          })
+          history s e
+          .sent .shows
+
+      -- a task that no mode invokes is shown as zero, and the board has zero
+      pub record Idle (s : State) (past : List Input) : Type 0 where
+        pub own : Own k (firstIn starting) t s past
+        pub shows : s .shown n t ≡ board k (firstIn starting) t past
+
+      idle-on : ((μ : ℕ) → k .run μ t ≡ 0) → (s : State) (i : Input) (past : List Input) → MayTick k s i → Idle s past → Idle (tick k s i) (i ∷ past)
+      unfolding runPeriod
+      idle-on none-runs s i past may h =
+          let quiet : endsNow k s t ≡ false = never (tested (endsNow k s t)) in
+          record {
+            own = own-on k (firstIn starting) t fair s i past may (h .own);
+            shows =
+                shown-still k s i t n quiet ∙ h .shows
+                ∙ sym (value-still (k .taskHome) (k .run) (firstIn starting) i past t (ends-same k (firstIn starting) t fair s i past may (h .own .timed) ∙ quiet));
+          }
+        where
+          idle : runPeriod k s t ≡ 0
+          idle = none-runs (s .mode (k .taskHome t))
+
+          never : (endsNow k s t ≡ true) ⊎ (endsNow k s t ≡ false) → endsNow k s t ≡ false
+          never (inl e) = absurd (omega (arith, ending-tests k s t .says e .invoked, idle))
+          never (inr e) = e
+
+      pub idle-along : ((μ : ℕ) → k .run μ t ≡ 0) → (history : List Input) (s : State)
+          → played k (stateAtStart starting) history ≡ ok s → s .shown n t ≡ board k (firstIn starting) t history
+      unfolding stateAtStart value
+      idle-along none-runs history s e =
+          along Idle (record { own = own-start k starting t first; shows = refl }) (idle-on none-runs) history s e .shows
+
+-- ---- who consumes
+
+module _ (p : Plan) (n t : ℕ) (h : consumes p n t ≡ true) where
+  pub consumed-away : taskNode p t ≡ n → ⊥
+  unfolding consumes
+  consumed-away =
+      eqb-false (taskNode p t) n (not-true (eqb (taskNode p t) n) (both-right (any (brings p n t) (p .connections)) (not (eqb (taskNode p t) n)) h))
+
+  consumer : (c : Connection) → brings p n t c ≡ true → (c .producer ≡ t) × (taskNode p (c .consumer) ≡ n)
+  unfolding brings
+  consumer c e = (
+    eqb-true (c .producer) t (both-left (eqb (c .producer) t) (eqb (taskNode p (c .consumer)) n) e),
+    eqb-true (taskNode p (c .consumer)) n (both-right (eqb (c .producer) t) (eqb (taskNode p (c .consumer)) n) e),
+  )
+
+  pub consumed-there : PlanKept p → t < length (p .tasks)
+  unfolding consumes
+  consumed-there kept =
+      let f = any-member (brings p n t) (p .connections) (both-left (any (brings p n t) (p .connections)) (not (eqb (taskNode p t) n)) h) in
+      rw (← consumer (f .one) (f .passes) .0) (all-member (kept .connections) (f .among) .producer)
+
+  pub consumed-leaves : any (leaves p t) (p .connections) ≡ true
+  unfolding consumes leaves
+  consumed-leaves =
+      let f = any-member (brings p n t) (p .connections) (both-left (any (brings p n t) (p .connections)) (not (eqb (taskNode p t) n)) h) in
+      let c = consumer (f .one) (f .passes) in
+      let apart : taskNode p (f .one .consumer) ≡ taskNode p t → ⊥ = λ e. consumed-away (sym e ∙ c .1) in
+      any-among (leaves p t) (f .among) (rw (eq-eqb (f .one .producer) t (c .0), ne-eqb (taskNode p (f .one .consumer)) (taskNode p t) apart))
+
+-- a task without an invocation runs in no mode
+uninvoked : (p : Plan) (is : List Invocation) (μ t : ℕ) → any (invokes t) is ≡ false → periodAmong p is μ t ≡ 0
+unfolding periodAmong isRun invokes
+uninvoked p [] μ t e = refl
+uninvoked p (i ∷ is) μ t e =
+    let here : eqb (i .task) t ≡ false = neither-left (eqb (i .task) t) (any (invokes t) is) e in
+    rw (here, neither (eqb (i .mode) μ)) (uninvoked p is μ t (neither-right (eqb (i .task) t) (any (invokes t) is) e))
+  where
+    neither : (b : Bool) → (b && false) ≡ false
+    neither true = refl
+    neither false = refl
+
+is-bus : (p : Plan) (t : ℕ) → any (invokes t) (p .invocations) ≡ true → any (leaves p t) (p .connections) ≡ true → isBusTask p t ≡ true
+unfolding isBusTask
+is-bus p t a b = both a b
+
+fair-home : (p : Plan) → PlanKept p → (t : ℕ) → t < length (p .tasks) → theTask p t .home < length (p .modules)
+unfolding theTask
+fair-home p kept t w = all-getD noTask (kept .tasks) t w .home
+
+-- ---- demand 3
+
+module _ (plan table : List ℕ) (starting : ℕ → Option ℕ) (b : Begun) (begins : begin plan table starting ≡ ok b)
+    (p : Plan) (reads : readPlan plan ≡ ok p) (history : List Input) (s : State) (plays : played (b .kept) (b .state) history ≡ ok s) where
+  facts : Beginning plan table starting b
+  facts = begun plan table starting b begins
+
+  same-plan : facts .read ≡ p
+  same-plan = ok-injective (sym (facts .isRead) ∙ reads)
+
+  plays-on : played (keptFor (facts .read) (facts .rows)) (stateAtStart starting) history ≡ ok s
+  plays-on = subst (λ (b : Begun). played (b .kept) (b .state) history ≡ ok s) (facts .is) plays
+
+  module _ (t : ℕ) (w : t < length (facts .read .tasks)) where
+    fair : FairTask (keptFor (facts .read) (facts .rows)) t
+    fair = fair-task (facts .read) (facts .kept) (facts .rows) t w
+
+    first : ModeOf (keptFor (facts .read) (facts .rows)) t (firstIn starting (keptFor (facts .read) (facts .rows) .taskHome t))
+    unfolding keptOf layoutOf
+    first =
+        first-mode (keptFor (facts .read) (facts .rows)) starting t (home (facts .kept))
+        (facts .starts (theTask (facts .read) t .home) (fair .modulePlace))
+      where
+        home : PlanKept (facts .read) → theTask (facts .read) t .home < length (facts .read .modules)
+        home kept = fair-home (facts .read) kept t w
+
+    shows-own : s .shown (taskNode (facts .read) t) t ≡ boardValue (facts .read) starting t history
+    unfolding keptOf layoutOf homeNode taskNode boardValue homeIn
+    shows-own = own-along (keptFor (facts .read) (facts .rows)) starting t fair first history s plays-on .shows
+
+    shows-bus : isBusTask (facts .read) t ≡ true → (n : ℕ) → (taskNode (facts .read) t ≡ n → ⊥)
+        → s .shown n t ≡ boardValue (facts .read) starting t history
+    unfolding keptOf layoutOf homeNode taskNode boardValue homeIn
+    shows-bus bus n away =
+        sent-along (keptFor (facts .read) (facts .rows)) starting t fair first n
+        (fair-bus (facts .read) (facts .kept) (facts .isLaid) (facts .rows) (facts .obeys) t w bus) away history s plays-on
+
+    shows-idle : any (invokes t) (facts .read .invocations) ≡ false → (n : ℕ) → s .shown n t ≡ boardValue (facts .read) starting t history
+    unfolding keptOf layoutOf boardValue homeIn periodIn
+    shows-idle quiet n =
+        idle-along (keptFor (facts .read) (facts .rows)) starting t fair first n
+        (λ μ. uninvoked (facts .read) (facts .read .invocations) μ t quiet) history s plays-on
+
+  -- on a task's own node
+  pub transparent-own : (t : ℕ) → t < length (p .tasks) → s .shown (taskNode p t) t ≡ boardValue p starting t history
+  transparent-own t =
+      subst (λ (p : Plan). t < length (p .tasks) → s .shown (taskNode p t) t ≡ boardValue p starting t history) same-plan (shows-own t)
+
+  -- a bus task, on every node
+  pub transparent-bus : (n t : ℕ) → t < length (p .tasks) → isBusTask p t ≡ true → s .shown n t ≡ boardValue p starting t history
+  transparent-bus n t =
+      subst (λ (p : Plan). t < length (p .tasks) → isBusTask p t ≡ true → s .shown n t ≡ boardValue p starting t history) same-plan
+      (λ w bus. where-it-is w bus (tested (eqb (taskNode (facts .read) t) n)))
+    where
+      where-it-is : t < length (facts .read .tasks) → isBusTask (facts .read) t ≡ true
+          → (eqb (taskNode (facts .read) t) n ≡ true) ⊎ (eqb (taskNode (facts .read) t) n ≡ false)
+          → s .shown n t ≡ boardValue (facts .read) starting t history
+      where-it-is w bus (inl e) =
+          subst (λ (n : ℕ). s .shown n t ≡ boardValue (facts .read) starting t history) (eqb-true (taskNode (facts .read) t) n e) (shows-own t w)
+      where-it-is w bus (inr e) = shows-bus t w bus n (eqb-false (taskNode (facts .read) t) n e)
+
+  -- on every node that consumes a task of another node
+  pub transparent : (n t : ℕ) → consumes p n t ≡ true → s .shown n t ≡ boardValue p starting t history
+  transparent n t =
+      subst (λ (p : Plan). consumes p n t ≡ true → s .shown n t ≡ boardValue p starting t history) same-plan
+      (λ c. invoked-or-not c (tested (any (invokes t) (facts .read .invocations))))
+    where
+      invoked-or-not : consumes (facts .read) n t ≡ true
+          → (any (invokes t) (facts .read .invocations) ≡ true) ⊎ (any (invokes t) (facts .read .invocations) ≡ false)
+          → s .shown n t ≡ boardValue (facts .read) starting t history
+      invoked-or-not c (inl e) =
+          shows-bus t (consumed-there (facts .read) n t c (facts .kept)) (is-bus (facts .read) t e (consumed-leaves (facts .read) n t c)) n
+          (consumed-away (facts .read) n t c)
+      invoked-or-not c (inr e) = shows-idle t (consumed-there (facts .read) n t c (facts .kept)) e n
