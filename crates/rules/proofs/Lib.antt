@@ -11,5 +11,6 @@ pub mod RefusalNumbers
 pub mod MadePasses
 pub mod Grid
 pub mod StationExact
+pub mod StationStays
 pub mod TransparentTick
 pub mod TransparentOwn
