@@ -3,18 +3,17 @@ use mathlib.Core.Path.{_≡_}
 use mathlib.Core.Bool.{Bool, true, false, _&&_}
 use mathlib.Core.List.{List, [], _∷_}
 use native.Mathlib.Nat.{le-refl}
-use native.Mathlib.Omega.{arith}
 use lib.Dec.{T, leb, eqb, lit≤}
 use lib.ListN.{length}
 use Prim.Native.Nat.{ℕ, zero, suc}
 use Rattle.laws.specs.Res.{Res, ok, refuse}
 use Rattle.laws.specs.Lists.{firstBad, upTo}
 use Rattle.laws.specs.Numbers.{divides}
-use Rattle.laws.proofs.Refusals.{Gives, gives-ok, gives-refuse, gives-unless, gives-at, gives-then, gives-bind}
+use Rattle.laws.proofs.Refusals.{Gives, gives-ok, gives-refuse, gives-unless, gives-at, gives-then, gives-bind, gives-within}
 use Rattle.rules.specs.Records.{Rec, known, recordOf, bodyLength, before, ended, walk, records, planFollows, tableFollows}
 use Rattle.rules.specs.Plan.{Plan, count, countFits, namesAreThere, numbersAreWithin, hasMode, switchDivides, invocationKeeps, firstMode, firstInvocation, planOf, rule5, readPlan}
 use Rattle.rules.specs.Frames.{someBusTask, busPeriod, switchGrid, frames, mostFrames, payloadsFit, controlEnd, Layout, layout, layoutOf}
-use Rattle.rules.specs.Checker.{TableRead, headerRight, controlKept, namesNewFrame, timeKept, releaseKept, deadlineKept, gapKept, firstRow, judged, rowsKeep}
+use Rattle.rules.specs.Checker.{TableRead, tableOf, passed, headerRight, controlKept, namesNewFrame, timeKept, releaseKept, deadlineKept, gapKept, firstRow, judged, rowsKeep}
 
 module _ (follows : ℕ → ℕ → Bool) (refusal : ℕ) where
   abbrev Gives-it : Res (List Rec) → Type 0
@@ -53,13 +52,10 @@ five-gives p =
     (gives-then (gives-at 5 (firstMode p) (firstBad switchDivides (p .modes)) (lit≤ tt) (lit≤ tt))
     (gives-at 5 (firstInvocation p) (firstBad (invocationKeeps p) (upTo (length (p .invocations)))) (lit≤ tt) (lit≤ tt)))
 
-wider : {A : Type 0} {m : Res A} → Gives 1 1 m → Gives 1 5 m
-wider h = record { number = λ n p e. let w = h .number n p e in (w .0, omega (arith, w .1)) }
-
 pub plan-gives : (file : List ℕ) → Gives 1 5 (readPlan file)
 unfolding readPlan
 plan-gives file =
-    gives-bind (wider (records-give planFollows 1 file)) λ rs.
+    gives-bind (gives-within (lit≤ tt) (lit≤ tt) (records-give planFollows 1 file)) λ rs.
     gives-then (gives-at 2 2 (firstBad (countFits rs) (upTo 6)) (lit≤ tt) (lit≤ tt))
     (gives-then (gives-at 3 0 (firstBad (namesAreThere (count rs)) rs) (lit≤ tt) (lit≤ tt))
     (gives-then (gives-at 4 0 (firstBad numbersAreWithin rs) (lit≤ tt) (lit≤ tt))
@@ -88,3 +84,11 @@ judged-gives l t =
     (gives-then (rows-give 24 t (timeKept l t) tt tt)
     (gives-then (rows-give 25 t (releaseKept l t) tt tt)
     (gives-then (rows-give 26 t (deadlineKept t) tt tt) (rows-give 27 t (gapKept l t) tt tt))))))
+
+pub passed-gives : (plan table : List ℕ) → Gives 1 27 (passed plan table)
+unfolding passed
+passed-gives plan table =
+    gives-bind (gives-within (lit≤ tt) (lit≤ tt) (plan-gives plan)) λ p.
+    gives-bind (gives-within (lit≤ tt) (lit≤ tt) (layout-gives p)) λ l.
+    gives-bind (gives-within (lit≤ tt) (lit≤ tt) (records-give tableFollows 20 table)) λ rs.
+    gives-then (gives-within (lit≤ tt) (lit≤ tt) (judged-gives l (tableOf rs))) (gives-ok _)
