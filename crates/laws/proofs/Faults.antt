@@ -84,7 +84,7 @@ module _ (r : Rule) (test : ℕ → Bool) (means : (k : ℕ) → k < r .places �
 abbrev pub once : ℕ → ℕ → Type 0 → Rule
 once number place P = record { number = number; first = place; places = 1; asks = λ k. P }
 
-unless-refused : (number place : ℕ) (b : Bool) (n p : ℕ) → unless number place b ≡ refuse n p → (b ≡ false) × (number ≡ n) × (place ≡ p)
+pub unless-refused : (number place : ℕ) (b : Bool) (n p : ℕ) → unless number place b ≡ refuse n p → (b ≡ false) × (number ≡ n) × (place ≡ p)
 unless-refused number place true n p e = refuse≢ok (sym e)
 unless-refused number place false n p e = (refl, refuse-number e, refuse-place e)
 

@@ -2,20 +2,35 @@
 -- range test means; that an accepted tick stays within; that a beginning is within.
 use mathlib.Core.Path.{_≡_, refl, sym, ap, _∙_, subst}
 use mathlib.Core.Bool.{Bool, true, false, cond, not, _&&_, _||_}
+use mathlib.Core.List.{List, [], _∷_}
+use mathlib.Core.Logic.{_⊎_, inl, inr, _↔_}
 use mathlib.Core.Option.{Option, none, some, Option·getD}
-use native.Mathlib.Nat.{pow-le-pow-right}
+use native.Mathlib.Nat.{pow-le-pow-right, div-le-self}
 use native.Mathlib.Omega.{arith}
+use borrow.Author.Tests.{eqb-true}
 use lib.Dec.{eqb, leb, ltb, lit<}
-use Prim.Native.Nat.{ℕ, zero, suc, _+_, _≤_, _<_, _^_}
-use Rattle.laws.specs.Res.{Res, ok, refuse}
+use lib.ListN.{length, getD, List·getD-eq-default}
+use Prim.Native.Nat.{ℕ, zero, suc, _+_, _≤_, _<_, _^_, zero-le}
+use Rattle.laws.specs.Res.{Res, ok, refuse, _>>=_, _>>_, unless}
 use Rattle.laws.specs.Lists.{all, firstBad, upTo}
+use Rattle.laws.proofs.Lists.{both-left}
 use Rattle.laws.proofs.Loops.{firstBad-upTo-within}
+use Rattle.laws.proofs.Res.{ok-injective, bind-case, then-refused}
 use Rattle.laws.proofs.Tests.{Tests, by-iff, by-le, by-lt, by-eq, by-and, by-implies, by-all-upTo}
-use Rattle.rules.specs.Frames.{mostFrames}
-use Rattle.rules.specs.Playing.{nodePlaces, modulePlaces, modePlaces, taskPlaces, Input, isGiven}
+use Rattle.laws.proofs.Orders.{le-or-lt}
+use Rattle.laws.proofs.Members.{all-weaker, all-getD, all-getD-or}
+use Rattle.laws.proofs.Faults.{by-failed, by-fails, unless-refused}
+use Rattle.rules.specs.Plan.{Mode, Task, Invocation, Plan, noMode, noTask, theMode, theTask, periodOf}
+use Rattle.rules.specs.Frames.{moduleNode, busPeriod, ControlRow, noControlRow, controlRows, Layout, layoutOf, mostFrames}
+use Rattle.rules.specs.LatestRelease.{noFrame}
+use Rattle.rules.specs.Table.{DataRow}
+use Rattle.rules.specs.Checker.{TableRead, tableOf, controlAt, noDataRow, rowAt, Passed, passed}
+use Rattle.rules.specs.Playing.{nodePlaces, modulePlaces, modePlaces, taskPlaces, Input, isGiven, isRun, periodAmong, periodIn}
 use Rattle.rules.specs.Station.{
   Kept,
+  keptOf,
   State,
+  stateAtStart,
   outAfter,
   hasOther,
   rowWith,
@@ -40,7 +55,10 @@ use Rattle.rules.specs.Station.{
   tick,
   Ticked,
   step,
+  Begun,
+  begin,
 }
+use Rattle.rules.specs.History.{played}
 use Rattle.rules.specs.StationRange.{
   isBetween,
   mostTime,
@@ -63,9 +81,11 @@ use Rattle.rules.specs.StationRange.{
   inRange,
   ticked,
 }
-use Rattle.rules.specs.Obeys.{MayChange, MayTick}
-use Rattle.rules.proofs.PlanKept.{Between}
-use Rattle.rules.proofs.StationExact.{step-accepted}
+use Rattle.rules.specs.Obeys.{frameAt, ObeysTable, MayChange, MayTick, StartsRight}
+use Rattle.rules.proofs.PlanKept.{Between, PlanKept, readable-kept}
+use Rattle.rules.proofs.LaidOut.{LaidOut, laid-out, period-kept, frames-kept, control-kept, control-count}
+use Rattle.rules.proofs.CheckerExact.{passed-says, passed-passes}
+use Rattle.rules.proofs.StationExact.{step-accepted, numbers-of-ticks, begin-exact}
 
 -- ---- what is within its range
 
@@ -388,3 +408,210 @@ tick-stays k s i a e q =
 pub in-range-steps : (k : Kept) (s : State) (i : Input) → inRange k s ≡ true → ticked k s i ≡ step k s i
 unfolding ticked
 in-range-steps k s i e = rw e
+
+-- ---- a beginning is within
+
+record ModeWithin (p : Plan) (μ : Mode) : Type 0 where
+  home : μ .home < length (p .modules)
+  period : μ .period ≤ 1000000
+  switch : μ .switch ≤ 1000000
+
+record TaskWithin (p : Plan) (t : Task) : Type 0 where
+  home : t .home < length (p .modules)
+  size : t .size ≤ 8
+  worst : t .worst ≤ 1000000
+
+module _ (p : Plan) (kept : PlanKept p) where
+  mode-begins : (μ : ℕ) → ModeWithin p (theMode p μ)
+  unfolding theMode
+  mode-begins =
+      all-getD-or {P = ModeWithin p} noMode
+      (all-weaker (λ μ h. record { home = h .home; period = h .period .most; switch = h .switch .most }) (kept .modes))
+      (record { home = kept .moduleCount .least; period = zero-le; switch = zero-le })
+
+  mode-there : (μ : ℕ) → μ < length (p .modes) → (0 < theMode p μ .period) × (0 < theMode p μ .switch)
+  unfolding theMode
+  mode-there μ w = let h = all-getD noMode (kept .modes) μ w in (h .period .least, h .switch .least)
+
+  task-begins : (t : ℕ) → TaskWithin p (theTask p t)
+  unfolding theTask
+  task-begins =
+      all-getD-or {P = TaskWithin p} noTask
+      (all-weaker (λ t h. record { home = h .home; size = h .size .most; worst = h .worst .most }) (kept .tasks))
+      (record { home = kept .moduleCount .least; size = zero-le; worst = zero-le })
+
+  task-there : (t : ℕ) → t < length (p .tasks) → (0 < theTask p t .size) × (0 < theTask p t .worst)
+  unfolding theTask
+  task-there t w = let h = all-getD noTask (kept .tasks) t w in (h .size .least, h .worst .least)
+
+  node-begins : (m : ℕ) → moduleNode p m < nodePlaces
+  unfolding moduleNode
+  node-begins =
+      all-getD-or {P = λ n. n < nodePlaces} 0 (all-weaker (λ n h. omega (arith, h, kept .nodeCount .most)) (kept .modules)) (lit< tt)
+
+-- a run's period is at most its mode's
+run-begins : (p : Plan) (is : List Invocation) (μ t : ℕ) → periodAmong p is μ t ≤ theMode p μ .period
+unfolding periodAmong isRun periodOf
+run-begins p [] μ t = zero-le
+run-begins p (i ∷ is) μ t = go (isRun μ t i) refl (run-begins p is μ t)
+  where
+    go : (b : Bool) → isRun μ t i ≡ b → periodAmong p is μ t ≤ theMode p μ .period
+        → cond b (periodOf p i) (periodAmong p is μ t) ≤ theMode p μ .period
+    go true e rest =
+        let same : i .mode ≡ μ = eqb-true (i .mode) μ (both-left (eqb (i .mode) μ) (eqb (i .task) t) e) in
+        rw same (div-le-self (theMode p μ .period) (i .rate))
+    go false e rest = rest
+
+-- a row of a table that passes lies within P and names what is there; behind the rows all is zero
+record ControlWithin (p : Plan) (r : ControlRow) : Type 0 where
+  node : r .node < nodePlaces
+  start : r .start ≤ busPeriod p
+  stop : r .stop ≤ busPeriod p
+
+record DataWithin (p : Plan) (r : DataRow) : Type 0 where
+  task : r .task < length (p .tasks)
+  deadline : r .deadline ≤ busPeriod p
+  start : r .start ≤ busPeriod p
+  stop : r .stop ≤ busPeriod p
+
+module _ (p : Plan) (kept : PlanKept p) {l : Layout} (laid : LaidOut p l) (t : TableRead) (obeys : ObeysTable (layoutOf p) t) where
+  control-row : (r : ℕ) → r < length (t .control) → ControlWithin p (controlAt (t .control) r)
+  unfolding layoutOf controlAt
+  control-row r w =
+      let many : r < length (controlRows p) = omega (arith, w, obeys .header .controlRows) in
+      let h = all-getD noControlRow (control-kept p) r many in
+      rw (obeys .control r w)
+      (record {
+        node = omega (arith, h .node, kept .nodeCount .most);
+        start = omega (arith, h .start, h .stop, laid .room);
+        stop = omega (arith, h .stop, laid .room);
+      })
+
+  control-begins : (r : ℕ) → ControlWithin p (controlAt (t .control) r)
+  unfolding controlAt
+  control-begins r = go (le-or-lt (length (t .control)) r)
+    where
+      go : (length (t .control) ≤ r) ⊎ (r < length (t .control)) → ControlWithin p (controlAt (t .control) r)
+      go (inl h) = rw (List·getD-eq-default (t .control) noControlRow h) (record { node = lit< tt; start = zero-le; stop = zero-le })
+      go (inr w) = control-row r w
+
+  data-row : (r : ℕ) → r < length (t .rows) → DataWithin p (rowAt t r)
+  unfolding layoutOf frameAt
+  data-row r w =
+      let n = obeys .names r w in
+      let f = all-getD noFrame (frames-kept p kept) (n .frame) (n .names .there) in
+      let task : rowAt t r .task < length (p .tasks) = omega (arith, n .names .task, f .task) in
+      let deadline : rowAt t r .deadline ≤ busPeriod p = omega (arith, n .names .deadline, f .deadline) in
+      let stop : rowAt t r .stop ≤ busPeriod p = omega (arith, obeys .inTime r w) in
+      record { task = task; deadline = deadline; start = omega (arith, obeys .time r w .stop (n .frame) (n .names)); stop = stop }
+
+  data-begins : (r : ℕ) → DataWithin p (rowAt t r)
+  unfolding rowAt
+  data-begins r = go (le-or-lt (length (t .rows)) r)
+    where
+      go : (length (t .rows) ≤ r) ⊎ (r < length (t .rows)) → DataWithin p (rowAt t r)
+      go (inl h) =
+          rw (List·getD-eq-default (t .rows) noDataRow h)
+          (record { task = kept .taskCount .least; deadline = zero-le; start = zero-le; stop = zero-le })
+      go (inr w) = data-row r w
+
+  kept-of-plan : KeptIn (keptOf (record { layout = layoutOf p; table = t }))
+  unfolding keptOf layoutOf mostTime mostFrames periodIn
+  kept-of-plan =
+      record {
+        moduleCount = kept .moduleCount;
+        modeCount = kept .modeCount;
+        taskCount = kept .taskCount;
+        period = period-kept p kept laid;
+        controlCount = omega (arith, obeys .header .controlRows, control-count p, kept .nodeCount .most);
+        dataCount = omega (arith, obeys .header .dataRows, laid .few);
+        modules = λ m w. node-begins p kept m;
+        modes = λ μ w. let h = mode-begins p kept μ in record { home = h .home; period = h .period; switch = h .switch; there = mode-there p kept μ };
+        tasks = λ u w. let h = task-begins p kept u in record { home = h .home; size = h .size; worst = h .worst; there = task-there p kept u };
+        runs = λ μ w u v. run-begins p (p .invocations) μ u;
+        controls = λ r w. let h = control-begins r in record { node = h .node; start = h .start; stop = h .stop };
+        datas =
+            λ r w. let h = data-begins r in
+            record { task = h .task; deadline = h .deadline; start = h .start; stop = h .stop };
+      }
+
+-- what a station keeps of a table that passes
+pub kept-begins : (plan table : List ℕ) (c : Passed) → passed plan table ≡ ok c → KeptIn (keptOf c)
+kept-begins plan table c e =
+    let h = passed-says plan table c e in
+    let same = ok-injective (sym (passed-passes plan table h) ∙ e) in
+    let laid = laid-out (h .read) (h .laid) (h .isLaid) in
+    let t = tableOf (h .rows) in
+    subst (λ (c : Passed). KeptIn (keptOf c)) same
+    (subst (λ (l : Layout). ObeysTable l t → KeptIn (keptOf (record { layout = l; table = t }))) (laid .is)
+    (kept-of-plan (h .read) (readable-kept plan (h .read) (h .isRead)) laid t)
+    (h .obeys))
+
+module _ (k : Kept) (kept : KeptIn k) (starting : ℕ → Option ℕ) (starts : (m : ℕ) → m < modulePlaces → StartsRight k starting m) where
+  -- the mode that is started with
+  abbrev first : ℕ → ℕ
+  first m = Option·getD (starting m) 0
+
+  first-is : (m : ℕ) → m < modulePlaces → m < k .modules → (first m < k .modes) × (k .modeHome (first m) ≡ m)
+  first-is m w v = let h = starts m w .own v in rw (h .1) (h .2, h .3)
+
+  first-there : (m : ℕ) → m < modulePlaces → first m < k .modes
+  first-there m w = go (le-or-lt (k .modules) m)
+    where
+      go : (k .modules ≤ m) ⊎ (m < k .modules) → first m < k .modes
+      go (inl h) = rw (starts m w .later h) (kept .modeCount .least)
+      go (inr v) = first-is m w v .0
+
+  state-begins : StateIn k (stateAtStart starting)
+  unfolding stateAtStart
+  state-begins =
+      record {
+        clock = zero-le;
+        load = lit< tt;
+        plays = λ m w. record { mode = first-there m w; own = λ v. first-is m w v .1; age = zero-le; byte = kept .modeCount .least };
+        boxes = λ t w. lit< tt;
+        landed = λ n v t w. lit< tt;
+        shown = λ n v t w. lit< tt;
+        held = λ n v m w. kept .modeCount .least;
+      }
+
+-- a beginning gives a station in range
+pub begin-in-range : (plan table : List ℕ) (starting : ℕ → Option ℕ) (b : Begun) → begin plan table starting ≡ ok b
+    → inRange (b .kept) (b .state) ≡ true
+begin-in-range plan table starting b e =
+    let h = begin-exact plan table starting b .0 e in
+    let kept = kept-begins plan table (h .played) (h .passes) in
+    rw (h .is)
+    (range-tests (keptOf (h .played)) (stateAtStart starting) .passes (kept, state-begins (keptOf (h .played)) kept starting (h .starts)))
+
+-- and it stays in range however it is played
+played-in-range : (k : Kept) (s : State) (past : List Input) (now : State) → inRange k s ≡ true → played k s past ≡ ok now → inRange k now ≡ true
+unfolding played
+played-in-range k s [] now h e = rw (← ok-injective e) h
+played-in-range k s (i ∷ past) now h e =
+    bind-case (played k s past) _ e λ before done e₁.
+    bind-case (step k before i) _ e₁ λ a accepted e₂.
+    rw (← ok-injective e₂) (tick-stays k before i a (played-in-range k s past before h done) accepted)
+
+pub stays-in-range : (plan table : List ℕ) (starting : ℕ → Option ℕ) (b : Begun) (past : List Input) (now : State)
+    → begin plan table starting ≡ ok b → played (b .kept) (b .state) past ≡ ok now → inRange (b .kept) now ≡ true
+stays-in-range plan table starting b past now e = played-in-range (b .kept) (b .state) past now (begin-in-range plan table starting b e)
+
+-- so refusal 40 never comes to a station that comes from a beginning
+pub never-forty : (plan table : List ℕ) (starting : ℕ → Option ℕ) (b : Begun) (past : List Input) (now : State) (i : Input)
+    → begin plan table starting ≡ ok b → played (b .kept) (b .state) past ≡ ok now → ticked (b .kept) now i ≡ step (b .kept) now i
+never-forty plan table starting b past now i e h = in-range-steps (b .kept) now i (stays-in-range plan table starting b past now e h)
+
+-- and to any other station value it comes exactly where a number is outside its range, at 0
+pub tick-forty : (k : Kept) (s : State) (i : Input) (p : ℕ) → (ticked k s i ≡ refuse 40 p) ↔ ((KeptIn k × StateIn k s → ⊥) × (p ≡ 0))
+unfolding ticked
+tick-forty k s i p = (refuses, refused)
+  where
+    refuses : ticked k s i ≡ refuse 40 p → (KeptIn k × StateIn k s → ⊥) × (p ≡ 0)
+    refuses e =
+        then-refused (unless 40 0 (inRange k s)) (step k s i) e
+        (λ f. let r = unless-refused 40 0 (inRange k s) 40 p f in (by-failed (range-tests k s) (r .0), sym (r .2)))
+        (λ u f g. absurd (omega (arith, numbers-of-ticks k s i .number 40 p g)))
+
+    refused : (KeptIn k × StateIn k s → ⊥) × (p ≡ 0) → ticked k s i ≡ refuse 40 p
+    refused h = rw (by-fails (range-tests k s) (h .0), h .1)
