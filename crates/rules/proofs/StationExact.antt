@@ -6,14 +6,13 @@ use mathlib.Core.List.{List, [], _∷_}
 use mathlib.Core.Logic.{_⊎_, inl, inr, _↔_}
 use mathlib.Core.Option.{Option, none, some}
 use native.Mathlib.Omega.{arith}
-use lib.Dec.{eqb, leb, ltb, lit≤}
+use lib.Dec.{ltb, lit≤}
 use lib.ListN.{getD}
 use borrow.Author.Tests.{not-true}
-use Prim.Native.Nat.{ℕ, _+_, _≤_, _<_, _∣_, _^_}
-use Rattle.laws.specs.Res.{Res, ok, refuse, _>>=_, _>>_, at}
+use Prim.Native.Nat.{ℕ, _+_, _≤_, _<_, _^_}
+use Rattle.laws.specs.Res.{ok, refuse, at}
 use Rattle.laws.specs.Lists.{firstBad, upTo}
-use Rattle.laws.specs.Numbers.{divides}
-use Rattle.laws.specs.Faults.{Rule, IsKept, AllKept, BreaksAt, FirstFault}
+use Rattle.laws.specs.Faults.{Rule, AllKept, BreaksAt, FirstFault}
 use Rattle.laws.proofs.Lists.{true-false, both-left, both-right}
 use Rattle.laws.proofs.Res.{refuse≢ok, bind-case, then-case, bind-refused, then-refused, then-refuse, ok-injective}
 use Rattle.laws.proofs.Tests.{Tests, by-iff, by-le, by-lt, by-eq, by-divides, by-and, by-not, Oks}
@@ -22,34 +21,7 @@ use Rattle.laws.proofs.Faults.{Exact, exact-rule, exact-then, fault-of-rule, ru
 use Rattle.laws.proofs.Refusals.{Gives, gives-ok, gives-at, gives-then}
 use Rattle.rules.specs.Playing.{modulePlaces, taskPlaces, Input, isGiven}
 use Rattle.rules.specs.Checker.{Passed, passed}
-use Rattle.rules.specs.Station.{
-  Kept,
-  keptOf,
-  State,
-  stateAtStart,
-  runPeriod,
-  taskAge,
-  runAge,
-  isRunning,
-  isAwaited,
-  resultAwaited,
-  fitsIn,
-  resultFits,
-  isLastChance,
-  resultInTime,
-  isModeOf,
-  maySwitch,
-  mayTake,
-  changeAllowed,
-  judgedTick,
-  tick,
-  started,
-  step,
-  Ticked,
-  startsWell,
-  Begun,
-  begin,
-}
+use Rattle.rules.specs.Station.{Kept, keptOf, State, runPeriod, taskAge, runAge, isRunning, isAwaited, resultAwaited, fitsIn, resultFits, isLastChance, resultInTime, isModeOf, maySwitch, mayTake, changeAllowed, judgedTick, tick, started, step, Ticked, startsWell, Begun, begin}
 use Rattle.rules.specs.Obeys.{
   noRule,
   IsRunning,

@@ -1,18 +1,17 @@
 -- StationStays: a station that comes from a beginning holds no number outside its range, so refusal 40 never comes to it. What each
 -- range test means; that an accepted tick stays within; that a beginning is within.
-use mathlib.Core.Path.{_≡_, refl, sym, ap, _∙_, subst}
-use mathlib.Core.Bool.{Bool, true, false, cond, not, _&&_, _||_}
+use mathlib.Core.Path.{_≡_, refl, sym, _∙_, subst}
+use mathlib.Core.Bool.{Bool, true, false, cond, not, _&&_}
 use mathlib.Core.List.{List, [], _∷_}
 use mathlib.Core.Logic.{_⊎_, inl, inr, _↔_}
 use mathlib.Core.Option.{Option, none, some, Option·getD}
 use native.Mathlib.Nat.{pow-le-pow-right, div-le-self}
 use native.Mathlib.Omega.{arith}
 use borrow.Author.Tests.{eqb-true}
-use lib.Dec.{eqb, leb, ltb, lit<}
-use lib.ListN.{length, getD, List·getD-eq-default}
-use Prim.Native.Nat.{ℕ, zero, suc, _+_, _≤_, _<_, _^_, zero-le}
-use Rattle.laws.specs.Res.{Res, ok, refuse, _>>=_, _>>_, unless}
-use Rattle.laws.specs.Lists.{all, firstBad, upTo}
+use lib.Dec.{eqb, ltb, lit<}
+use lib.ListN.{length, List·getD-eq-default}
+use Prim.Native.Nat.{ℕ, _+_, _≤_, _<_, _^_, zero-le}
+use Rattle.laws.specs.Res.{ok, refuse, unless}
 use Rattle.laws.proofs.Lists.{both-left}
 use Rattle.laws.proofs.Loops.{firstBad-upTo-within}
 use Rattle.laws.proofs.Res.{ok-injective, bind-case, then-refused}
@@ -81,7 +80,7 @@ use Rattle.rules.specs.StationRange.{
   inRange,
   ticked,
 }
-use Rattle.rules.specs.Obeys.{frameAt, ObeysTable, MayChange, MayTick, StartsRight}
+use Rattle.rules.specs.Obeys.{frameAt, ObeysTable, MayTick, StartsRight}
 use Rattle.rules.proofs.PlanKept.{Between, PlanKept, readable-kept}
 use Rattle.rules.proofs.LaidOut.{LaidOut, laid-out, period-kept, frames-kept, control-kept, control-count}
 use Rattle.rules.proofs.CheckerExact.{passed-says, passed-passes}
