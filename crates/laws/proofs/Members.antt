@@ -55,6 +55,12 @@ module _ {A : Type 0} where
     all-getD d (also p r) zero h = p
     all-getD d (also p r) (suc k) h = all-getD d r k (le-of-suc-le-suc h)
 
+    -- what also holds of the default holds at every place
+    pub all-getD-or : {l : List A} (d : A) → All P l → P d → (k : ℕ) → P (getD l k d)
+    all-getD-or d empty q k = q
+    all-getD-or d (also p r) q zero = p
+    all-getD-or d (also p r) q (suc k) = all-getD-or d r q k
+
     pub all-of-places : (l : List A) (d : A) → ((k : ℕ) → k < length l → P (getD l k d)) → All P l
     all-of-places [] d h = empty
     all-of-places (x ∷ l) d h = also (h zero (suc-le-suc zero-le)) (all-of-places l d (λ k w. h (suc k) (suc-le-suc w)))

@@ -32,3 +32,7 @@ module _ {low high : ℕ} where
 
     pub gives-bind : {m : Res A} {f : A → Res B} → Gives low high m → ((a : A) → Gives low high (f a)) → Gives low high (_>>=_ m f)
     gives-bind {m} {f} s t = record { number = λ n p e. bind-refused m f e (s .number n p) (λ a _ g. t a .number n p g) }
+
+-- one range of numbers within another
+pub gives-within : {low high l h : ℕ} {A : Type 0} {m : Res A} → low ≤ l → h ≤ high → Gives l h m → Gives low high m
+gives-within a b g = record { number = λ n p e. let w = g .number n p e in (omega (arith, w .0), omega (arith, w .1)) }

@@ -8,8 +8,8 @@ use Prim.Native.Nat.{ℕ}
 use Rattle.laws.specs.Res.{Res}
 use Rattle.laws.specs.Lists.{firstBad, upTo}
 use Rattle.laws.specs.Numbers.{divides}
-use Rattle.laws.proofs.Refusals.{Gives, gives-ok, gives-unless, gives-at, gives-then, gives-bind}
-use Rattle.rules.specs.Records.{records, planFollows}
+use Rattle.laws.proofs.Refusals.{Gives, gives-ok, gives-unless, gives-at, gives-then, gives-bind, gives-within}
+use Rattle.rules.specs.Records.{records, planFollows, tableFollows}
 use Rattle.rules.specs.Plan.{
   Plan,
   count,
@@ -48,6 +48,8 @@ use Rattle.rules.specs.Checker.{
   gapKept,
   firstRow,
   judged,
+  tableOf,
+  passed,
   rowsKeep,
 }
 use Rattle.rules.proofs.RecordsExact.{records-refused}
@@ -63,13 +65,10 @@ five-gives p =
     (gives-then (gives-at 5 (firstMode p) (firstBad switchDivides (p .modes)) (lit≤ tt) (lit≤ tt))
     (gives-at 5 (firstInvocation p) (firstBad (invocationKeeps p) (upTo (length (p .invocations)))) (lit≤ tt) (lit≤ tt)))
 
-wider : {A : Type 0} {m : Res A} → Gives 1 1 m → Gives 1 5 m
-wider h = record { number = λ n p e. let w = h .number n p e in (w .0, omega (arith, w .1)) }
-
 pub plan-gives : (file : List ℕ) → Gives 1 5 (readPlan file)
 unfolding readPlan
 plan-gives file =
-    gives-bind (wider (records-give planFollows 1 file)) λ rs.
+    gives-bind (gives-within (lit≤ tt) (lit≤ tt) (records-give planFollows 1 file)) λ rs.
     gives-then (gives-at 2 2 (firstBad (countFits rs) (upTo 6)) (lit≤ tt) (lit≤ tt))
     (gives-then (gives-at 3 0 (firstBad (namesAreThere (count rs)) rs) (lit≤ tt) (lit≤ tt))
     (gives-then (gives-at 4 0 (firstBad numbersAreWithin rs) (lit≤ tt) (lit≤ tt))
@@ -98,3 +97,11 @@ judged-gives l t =
     (gives-then (rows-give 24 t (timeKept l t) tt tt)
     (gives-then (rows-give 25 t (releaseKept l t) tt tt)
     (gives-then (rows-give 26 t (deadlineKept t) tt tt) (rows-give 27 t (gapKept l t) tt tt))))))
+
+pub passed-gives : (plan table : List ℕ) → Gives 1 27 (passed plan table)
+unfolding passed
+passed-gives plan table =
+    gives-bind (gives-within (lit≤ tt) (lit≤ tt) (plan-gives plan)) λ p.
+    gives-bind (gives-within (lit≤ tt) (lit≤ tt) (layout-gives p)) λ l.
+    gives-bind (gives-within (lit≤ tt) (lit≤ tt) (records-give tableFollows 20 table)) λ rs.
+    gives-then (gives-within (lit≤ tt) (lit≤ tt) (judged-gives l (tableOf rs))) (gives-ok _)

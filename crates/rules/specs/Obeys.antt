@@ -13,9 +13,9 @@ use Rattle.rules.specs.Plan.{Plan, readPlan}
 use Rattle.rules.specs.Frames.{Frame, Layout, layout, gapTime}
 use Rattle.rules.specs.LatestRelease.{Placed, noFrame, frameTime, latestRelease}
 use Rattle.rules.specs.Table.{tableBytes}
-use Rattle.rules.specs.Checker.{TableRead, tableOf, controlAt, rowAt, stopBefore, firstRow}
+use Rattle.rules.specs.Checker.{TableRead, tableOf, controlAt, rowAt, stopBefore, firstRow, Passed, passed}
 use Rattle.rules.specs.Playing.{modulePlaces, taskPlaces, Input}
-use Rattle.rules.specs.Station.{Kept, State, runPeriod, taskAge, runAge}
+use Rattle.rules.specs.Station.{Kept, keptOf, State, stateAtStart, runPeriod, taskAge, runAge, Begun}
 
 -- ---- files (1 and 20)
 
@@ -229,3 +229,46 @@ pub record MayTick (k : Kept) (s : State) (i : Input) : Type 0 where
       (t : ℕ) → t < taskPlaces → IsRunning k s t → runAge k s t ≡ k .taskWorst t → s .given t ≡ false →
       (v : ℕ) × (i .result t ≡ some v)
   pub allowed : (m μ : ℕ) → m < modulePlaces → i .change m ≡ some μ → MayChange k s m μ
+
+-- The same rules in order, with their numbers; a place is a task, or a module.
+abbrev pub tickRules : Kept → State → Input → List Rule
+tickRules k s i =
+    record { number = 41; first = 0; places = taskPlaces; asks = λ t. (v : ℕ) → i .result t ≡ some v → IsAwaited k s t }
+    ∷ record { number = 42; first = 0; places = taskPlaces; asks = λ t. (v : ℕ) → i .result t ≡ some v → v < 256 ^ k .taskSize t }
+    ∷ record {
+      number = 43;
+      first = 0;
+      places = taskPlaces;
+      asks =
+          λ t. IsRunning k s t → runAge k s t ≡ k .taskWorst t → s .given t ≡ false → (v : ℕ) × (i .result t ≡ some v);
+    }
+    ∷ record { number = 44; first = 0; places = modulePlaces; asks = λ m. (μ : ℕ) → i .change m ≡ some μ → MayChange k s m μ }
+    ∷ []
+
+-- The tick keeps the first j of the rules 41 to 44; the next, 41 + j, is broken, first at the task or module p.
+pub record TickBrokenAt (k : Kept) (s : State) (i : Input) (j p : ℕ) : Type 0 where
+  pub kept : AllKept (take j (tickRules k s i))
+  pub broken : BreaksAt (getD (tickRules k s i) j noRule) (41 + j) p
+
+-- ---- beginnings
+
+-- What a starting place must hold: "one mode for each module", one of its own; "a later one" nothing.
+pub record StartsRight (k : Kept) (starting : ℕ → Option ℕ) (m : ℕ) : Type 0 where
+  pub own : m < k .modules → (μ : ℕ) × (starting m ≡ some μ) × (μ < k .modes) × (k .modeHome μ ≡ m)
+  pub later : k .modules ≤ m → starting m ≡ none
+
+abbrev pub startRule : Kept → (ℕ → Option ℕ) → Rule
+startRule k starting = record { number = 40; first = 0; places = modulePlaces; asks = StartsRight k starting }
+
+-- What a beginning needs: a table that passes, and each starting place holding what it must.
+pub record MayBegin (plan table : List ℕ) (starting : ℕ → Option ℕ) (b : Begun) : Type 0 where
+  pub played : Passed
+  pub passes : passed plan table ≡ ok played
+  pub starts : (m : ℕ) → m < modulePlaces → StartsRight (keptOf played) starting m
+  pub is : b ≡ record { kept = keptOf played; state = stateAtStart starting }
+
+-- The table passes, and the lowest starting place that does not hold what it must is m.
+pub record BeginBrokenAt (plan table : List ℕ) (starting : ℕ → Option ℕ) (m : ℕ) : Type 0 where
+  pub played : Passed
+  pub passes : passed plan table ≡ ok played
+  pub broken : BreaksAt (startRule (keptOf played) starting) 40 m
