@@ -1,0 +1,5 @@
+pub mod Lists
+pub mod Loops
+pub mod Res
+pub mod Tests
+pub mod Divisors

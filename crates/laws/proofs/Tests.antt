@@ -1,0 +1,153 @@
+-- A test and what it means, both ways at once; and a step that is accepted exactly when something holds. "The checker is exact" is
+-- then one line for each rule.
+use mathlib.Core.Path.{_≡_, refl, sym}
+use mathlib.Core.Bool.{Bool, true, false, cond, not, _&&_, _||_}
+use mathlib.Core.List.{List}
+use mathlib.Core.Logic.{_⊎_, inl, inr}
+use native.Mathlib.Nat.{mod-eq-zero-of-dvd, dvd-of-mod-eq-zero}
+use borrow.Author.Tests.{leb-true, ltb-true, eqb-true, le-leb, lt-ltb, eq-eqb}
+use lib.Dec.{leb, ltb, eqb}
+use lib.ListN.{length, getD}
+use Prim.Native.Nat.{ℕ, _≤_, _<_, _%_, _∣_}
+use Rattle.laws.specs.Lists.{keep, any, all, firstBad, upTo}
+use Rattle.laws.specs.Numbers.{divides}
+use Rattle.laws.specs.Res.{Res, ok, _>>=_, _>>_, unless, at}
+use Rattle.laws.proofs.Lists.{true-false, both-left, both-right, any-hit, any-true, any-upTo-hit, any-upTo-true, all-each, all-true, all-upTo-each, all-upTo-true, all-keep}
+use Rattle.laws.proofs.Loops.{firstBad-none, firstBad-passes, firstBad-upTo-none, firstBad-upTo-passes}
+use Rattle.laws.proofs.Res.{unless-ok, at-ok, at-none, bind-case, then-case}
+
+pub record Tests (b : Bool) (P : Type 0) : Type 0 where
+  pub says : b ≡ true → P
+  pub passes : P → b ≡ true
+
+-- a test that means P means whatever P means
+pub by-iff : {b : Bool} {P Q : Type 0} → Tests b P → (P → Q) → (Q → P) → Tests b Q
+by-iff t f g = record { says = λ e. f (t .says e); passes = λ q. t .passes (g q) }
+
+-- a test means that it passes
+pub by-itself : (b : Bool) → Tests b (b ≡ true)
+by-itself b = record { says = λ e. e; passes = λ e. e }
+
+-- two tests that mean the same are the same
+pub by-same : {b c : Bool} {P Q : Type 0} → Tests b P → Tests c Q → (P → Q) → (Q → P) → b ≡ c
+by-same {b} {c} {P} {Q} s t f g = go b c s t
+  where
+    go : (b c : Bool) → Tests b P → Tests c Q → b ≡ c
+    go true c s t = sym (t .passes (f (s .says refl)))
+    go false true s t = s .passes (g (t .says refl))
+    go false false s t = refl
+
+pub by-le : (a b : ℕ) → Tests (leb a b) (a ≤ b)
+by-le a b = record { says = leb-true a b; passes = le-leb a b }
+
+pub by-lt : (a b : ℕ) → Tests (ltb a b) (a < b)
+by-lt a b = record { says = ltb-true a b; passes = lt-ltb a b }
+
+pub by-eq : (a b : ℕ) → Tests (eqb a b) (a ≡ b)
+by-eq a b = record { says = eqb-true a b; passes = eq-eqb a b }
+
+pub by-divides : (a b : ℕ) → Tests (divides a b) (a ∣ b)
+by-divides a b = by-iff (by-eq (b % a) 0) (dvd-of-mod-eq-zero a) (mod-eq-zero-of-dvd a)
+
+module _ {P Q : Type 0} where
+  pub by-and : {b c : Bool} → Tests b P → Tests c Q → Tests (b && c) (P × Q)
+  by-and {b} {c} s t =
+      record { says = λ e. (s .says (both-left b c e), t .says (both-right b c e)); passes = λ h. rw (s .passes (h .0), t .passes (h .1)) }
+
+  pub by-or : {b c : Bool} → Tests b P → Tests c Q → Tests (b || c) (P ⊎ Q)
+  by-or {b} {c} s t = record { says = said b s; passes = passed b s }
+    where
+      said : (b : Bool) → Tests b P → (b || c) ≡ true → P ⊎ Q
+      said true s e = inl (s .says refl)
+      said false s e = inr (t .says e)
+
+      passed : (b : Bool) → Tests b P → P ⊎ Q → (b || c) ≡ true
+      passed true s h = refl
+      passed false s (inl h) = true-false (sym (s .passes h))
+      passed false s (inr h) = t .passes h
+
+  -- a test that is asked only where another passes
+  pub by-where : {b c : Bool} → Tests b P → Tests c Q → Tests (cond b c true) (P → Q)
+  by-where {b} {c} s t = record { says = said b s; passes = passed b s }
+    where
+      said : (b : Bool) → Tests b P → cond b c true ≡ true → P → Q
+      said true s e h = t .says e
+      said false s e h = true-false (sym (s .passes h))
+
+      passed : (b : Bool) → Tests b P → (P → Q) → cond b c true ≡ true
+      passed true s h = t .passes (h (s .says refl))
+      passed false s h = refl
+
+pub by-not : {b : Bool} {P : Type 0} → Tests b P → Tests (not b) (P → ⊥)
+by-not {b} {P} t = record { says = said b t; passes = passed b t }
+  where
+    said : (b : Bool) → Tests b P → not b ≡ true → P → ⊥
+    said true t e h = true-false (sym e)
+    said false t e h = true-false (sym (t .passes h))
+
+    passed : (b : Bool) → Tests b P → (P → ⊥) → not b ≡ true
+    passed true t h = absurd (h (t .says refl))
+    passed false t h = refl
+
+-- ---- over the places of a list, over the numbers below n
+
+module _ {A : Type 0} {P : ℕ → Type 0} (p : A → Bool) (l : List A) (d : A) where
+  pub by-any : ((k : ℕ) → k < length l → Tests (p (getD l k d)) (P k)) → Tests (any p l) ((k : ℕ) × (k < length l) × P k)
+  by-any t = record { says = λ e. let f = any-true p l d e in (f .0, f .1, t (f .0) (f .1) .says (f .2)); passes = λ h. any-hit p l (h .0) d (h .1) (t (h .0) (h .1) .passes (h .2)) }
+
+  pub by-all : ((k : ℕ) → k < length l → Tests (p (getD l k d)) (P k)) → Tests (all p l) ((k : ℕ) → k < length l → P k)
+  by-all t = record { says = λ e k w. t k w .says (all-true p l d k e w); passes = λ h. all-each p l d (λ k w. t k w .passes (h k w)) }
+
+-- the elements that were kept, by their places in the whole list
+pub by-all-keep : {A : Type 0} {P Q : ℕ → Type 0} (q r : A → Bool) (l : List A) (d : A) → ((k : ℕ) → k < length l → Tests (q (getD l k d)) (P k))
+    → ((k : ℕ) → k < length l → Tests (r (getD l k d)) (Q k)) → Tests (all r (keep q l)) ((k : ℕ) → k < length l → P k → Q k)
+by-all-keep q r l d s t = rw (all-keep q r l) (by-all (λ x. cond (q x) (r x) true) l d (λ k w. by-where (s k w) (t k w)))
+
+module _ {P : ℕ → Type 0} (p : ℕ → Bool) (n : ℕ) where
+  pub by-any-upTo : ((k : ℕ) → k < n → Tests (p k) (P k)) → Tests (any p (upTo n)) ((k : ℕ) × (k < n) × P k)
+  by-any-upTo t = record { says = λ e. let f = any-upTo-true p n e in (f .0, f .1, t (f .0) (f .1) .says (f .2)); passes = λ h. any-upTo-hit p n (h .0) (h .1) (t (h .0) (h .1) .passes (h .2)) }
+
+  pub by-all-upTo : ((k : ℕ) → k < n → Tests (p k) (P k)) → Tests (all p (upTo n)) ((k : ℕ) → k < n → P k)
+  by-all-upTo t = record { says = λ e k w. t k w .says (all-upTo-true p n k e w); passes = λ h. all-upTo-each p n (λ k w. t k w .passes (h k w)) }
+
+-- ---- accepted exactly when
+
+pub record Oks (m : Res (Unit {0})) (P : Type 0) : Type 0 where
+  pub says : m ≡ ok tt → P
+  pub passes : P → m ≡ ok tt
+
+pub ok-iff : {m : Res (Unit {0})} {P Q : Type 0} → Oks m P → (P → Q) → (Q → P) → Oks m Q
+ok-iff t f g = record { says = λ e. f (t .says e); passes = λ q. t .passes (g q) }
+
+pub ok-unless : {b : Bool} {P : Type 0} (n p : ℕ) → Tests b P → Oks (unless n p b) P
+ok-unless {b} n p t = record { says = λ e. t .says (unless-ok n p b e); passes = λ h. rw (t .passes h) }
+
+pub ok-then : {m r : Res (Unit {0})} {P Q : Type 0} → Oks m P → Oks r Q → Oks (_>>_ m r) (P × Q)
+ok-then {m} {r} s t =
+    record {
+      says = λ e. then-case m r e (λ u f g. (s .says f, t .says g));
+      passes = λ h. rw (s .passes (h .0)) (t .passes (h .1));
+    }
+
+-- a step that yields a value, and what is asked of the value
+pub ok-bind : {A : Type 0} {P : A → Type 0} (m : Res A) (f : A → Res (Unit {0})) → ((a : A) → Oks (f a) (P a)) → Oks (_>>=_ m f) ((a : A) × (m ≡ ok a) × P a)
+ok-bind m f t =
+    record {
+      says = λ e. bind-case m f e (λ a q r. (a, q, t a .says r));
+      passes = λ h. rw (h .1) (t (h .0) .passes (h .2));
+    }
+
+-- every place passes
+pub ok-firstBad : {A : Type 0} {P : ℕ → Type 0} (n at₀ : ℕ) (p : A → Bool) (l : List A) (d : A) → ((k : ℕ) → k < length l → Tests (p (getD l k d)) (P k)) → Oks (at n at₀ (firstBad p l)) ((k : ℕ) → k < length l → P k)
+ok-firstBad n at₀ p l d t =
+    record {
+      says = λ e k w. t k w .says (firstBad-passes p l d k (at-ok n at₀ (firstBad p l) e) w);
+      passes = λ h. at-none n at₀ (firstBad-none p l d (λ k w. t k w .passes (h k w)));
+    }
+
+pub ok-firstBad-upTo : {P : ℕ → Type 0} (n at₀ : ℕ) (p : ℕ → Bool) (c : ℕ) → ((k : ℕ) → k < c → Tests (p k) (P k)) → Oks (at n at₀ (firstBad p (upTo c))) ((k : ℕ) → k < c → P k)
+ok-firstBad-upTo n at₀ p c t =
+    record {
+      says = λ e k w. t k w .says (firstBad-upTo-passes p c k (at-ok n at₀ (firstBad p (upTo c)) e) w);
+      passes = λ h. at-none n at₀ (firstBad-upTo-none p c (λ k w. t k w .passes (h k w)));
+    }
