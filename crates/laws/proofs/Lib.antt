@@ -3,3 +3,4 @@ pub mod Loops
 pub mod Res
 pub mod Tests
 pub mod Divisors
+pub mod Members
