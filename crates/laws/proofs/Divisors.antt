@@ -134,14 +134,16 @@ lcm-right a b = dvd-mul-left b (a / gcd a b)
 lcm-other : (a b : ℕ) → lcm a b ≡ a * (b / gcd a b)
 unfolding lcm
 lcm-other a b =
-    ap (λ (c : ℕ). a / gcd a b * c) (sym (mul-div-cancel' (gcd a b) (gcd-right a b))) ∙ sym (mul-assoc (a / gcd a b) (gcd a b) (b / gcd a b))
+    ap (λ (c : ℕ). a / gcd a b * c) (sym (mul-div-cancel' (gcd a b) (gcd-right a b)))
+    ∙ sym (mul-assoc (a / gcd a b) (gcd a b) (b / gcd a b))
     ∙ ap (λ (c : ℕ). c * (b / gcd a b)) (div-mul-cancel (gcd a b) (gcd-left a b))
 
 pub lcm-left : (a b : ℕ) → a ∣ lcm a b
 lcm-left a b = rw (lcm-other a b) (dvd-mul-right a (b / gcd a b))
 
 pub lcm-mul-gcd : (a b : ℕ) → lcm a b * gcd a b ≡ a * b
-lcm-mul-gcd a b = rw (lcm-other a b) (mul-assoc a (b / gcd a b) (gcd a b) ∙ ap (λ (c : ℕ). a * c) (div-mul-cancel (gcd a b) (gcd-right a b)))
+lcm-mul-gcd a b =
+    rw (lcm-other a b) (mul-assoc a (b / gcd a b) (gcd a b) ∙ ap (λ (c : ℕ). a * c) (div-mul-cancel (gcd a b) (gcd-right a b)))
 
 pub lcm-least : (a b m : ℕ) → a ∣ m → b ∣ m → lcm a b ∣ m
 lcm-least a b m p q = by-case (eq-zero-or-pos (gcd a b))

@@ -1,6 +1,9 @@
-pub mod Lists
-pub mod Loops
-pub mod Res
-pub mod Tests
 pub mod Divisors
+pub mod Lists
+pub mod Little
+pub mod Loops
 pub mod Members
+pub mod Orders
+pub mod Res
+pub mod Table
+pub mod Tests

@@ -115,7 +115,8 @@ module _ {A : Type 0} (p : A → Bool) where
   any-more l i d h = rw (take-more l i d h) (any-snoc (take i l) (getD l i d))
 
   -- a scan that has met nothing meets nothing at i either
-  pub any-missed : (l : List A) (i : ℕ) (d : A) → i < length l → any p (take i l) ≡ false → p (getD l i d) ≡ false → any p (take (i + 1) l) ≡ false
+  pub any-missed : (l : List A) (i : ℕ) (d : A) → i < length l → any p (take i l) ≡ false → p (getD l i d) ≡ false
+      → any p (take (i + 1) l) ≡ false
   any-missed l i d h e f = rw (any-more l i d h, e, f)
 
   -- some place passes
@@ -143,7 +144,8 @@ module _ {A : Type 0} (p : A → Bool) where
   any-true [] d e = true-false (sym e)
   any-true (x ∷ l) d e = found (p x) refl e (any-true l d)
     where
-      found : (b : Bool) → p x ≡ b → (b || any p l) ≡ true → (any p l ≡ true → (i : ℕ) × (i < length l) × (p (getD l i d) ≡ true)) → (i : ℕ) × (i < length (x ∷ l)) × (p (getD (x ∷ l) i d) ≡ true)
+      found : (b : Bool) → p x ≡ b → (b || any p l) ≡ true → (any p l ≡ true → (i : ℕ) × (i < length l) × (p (getD l i d) ≡ true))
+          → (i : ℕ) × (i < length (x ∷ l)) × (p (getD (x ∷ l) i d) ≡ true)
       found true q e r = (zero, suc-le-suc zero-le, q)
       found false q e r = let t = r e in (suc (t .0), suc-le-suc (t .1), t .2)
 
@@ -165,7 +167,8 @@ module _ {A : Type 0} (p : A → Bool) where
   pub all-more : (l : List A) (i : ℕ) (d : A) → i < length l → all p (take (i + 1) l) ≡ (all p (take i l) && p (getD l i d))
   all-more l i d h = rw (take-more l i d h) (all-snoc (take i l) (getD l i d))
 
-  pub all-passed : (l : List A) (i : ℕ) (d : A) → i < length l → all p (take i l) ≡ true → p (getD l i d) ≡ true → all p (take (i + 1) l) ≡ true
+  pub all-passed : (l : List A) (i : ℕ) (d : A) → i < length l → all p (take i l) ≡ true → p (getD l i d) ≡ true
+      → all p (take (i + 1) l) ≡ true
   all-passed l i d h e f = rw (all-more l i d h, e, f)
 
   pub all-failed : (l : List A) (i : ℕ) (d : A) → i < length l → p (getD l i d) ≡ false → all p l ≡ false
@@ -213,7 +216,8 @@ module _ {A : Type 0} (f : ℕ → A) where
 
   tab-suc : (lo n : ℕ) → tab f lo (suc n) ≡ tab f lo n ++ (f (lo + n) ∷ [])
   tab-suc lo zero = ap (λ (k : ℕ). f k ∷ []) (sym (add-zero lo))
-  tab-suc lo (suc n) = ap (λ (r : List A). f lo ∷ r) (tab-suc (suc lo) n ∙ ap (λ (k : ℕ). tab f (suc lo) n ++ (f k ∷ [])) (suc-add lo n ∙ sym (add-suc lo n)))
+  tab-suc lo (suc n) =
+      ap (λ (r : List A). f lo ∷ r) (tab-suc (suc lo) n ∙ ap (λ (k : ℕ). tab f (suc lo) n ++ (f k ∷ [])) (suc-add lo n ∙ sym (add-suc lo n)))
 
   pub tab-more : (lo n : ℕ) → tab f lo (n + 1) ≡ tab f lo n ++ (f (lo + n) ∷ [])
   tab-more lo n = rw (add-one n) (tab-suc lo n)

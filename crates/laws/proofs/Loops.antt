@@ -82,7 +82,8 @@ module _ (p : ℕ → Bool) where
   hit zero k h e q = absurd (not-suc-le-zero h)
   hit (suc n) k h e q = here (hit n k) (eq-or-lt-of-le (le-of-suc-le-suc h))
     where
-      here : (k < n → firstBelow p k ≡ none → p k ≡ true → firstBelow p n ≡ some k) → (k ≡ n) ⊎ (k < n) → orAt (firstBelow p n) (p n) n ≡ some k
+      here : (k < n → firstBelow p k ≡ none → p k ≡ true → firstBelow p n ≡ some k) → (k ≡ n) ⊎ (k < n)
+          → orAt (firstBelow p n) (p n) n ≡ some k
       here before (inl s) = rw (← s, e, q)
       here before (inr l) = rw (before l e q)
 
@@ -110,7 +111,8 @@ module _ {A : Type 0} (p : A → Bool) where
   firstBad-none [] d h = refl
   firstBad-none (x ∷ l) d h = rw (h zero (omega arith), firstBad-none l d (λ k w. h (suc k) (suc-le-suc w)))
 
-  pub firstBad-some : (l : List A) (d : A) (k : ℕ) → k < length l → p (getD l k d) ≡ false → ((j : ℕ) → j < k → p (getD l j d) ≡ true) → firstBad p l ≡ some k
+  pub firstBad-some : (l : List A) (d : A) (k : ℕ) → k < length l → p (getD l k d) ≡ false
+      → ((j : ℕ) → j < k → p (getD l j d) ≡ true) → firstBad p l ≡ some k
   firstBad-some [] d k w e h = absurd (not-suc-le-zero w)
   firstBad-some (x ∷ l) d zero w e h = rw e
   firstBad-some (x ∷ l) d (suc k) w e h =
@@ -167,10 +169,12 @@ module _ {A : Type 0} (p : A → Bool) where
       behind false f r = refl
 
   -- one turn of a scan, its return, its end
-  pub firstBad-more : (l : List A) (i : ℕ) (d : A) → i < length l → firstBad p (take i l) ≡ none → p (getD l i d) ≡ true → firstBad p (take (i + 1) l) ≡ none
+  pub firstBad-more : (l : List A) (i : ℕ) (d : A) → i < length l → firstBad p (take i l) ≡ none → p (getD l i d) ≡ true
+      → firstBad p (take (i + 1) l) ≡ none
   firstBad-more l i d w e q = rw (take-more l i d w) (firstBad-pass (take i l) (getD l i d) e q)
 
-  pub firstBad-hit : (l : List A) (i : ℕ) (d : A) → i < length l → firstBad p (take i l) ≡ none → p (getD l i d) ≡ false → firstBad p l ≡ some i
+  pub firstBad-hit : (l : List A) (i : ℕ) (d : A) → i < length l → firstBad p (take i l) ≡ none → p (getD l i d) ≡ false
+      → firstBad p l ≡ some i
   firstBad-hit l i d w e q =
       let n : length (take i l) ≡ i = length-take-le i l (omega arith) in
       firstBad-some l d i w q (λ j v. rw (getD-take i l j d v) at (firstBad-passes (take i l) d j e (rw n v)))

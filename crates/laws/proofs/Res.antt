@@ -32,11 +32,13 @@ module _ {A B : Type 0} where
 
   -- ---- a refusal comes from the step or from behind it
 
-  pub bind-refused : {C : Type 0} {n p : ℕ} (m : Res A) (f : A → Res B) → _>>=_ m f ≡ refuse n p → (m ≡ refuse n p → C) → ((a : A) → m ≡ ok a → f a ≡ refuse n p → C) → C
+  pub bind-refused : {C : Type 0} {n p : ℕ} (m : Res A) (f : A → Res B) → _>>=_ m f ≡ refuse n p → (m ≡ refuse n p → C)
+      → ((a : A) → m ≡ ok a → f a ≡ refuse n p → C) → C
   bind-refused (ok a) f e here behind = behind a refl e
   bind-refused {n = n} {p = p} (refuse m q) f e here behind = here (rw (refuse-number e, refuse-place e))
 
-  pub then-refused : {C : Type 0} {n p : ℕ} (m : Res A) (r : Res B) → _>>_ m r ≡ refuse n p → (m ≡ refuse n p → C) → ((a : A) → m ≡ ok a → r ≡ refuse n p → C) → C
+  pub then-refused : {C : Type 0} {n p : ℕ} (m : Res A) (r : Res B) → _>>_ m r ≡ refuse n p → (m ≡ refuse n p → C)
+      → ((a : A) → m ≡ ok a → r ≡ refuse n p → C) → C
   then-refused (ok a) r e here behind = behind a refl e
   then-refused {n = n} {p = p} (refuse m q) r e here behind = here (rw (refuse-number e, refuse-place e))
 

@@ -93,22 +93,32 @@ by-not {b} {P} t = record { says = said b t; passes = passed b t }
 
 module _ {A : Type 0} {P : ℕ → Type 0} (p : A → Bool) (l : List A) (d : A) where
   pub by-any : ((k : ℕ) → k < length l → Tests (p (getD l k d)) (P k)) → Tests (any p l) ((k : ℕ) × (k < length l) × P k)
-  by-any t = record { says = λ e. let f = any-true p l d e in (f .0, f .1, t (f .0) (f .1) .says (f .2)); passes = λ h. any-hit p l (h .0) d (h .1) (t (h .0) (h .1) .passes (h .2)) }
+  by-any t =
+      record {
+        says = λ e. let f = any-true p l d e in (f .0, f .1, t (f .0) (f .1) .says (f .2));
+        passes = λ h. any-hit p l (h .0) d (h .1) (t (h .0) (h .1) .passes (h .2));
+      }
 
   pub by-all : ((k : ℕ) → k < length l → Tests (p (getD l k d)) (P k)) → Tests (all p l) ((k : ℕ) → k < length l → P k)
   by-all t = record { says = λ e k w. t k w .says (all-true p l d k e w); passes = λ h. all-each p l d (λ k w. t k w .passes (h k w)) }
 
 -- the elements that were kept, by their places in the whole list
-pub by-all-keep : {A : Type 0} {P Q : ℕ → Type 0} (q r : A → Bool) (l : List A) (d : A) → ((k : ℕ) → k < length l → Tests (q (getD l k d)) (P k))
+pub by-all-keep : {A : Type 0} {P Q : ℕ → Type 0} (q r : A → Bool) (l : List A) (d : A)
+    → ((k : ℕ) → k < length l → Tests (q (getD l k d)) (P k))
     → ((k : ℕ) → k < length l → Tests (r (getD l k d)) (Q k)) → Tests (all r (keep q l)) ((k : ℕ) → k < length l → P k → Q k)
 by-all-keep q r l d s t = rw (all-keep q r l) (by-all (λ x. cond (q x) (r x) true) l d (λ k w. by-where (s k w) (t k w)))
 
 module _ {P : ℕ → Type 0} (p : ℕ → Bool) (n : ℕ) where
   pub by-any-upTo : ((k : ℕ) → k < n → Tests (p k) (P k)) → Tests (any p (upTo n)) ((k : ℕ) × (k < n) × P k)
-  by-any-upTo t = record { says = λ e. let f = any-upTo-true p n e in (f .0, f .1, t (f .0) (f .1) .says (f .2)); passes = λ h. any-upTo-hit p n (h .0) (h .1) (t (h .0) (h .1) .passes (h .2)) }
+  by-any-upTo t =
+      record {
+        says = λ e. let f = any-upTo-true p n e in (f .0, f .1, t (f .0) (f .1) .says (f .2));
+        passes = λ h. any-upTo-hit p n (h .0) (h .1) (t (h .0) (h .1) .passes (h .2));
+      }
 
   pub by-all-upTo : ((k : ℕ) → k < n → Tests (p k) (P k)) → Tests (all p (upTo n)) ((k : ℕ) → k < n → P k)
-  by-all-upTo t = record { says = λ e k w. t k w .says (all-upTo-true p n k e w); passes = λ h. all-upTo-each p n (λ k w. t k w .passes (h k w)) }
+  by-all-upTo t =
+      record { says = λ e k w. t k w .says (all-upTo-true p n k e w); passes = λ h. all-upTo-each p n (λ k w. t k w .passes (h k w)) }
 
 -- ---- accepted exactly when
 
@@ -130,7 +140,8 @@ ok-then {m} {r} s t =
     }
 
 -- a step that yields a value, and what is asked of the value
-pub ok-bind : {A : Type 0} {P : A → Type 0} (m : Res A) (f : A → Res (Unit {0})) → ((a : A) → Oks (f a) (P a)) → Oks (_>>=_ m f) ((a : A) × (m ≡ ok a) × P a)
+pub ok-bind : {A : Type 0} {P : A → Type 0} (m : Res A) (f : A → Res (Unit {0})) → ((a : A) → Oks (f a) (P a))
+    → Oks (_>>=_ m f) ((a : A) × (m ≡ ok a) × P a)
 ok-bind m f t =
     record {
       says = λ e. bind-case m f e (λ a q r. (a, q, t a .says r));
@@ -138,14 +149,16 @@ ok-bind m f t =
     }
 
 -- every place passes
-pub ok-firstBad : {A : Type 0} {P : ℕ → Type 0} (n at₀ : ℕ) (p : A → Bool) (l : List A) (d : A) → ((k : ℕ) → k < length l → Tests (p (getD l k d)) (P k)) → Oks (at n at₀ (firstBad p l)) ((k : ℕ) → k < length l → P k)
+pub ok-firstBad : {A : Type 0} {P : ℕ → Type 0} (n at₀ : ℕ) (p : A → Bool) (l : List A) (d : A)
+    → ((k : ℕ) → k < length l → Tests (p (getD l k d)) (P k)) → Oks (at n at₀ (firstBad p l)) ((k : ℕ) → k < length l → P k)
 ok-firstBad n at₀ p l d t =
     record {
       says = λ e k w. t k w .says (firstBad-passes p l d k (at-ok n at₀ (firstBad p l) e) w);
       passes = λ h. at-none n at₀ (firstBad-none p l d (λ k w. t k w .passes (h k w)));
     }
 
-pub ok-firstBad-upTo : {P : ℕ → Type 0} (n at₀ : ℕ) (p : ℕ → Bool) (c : ℕ) → ((k : ℕ) → k < c → Tests (p k) (P k)) → Oks (at n at₀ (firstBad p (upTo c))) ((k : ℕ) → k < c → P k)
+pub ok-firstBad-upTo : {P : ℕ → Type 0} (n at₀ : ℕ) (p : ℕ → Bool) (c : ℕ) → ((k : ℕ) → k < c → Tests (p k) (P k))
+    → Oks (at n at₀ (firstBad p (upTo c))) ((k : ℕ) → k < c → P k)
 ok-firstBad-upTo n at₀ p c t =
     record {
       says = λ e k w. t k w .says (firstBad-upTo-passes p c k (at-ok n at₀ (firstBad p (upTo c)) e) w);

@@ -1,2 +1,5 @@
 pub mod Jobs
+pub mod StationJobs
 pub mod Period
+pub mod FramesOf
+pub mod Placing

@@ -19,7 +19,9 @@ use Rattle.rules.specs.Frames.{Run, runOf, ofBusTask, busRuns, withRun, 
 -- every invocation's period of a bus task divides P, and P divides every other number of this kind
 pub record IsBusPeriod (p : Plan) (period : ℕ) : Type 0 where
   pub multiple : (k : ℕ) → k < length (p .invocations) → ofBusTask p (theInvocation p k) ≡ true → periodOf p (theInvocation p k) ∣ period
-  pub least : (m : ℕ) → ((k : ℕ) → k < length (p .invocations) → ofBusTask p (theInvocation p k) ≡ true → periodOf p (theInvocation p k) ∣ m) → period ∣ m
+  pub least : (m : ℕ)
+      → ((k : ℕ) → k < length (p .invocations) → ofBusTask p (theInvocation p k) ≡ true → periodOf p (theInvocation p k) ∣ m)
+      → period ∣ m
 
 -- d divides the mode period and the switch period of every mode of a sending module
 pub record DividesModes (p : Plan) (d : ℕ) : Type 0 where
@@ -46,7 +48,9 @@ pub period-divides : (p : Plan) (m : ℕ) → divides (busPeriod p) m ≡ all (p
 unfolding busPeriod
 period-divides p m = runs-divide m (busRuns p)
 
-period-tests : (p : Plan) (m : ℕ) → Tests (divides (busPeriod p) m) ((k : ℕ) → k < length (p .invocations) → ofBusTask p (theInvocation p k) ≡ true → periodOf p (theInvocation p k) ∣ m)
+period-tests : (p : Plan) (m : ℕ)
+    → Tests (divides (busPeriod p) m)
+    ((k : ℕ) → k < length (p .invocations) → ofBusTask p (theInvocation p k) ≡ true → periodOf p (theInvocation p k) ∣ m)
 unfolding busRuns runOf theInvocation
 period-tests p m =
     rw (period-divides p m, all-map (runOf p) (periodDivides m) (keep (ofBusTask p) (p .invocations)))
@@ -69,7 +73,8 @@ pub period-snoc : (rs : List Run) (r : Run) → periodOfRuns (rs ++ (r ∷ [])) 
 unfolding periodOfRuns withRun
 period-snoc rs r =
     same-multiples (periodOfRuns (rs ++ (r ∷ []))) (periodOfRuns (r ∷ rs))
-    (λ m. runs-divide m (rs ++ (r ∷ [])) ∙ all-snoc (periodDivides m) rs r ∙ and-comm (all (periodDivides m) rs) (periodDivides m r) ∙ sym (runs-divide m (r ∷ rs)))
+    (λ m. runs-divide m (rs ++ (r ∷ [])) ∙ all-snoc (periodDivides m) rs r
+    ∙ and-comm (all (periodDivides m) rs) (periodDivides m r) ∙ sym (runs-divide m (r ∷ rs)))
 
 pub period-pos : (rs : List Run) → ((k : ℕ) (d : Run) → k < length rs → 0 < getD rs k d .period) → 0 < periodOfRuns rs
 unfolding periodOfRuns withRun
@@ -88,14 +93,17 @@ unfolding withMode
 divides-modes d [] = divides-is d 0 (dvd-zero d)
 divides-modes d (μ ∷ μs) =
     divides-gcd d (μ .period) (gcd (μ .switch) (foldr withMode 0 μs))
-    ∙ ap (λ (b : Bool). divides d (μ .period) && b) (divides-gcd d (μ .switch) (foldr withMode 0 μs) ∙ ap (λ (b : Bool). divides d (μ .switch) && b) (divides-modes d μs))
+    ∙ ap (λ (b : Bool). divides d (μ .period) && b) (divides-gcd d (μ .switch) (foldr withMode 0 μs)
+    ∙ ap (λ (b : Bool). divides d (μ .switch) && b) (divides-modes d μs))
     ∙ sym (and-assoc (divides d (μ .period)) (divides d (μ .switch)) (all (dividesMode d) μs))
 
 pub divides-grid : (p : Plan) (d : ℕ) → divides d (switchGrid p) ≡ all (dividesMode d) (keep (ofSender p) (p .modes))
 unfolding switchGrid
 divides-grid p d = divides-modes d (keep (ofSender p) (p .modes))
 
-grid-tests : (p : Plan) (d : ℕ) → Tests (divides d (switchGrid p)) ((k : ℕ) → k < length (p .modes) → ofSender p (theMode p k) ≡ true → (d ∣ theMode p k .period) × (d ∣ theMode p k .switch))
+grid-tests : (p : Plan) (d : ℕ)
+    → Tests (divides d (switchGrid p))
+    ((k : ℕ) → k < length (p .modes) → ofSender p (theMode p k) ≡ true → (d ∣ theMode p k .period) × (d ∣ theMode p k .switch))
 unfolding theMode
 grid-tests p d =
     rw (divides-grid p d)
@@ -119,4 +127,5 @@ grid-unique p m n a b = dvd-antisymm (b .greatest m (a .divisor)) (a .greatest n
 pub grid-snoc : (μs : List Mode) (μ : Mode) → foldr withMode 0 (μs ++ (μ ∷ [])) ≡ withMode μ (foldr withMode 0 μs)
 grid-snoc μs μ =
     same-divisors (foldr withMode 0 (μs ++ (μ ∷ []))) (foldr withMode 0 (μ ∷ μs))
-    (λ d. divides-modes d (μs ++ (μ ∷ [])) ∙ all-snoc (dividesMode d) μs μ ∙ and-comm (all (dividesMode d) μs) (dividesMode d μ) ∙ sym (divides-modes d (μ ∷ μs)))
+    (λ d. divides-modes d (μs ++ (μ ∷ [])) ∙ all-snoc (dividesMode d) μs μ
+    ∙ and-comm (all (dividesMode d) μs) (dividesMode d μ) ∙ sym (divides-modes d (μ ∷ μs)))

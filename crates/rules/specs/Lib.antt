@@ -5,3 +5,8 @@ pub mod LatestRelease
 pub mod Table
 pub mod Checker
 pub mod Jobs
+pub mod Playing
+pub mod Station
+pub mod StationRange
+pub mod OneBoard
+pub mod Obeys

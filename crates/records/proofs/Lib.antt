@@ -1,0 +1,3 @@
+pub mod LengthTable
+pub mod Steps
+pub mod BodyNumbers

@@ -1,0 +1,28 @@
+-- `records::kinds::body_length` meets its contract: an entry of the table is the kind's length, and a kind behind the table is unknown.
+-- Assumes nothing.
+use borrow.Author.Needs.{needs}
+use mathlib.Core.List.{List, [], _∷_}
+use mathlib.Core.Path.{refl, sym}
+use Prim.Native.Nat.{ℕ}
+use Rattle.rules.specs.Records.{known, bodyLength, fields, kinds}
+use Rattle.records.specs.Kinds.{lengthOf}
+use Rattle.records.proofs.LengthTable.{right, entry, above}
+use Rattle.records.proofs.kinds.body_length.Statement.{statement}
+use Rattle.records.proofs.kinds.body_length.Tie as tie
+
+-- the table of the source, where `u` stands for unknown
+lengths : ℕ → List ℕ
+lengths u = 0 ∷ 16 ∷ 1 ∷ 1 ∷ 9 ∷ 6 ∷ 4 ∷ 2 ∷ u ∷ u ∷ u ∷ u ∷ u ∷ u ∷ u ∷ u ∷ 7 ∷ 9 ∷ 13 ∷ []
+
+array-read-result : tie.Need-array-read-result
+array-read-result c = search needs
+
+returns : tie.Need-returns
+unfolding lengths right lengthOf known bodyLength fields kinds
+returns c = entry (lengths 255) refl (c .before .args .kind) (c .if1 .taken)
+
+returns-2 : tie.Need-returns-2
+returns-2 c = sym (above (c .before .args .kind) (c .if1 .left))
+
+pub body-length-spec : {M : Type 1} → statement M
+body-length-spec = tie.close (tie.spec array-read-result returns returns-2)

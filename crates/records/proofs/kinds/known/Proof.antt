@@ -1,0 +1,15 @@
+-- `records::kinds::known` meets its contract: 255 stands for the unknown kinds alone.
+-- Assumes nothing.
+use borrow.Author.Needs.{needs}
+use Rattle.records.proofs.LengthTable.{known-told}
+use Rattle.records.proofs.kinds.known.Statement.{statement}
+use Rattle.records.proofs.kinds.known.Tie as tie
+
+body-length-requires : tie.Need-body-length-requires
+body-length-requires c κs = search needs
+
+returns : tie.Need-returns
+returns c = rw (c .body-length .ensures) (known-told (c .before .args .kind))
+
+pub known-spec : {M : Type 1} → statement M
+known-spec = tie.close (tie.spec body-length-requires returns)

@@ -1,0 +1,25 @@
+-- `records::kinds::plan_follows` meets its contract: at each `return` the tests that led there are the definition's.
+-- Assumes nothing.
+use borrow.Author.Needs.{needs}
+use borrow.Author.Tests.{eq-eqb, ne-eqb}
+use Rattle.rules.specs.Records.{planFollows}
+use Rattle.records.proofs.kinds.plan_follows.Statement.{statement}
+use Rattle.records.proofs.kinds.plan_follows.Tie as tie
+
+returns : tie.Need-returns
+unfolding planFollows
+returns c = simp (eq-eqb _ _ (c .if1 .taken))
+
+returns-2 : tie.Need-returns-2
+unfolding planFollows
+returns-2 c = simp (ne-eqb _ _ (c .before .if1 .left), eq-eqb _ _ (c .if2 .taken))
+
+rises-requires : tie.Need-rises-requires
+rises-requires c κs = search needs
+
+returns-3 : tie.Need-returns-3
+unfolding planFollows
+returns-3 c = simp (ne-eqb _ _ (c .before .before .if1 .left), ne-eqb _ _ (c .before .if2 .left)) (c .rises .ensures)
+
+pub plan-follows-spec : {M : Type 1} → statement M
+plan-follows-spec = tie.close (tie.spec returns returns-2 rises-requires returns-3)

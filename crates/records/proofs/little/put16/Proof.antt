@@ -1,0 +1,33 @@
+-- `records::little::put16` meets its contract: the bytes stored one by one are the number's.
+-- Assumes nothing.
+use denote.Ref.{now}
+use Rattle.laws.specs.Numbers.{bytes}
+use Rattle.laws.proofs.Little.{stored-sets}
+use borrow.Author.Needs.{needs}
+use Rattle.records.proofs.little.put16.Statement.{statement}
+use Rattle.records.proofs.little.put16.Tie as tie
+
+cast-store : tie.Need-cast-store
+cast-store c = search needs
+
+store-requires : tie.Need-store-requires
+store-requires c κs = search needs
+
+cast-store-2 : tie.Need-cast-store-2
+cast-store-2 c = search needs
+
+store-requires-2 : tie.Need-store-requires-2
+store-requires-2 c κs = search needs
+
+same-length : tie.Need-same-length
+same-length c = search needs
+
+returns : tie.Need-returns
+returns c =
+    let a = c .before .before .before .before .before .before .before .before .before .args in
+    rw (c .before .before .store2 .ensures, c .before .before .before .before .before .before .store .ensures) (stored-sets (now (a .buf)) (a .at) (bytes 2 (a .x)))
+
+pub put16-spec : {M : Type 1} → statement M
+put16-spec =
+    tie.close
+    (tie.spec cast-store store-requires cast-store-2 store-requires-2 same-length returns)

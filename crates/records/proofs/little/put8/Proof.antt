@@ -1,0 +1,26 @@
+-- `records::little::put8` meets its contract: the bytes stored one by one are the number's.
+-- Assumes nothing.
+use mathlib.Core.Path.{_≡_}
+use mathlib.Core.List.{_∷_, []}
+use Prim.Native.Nat.{_%_}
+use native.Mathlib.Omega.{arith}
+use denote.Ref.{now}
+use Rattle.laws.proofs.Little.{stored-sets}
+use borrow.Author.Needs.{needs}
+use Rattle.records.proofs.little.put8.Statement.{statement}
+use Rattle.records.proofs.little.put8.Tie as tie
+
+store-requires : tie.Need-store-requires
+store-requires c κs = search needs
+
+same-length : tie.Need-same-length
+same-length c = search needs
+
+returns : tie.Need-returns
+returns c =
+    let a = c .before .before .before .before .before .args in
+    let e : a .x % 256 ≡ a .x = omega arith in
+    rw (e, c .before .before .store .ensures) (stored-sets (now (a .buf)) (a .at) (a .x ∷ []))
+
+pub put8-spec : {M : Type 1} → statement M
+put8-spec = tie.close (tie.spec store-requires same-length returns)

@@ -1,0 +1,76 @@
+// Little-endian numbers, read from a lent file and stored into a lent buffer. Every place is allowed: a byte behind the end reads
+// as 0, and is not stored.
+ghost use mathlib.Core.Path.{_≡_};
+ghost use Prim.Native.Nat.{_+_};
+ghost use lib.ListN.{getD, take, drop, set};
+ghost use lib.Seq.{sets};
+ghost use Rattle.laws.specs.Numbers.{number, bytes};
+
+// The byte `k` places behind `at`.
+fn byte(s: &[u8], at: usize, k: usize) -> u8
+    ensures { λ r. ⌜ r ≡ getD (now (s .entry)) (at + k) 0 ⌝ }
+{
+    if at < s.len() {
+        if k < s.len() - at {
+            return s[at + k];
+        }
+    }
+    0
+}
+
+pub fn read8(s: &[u8], at: usize) -> u8
+    ensures { λ r. ⌜ r ≡ number (take 1 (drop at (now (s .entry)))) ⌝ }
+{
+    byte(s, at, 0)
+}
+
+pub fn read16(s: &[u8], at: usize) -> u16
+    ensures { λ r. ⌜ r ≡ number (take 2 (drop at (now (s .entry)))) ⌝ }
+{
+    let low = byte(s, at, 0);
+    let high = byte(s, at, 1);
+    (low as u16) + 256 * (high as u16)
+}
+
+pub fn read32(s: &[u8], at: usize) -> u32
+    ensures { λ r. ⌜ r ≡ number (take 4 (drop at (now (s .entry)))) ⌝ }
+{
+    let a = byte(s, at, 0);
+    let b = byte(s, at, 1);
+    let c = byte(s, at, 2);
+    let d = byte(s, at, 3);
+    (a as u32) + 256 * ((b as u32) + 256 * ((c as u32) + 256 * (d as u32)))
+}
+
+// Stores a byte `k` places behind `at`.
+fn store(buf: &mut [u8], at: usize, k: usize, x: u8)
+    ensures { λ _. ⌜ now (buf .exit) ≡ set (now (buf .entry)) (at + k) x ⌝ }
+{
+    if at < buf.len() {
+        if k < buf.len() - at {
+            buf[at + k] = x;
+        }
+    }
+}
+
+pub fn put8(buf: &mut [u8], at: usize, x: u8)
+    ensures { λ _. ⌜ now (buf .exit) ≡ sets (now (buf .entry)) at (bytes 1 x) ⌝ }
+{
+    store(buf, at, 0, x);
+}
+
+pub fn put16(buf: &mut [u8], at: usize, x: u16)
+    ensures { λ _. ⌜ now (buf .exit) ≡ sets (now (buf .entry)) at (bytes 2 x) ⌝ }
+{
+    store(buf, at, 0, (x % 256) as u8);
+    store(buf, at, 1, (x / 256 % 256) as u8);
+}
+
+pub fn put32(buf: &mut [u8], at: usize, x: u32)
+    ensures { λ _. ⌜ now (buf .exit) ≡ sets (now (buf .entry)) at (bytes 4 x) ⌝ }
+{
+    store(buf, at, 0, (x % 256) as u8);
+    store(buf, at, 1, (x / 256 % 256) as u8);
+    store(buf, at, 2, (x / 256 / 256 % 256) as u8);
+    store(buf, at, 3, (x / 256 / 256 / 256 % 256) as u8);
+}

@@ -1,0 +1,341 @@
+-- Document 01, "The played station": what it keeps, its state, refusals 41 to 44, the six steps (a) to (f) of a tick, `begin`
+-- (readings 22 to 34). All are numbers, or functions of the place of a node, module, mode, task or row; a period of 0 means none.
+use mathlib.Core.Bool.{Bool, true, false, cond, not, _&&_, _||_}
+use mathlib.Core.List.{List, [], _∷_}
+use mathlib.Core.Option.{Option, none, some, Option·getD}
+use lib.Dec.{eqb, leb, ltb}
+use lib.ListN.{length}
+use Prim.Native.Nat.{ℕ, zero, suc, _+_, _-_, _%_, _^_}
+use Rattle.laws.specs.Res.{Res, ok, refuse, _>>=_, _>>_, at}
+use Rattle.laws.specs.Lists.{firstBad, upTo}
+use Rattle.laws.specs.Numbers.{divides}
+use Rattle.rules.specs.Plan.{Plan, theMode, theTask}
+use Rattle.rules.specs.Frames.{moduleNode, isBusTask, isSending, ControlRow}
+use Rattle.rules.specs.Table.{DataRow}
+use Rattle.rules.specs.Checker.{controlAt, rowAt, Passed, passed}
+use Rattle.rules.specs.Playing.{modulePlaces, taskPlaces, Input, isGiven, periodIn}
+
+-- "It keeps its own copy of what it needs": of the plan the modules, modes and tasks, the runs (`run mode task` is the invocation's
+-- period, or 0), which tasks are bus tasks and which modules are sending; of the table P and the rows.
+pub record Kept : Type 0 where
+  pub modules : ℕ
+  pub modes : ℕ
+  pub tasks : ℕ
+  pub period : ℕ
+  pub moduleNode : ℕ → ℕ
+  pub sends : ℕ → Bool
+  pub modeHome : ℕ → ℕ
+  pub modePeriod : ℕ → ℕ
+  pub modeSwitch : ℕ → ℕ
+  pub taskHome : ℕ → ℕ
+  pub taskSize : ℕ → ℕ
+  pub taskWorst : ℕ → ℕ
+  pub isBus : ℕ → Bool
+  pub run : ℕ → ℕ → ℕ
+  pub controls : ℕ
+  pub controlNode : ℕ → ℕ
+  pub controlStart : ℕ → ℕ
+  pub controlStop : ℕ → ℕ
+  pub datas : ℕ
+  pub dataTask : ℕ → ℕ
+  pub dataDeadline : ℕ → ℕ
+  pub dataStart : ℕ → ℕ
+  pub dataStop : ℕ → ℕ
+
+unfoldable pub keptOf : Passed → Kept
+keptOf c =
+    let p = c .layout .plan in
+    let rows = c .table in
+    record {
+      modules = length (p .modules);
+      modes = length (p .modes);
+      tasks = length (p .tasks);
+      period = c .layout .period;
+      moduleNode = moduleNode p;
+      sends = isSending p;
+      modeHome = λ μ. theMode p μ .home;
+      modePeriod = λ μ. theMode p μ .period;
+      modeSwitch = λ μ. theMode p μ .switch;
+      taskHome = λ t. theTask p t .home;
+      taskSize = λ t. theTask p t .size;
+      taskWorst = λ t. theTask p t .worst;
+      isBus = isBusTask p;
+      run = periodIn p;
+      controls = length (rows .control);
+      controlNode = λ r. controlAt (rows .control) r .node;
+      controlStart = λ r. controlAt (rows .control) r .start;
+      controlStop = λ r. controlAt (rows .control) r .stop;
+      datas = length (rows .rows);
+      dataTask = λ r. rowAt rows r .task;
+      dataDeadline = λ r. rowAt rows r .deadline;
+      dataStart = λ r. rowAt rows r .start;
+      dataStop = λ r. rowAt rows r .stop;
+    }
+
+-- The state before a tick. "Time is kept within the bus and mode periods": `clock` is the bus time of the tick to come, 0 before the
+-- first and then 1 to P; `age` by module the time since its mode began, 0 at the first tick and then 1 to the mode's period. `given`
+-- by task: the run has had its result. `landed` and `shown` by node and task; `held` by node and module, the mode byte that the node
+-- holds. On the bus: `full` and `load`, whether the data frame has a value and which; `modeByte`, the control frame's by module.
+pub record State : Type 0 where
+  pub clock : ℕ
+  pub mode : ℕ → ℕ
+  pub age : ℕ → ℕ
+  pub given : ℕ → Bool
+  pub out : ℕ → ℕ
+  pub landed : ℕ → ℕ → ℕ
+  pub shown : ℕ → ℕ → ℕ
+  pub held : ℕ → ℕ → ℕ
+  pub full : Bool
+  pub load : ℕ
+  pub modeByte : ℕ → ℕ
+
+-- "landed and shown, all zero; each task has an out-box, zero"
+unfoldable pub stateAtStart : (ℕ → Option ℕ) → State
+stateAtStart starting =
+    record {
+      clock = 0;
+      mode = λ m. Option·getD (starting m) 0;
+      age = λ m. 0;
+      given = λ t. false;
+      out = λ t. 0;
+      landed = λ n t. 0;
+      shown = λ n t. 0;
+      held = λ n m. 0;
+      full = false;
+      load = 0;
+      modeByte = λ m. 0;
+    }
+
+-- the node of a task
+unfoldable pub homeNode : Kept → ℕ → ℕ
+homeNode k t = k .moduleNode (k .taskHome t)
+
+-- the period of the task's invocation in the mode that runs, and the time since that mode began
+unfoldable pub runPeriod : Kept → State → ℕ → ℕ
+runPeriod k s t = k .run (s .mode (k .taskHome t)) t
+
+unfoldable pub taskAge : Kept → State → ℕ → ℕ
+taskAge k s t = s .age (k .taskHome t)
+
+-- The run's age, 1 to its period: the tick of a release is the last of the run before (reading 24).
+unfoldable pub runAge : Kept → State → ℕ → ℕ
+runAge k s t = (taskAge k s t - 1) % runPeriod k s t + 1
+
+-- a run of the task is under way; at the first tick none is (reading 23)
+unfoldable pub isRunning : Kept → State → ℕ → Bool
+isRunning k s t = ltb 0 (runPeriod k s t) && ltb 0 (taskAge k s t)
+
+-- "An invocation takes one result, 1 to w ticks after its release."
+unfoldable pub isAwaited : Kept → State → ℕ → Bool
+isAwaited k s t =
+    (ltb t (k .tasks) && isRunning k s t) && (not (s .given t) && leb (runAge k s t) (k .taskWorst t))
+
+-- Refusal 41: "a result where none is awaited, or for a task not in the plan".
+unfoldable pub resultAwaited : Kept → State → Input → ℕ → Bool
+resultAwaited k s i t = not (isGiven (i .result t)) || isAwaited k s t
+
+-- Refusal 42: "a result that needs more bytes than the message size".
+abbrev pub fitsIn : ℕ → Option ℕ → Bool
+fitsIn size none = true
+fitsIn size (some v) = ltb v (256 ^ size)
+
+unfoldable pub resultFits : Kept → Input → ℕ → Bool
+resultFits k i t = fitsIn (k .taskSize t) (i .result t)
+
+-- Refusal 43: "w ticks gone without a result", at age exactly w (reading 24).
+unfoldable pub isLastChance : Kept → State → ℕ → Bool
+isLastChance k s t = (ltb t (k .tasks) && isRunning k s t) && eqb (runAge k s t) (k .taskWorst t)
+
+unfoldable pub resultInTime : Kept → State → Input → ℕ → Bool
+resultInTime k s i t = not (isLastChance k s t) || (s .given t || isGiven (i .result t))
+
+-- Refusal 44: "a mode that isn't one of that module's, or a change when the time since the mode to be left began isn't a multiple of
+-- that mode's switch period (naming the present mode is a change too)".
+unfoldable pub isModeOf : Kept → ℕ → ℕ → Bool
+isModeOf k m μ = ltb m (k .modules) && (ltb μ (k .modes) && eqb (k .modeHome μ) m)
+
+unfoldable pub maySwitch : Kept → State → ℕ → Bool
+maySwitch k s m = divides (k .modeSwitch (s .mode m)) (s .age m)
+
+abbrev pub mayTake : Kept → State → ℕ → Option ℕ → Bool
+mayTake k s m none = true
+mayTake k s m (some μ) = isModeOf k m μ && maySwitch k s m
+
+unfoldable pub changeAllowed : Kept → State → Input → ℕ → Bool
+changeAllowed k s i m = mayTake k s m (i .change m)
+
+-- "Refusals, in order, lowest task or module first as place", all by the state before the tick (reading 26).
+unfoldable pub judgedTick : Kept → State → Input → Res (Unit {0})
+judgedTick k s i = do
+  at 41 0 (firstBad (resultAwaited k s i) (upTo taskPlaces))
+  at 42 0 (firstBad (resultFits k i) (upTo taskPlaces))
+  at 43 0 (firstBad (resultInTime k s i) (upTo taskPlaces))
+  at 44 0 (firstBad (changeAllowed k s i) (upTo modulePlaces))
+
+-- (a) "results given now enter out-boxes"
+unfoldable pub outAfter : State → Input → ℕ → ℕ
+outAfter s i t = Option·getD (i .result t) (s .out t)
+
+-- the lowest of so many rows that has this time
+unfoldable pub hasOther : (ℕ → ℕ) → ℕ → ℕ → Bool
+hasOther times now r = not (eqb (times r) now)
+
+unfoldable pub rowWith : (ℕ → ℕ) → ℕ → ℕ → Option ℕ
+rowWith times count now = firstBad (hasOther times now) (upTo count)
+
+-- (b) "a frame stopping now lands on the other nodes, an empty one landing nothing": a data frame
+unfoldable pub landsOn : Kept → State → ℕ → ℕ → ℕ → Bool
+landsOn k s n t r = s .full && (eqb (k .dataTask r) t && not (eqb (homeNode k t) n))
+
+abbrev pub landedBy : Kept → State → ℕ → ℕ → Option ℕ → ℕ
+landedBy k s n t none = s .landed n t
+landedBy k s n t (some r) = cond (landsOn k s n t r) (s .load) (s .landed n t)
+
+unfoldable pub landedAfter : Kept → State → ℕ → ℕ → ℕ
+landedAfter k s n t = landedBy k s n t (rowWith (k .dataStop) (k .datas) (s .clock))
+
+-- (b) and a control frame: "one byte for each sending module on it"
+unfoldable pub isByteOf : Kept → ℕ → ℕ → Bool
+isByteOf k m r = k .sends m && eqb (k .moduleNode m) (k .controlNode r)
+
+abbrev pub heldBy : Kept → State → ℕ → ℕ → Option ℕ → ℕ
+heldBy k s n m none = s .held n m
+heldBy k s n m (some r) = cond (isByteOf k m r && not (eqb (k .moduleNode m) n)) (s .modeByte m) (s .held n m)
+
+unfoldable pub heldAfter : Kept → State → ℕ → ℕ → ℕ
+heldAfter k s n m = heldBy k s n m (rowWith (k .controlStop) (k .controls) (s .clock))
+
+-- (c) "for each invocation ending now": of the running modes (reading 30)
+unfoldable pub endsNow : Kept → State → ℕ → Bool
+endsNow k s t = isRunning k s t && divides (runPeriod k s t) (taskAge k s t)
+
+-- A message of the bus task in this mode has this deadline (reading 30).
+unfoldable pub hasMessage : Kept → ℕ → ℕ → ℕ → Bool
+hasMessage k t μ deadline = k .isBus t && (ltb 0 (k .run μ t) && divides (k .run μ t) deadline)
+
+-- (c) "its own node shows the out-box, and each other node shows the landed value if the mode bytes it holds say that such a message
+-- exists"
+unfoldable pub ownShows : Kept → State → ℕ → ℕ → Bool
+ownShows k s n t = endsNow k s t && eqb (homeNode k t) n
+
+unfoldable pub otherShows : Kept → State → ℕ → ℕ → Bool
+otherShows k s n t = endsNow k s t && hasMessage k t (heldAfter k s n (k .taskHome t)) (s .clock)
+
+unfoldable pub shownAfter : Kept → State → Input → ℕ → ℕ → ℕ
+shownAfter k s i n t =
+    cond (ownShows k s n t) (outAfter s i t)
+    (cond (otherShows k s n t) (landedAfter k s n t) (s .shown n t))
+
+-- (d) "modes change"
+unfoldable pub modeAfter : State → Input → ℕ → ℕ
+modeAfter s i m = Option·getD (i .change m) (s .mode m)
+
+-- one tick on, from 1 to a period and again from 1
+unfoldable pub oneOn : ℕ → ℕ → ℕ
+oneOn now period = cond (ltb now period) (now + 1) 1
+
+unfoldable pub ageAfter : Kept → State → Input → ℕ → ℕ
+ageAfter k s i m = cond (isGiven (i .change m)) 1 (oneOn (s .age m) (k .modePeriod (s .mode m)))
+
+-- A run has had its result; where a run ends or the mode changes, the next has not.
+unfoldable pub givenAfter : Kept → State → Input → ℕ → Bool
+givenAfter k s i t =
+    not (endsNow k s t || isGiven (i .change (k .taskHome t))) && (s .given t || isGiven (i .result t))
+
+-- (e) "consumers read": the values that `shownAfter` gives. Nothing changes.
+
+-- (f) "frames starting now take the mode bytes": of the modes after (d). P is time 0 of the next cycle.
+unfoldable pub startingControl : Kept → State → Option ℕ
+startingControl k s = rowWith (k .controlStart) (k .controls) (s .clock % k .period)
+
+unfoldable pub startingData : Kept → State → Option ℕ
+startingData k s = rowWith (k .dataStart) (k .datas) (s .clock % k .period)
+
+abbrev pub modeByteBy : Kept → State → Input → ℕ → Option ℕ → ℕ
+modeByteBy k s i m none = s .modeByte m
+modeByteBy k s i m (some r) = cond (isByteOf k m r) (modeAfter s i m) (s .modeByte m)
+
+unfoldable pub modeByteAfter : Kept → State → Input → ℕ → ℕ
+modeByteAfter k s i m = modeByteBy k s i m (startingControl k s)
+
+-- (f) "or the out-box if the sender's mode has that message, else go empty"
+abbrev pub fullBy : Kept → State → Input → Option ℕ → Bool
+fullBy k s i none = s .full
+fullBy k s i (some r) =
+    hasMessage k (k .dataTask r) (modeAfter s i (k .taskHome (k .dataTask r))) (k .dataDeadline r)
+
+unfoldable pub fullAfter : Kept → State → Input → Bool
+fullAfter k s i = fullBy k s i (startingData k s)
+
+abbrev pub loadBy : Kept → State → Input → Option ℕ → ℕ
+loadBy k s i none = s .load
+loadBy k s i (some r) = outAfter s i (k .dataTask r)
+
+unfoldable pub loadAfter : Kept → State → Input → ℕ
+loadAfter k s i = loadBy k s i (startingData k s)
+
+-- "Order within a tick, time 0 included": (a) to (f).
+unfoldable pub tick : Kept → State → Input → State
+tick k s i =
+    record {
+      clock = oneOn (s .clock) (k .period);
+      mode = modeAfter s i;
+      age = ageAfter k s i;
+      given = givenAfter k s i;
+      out = outAfter s i;
+      landed = landedAfter k s;
+      shown = shownAfter k s i;
+      held = heldAfter k s;
+      full = fullAfter k s i;
+      load = loadAfter k s i;
+      modeByte = modeByteAfter k s i;
+    }
+
+-- What an accepted tick answers: the row that starts at it, or that none does (reading 34); "beside the state".
+pub data Started : Type 0 where
+  control : ControlRow → Started
+  message : DataRow → Started
+  nothing : Started
+
+unfoldable pub keptControl : Kept → ℕ → ControlRow
+keptControl k r = record { node = k .controlNode r; start = k .controlStart r; stop = k .controlStop r }
+
+unfoldable pub keptData : Kept → ℕ → DataRow
+keptData k r =
+    record { task = k .dataTask r; deadline = k .dataDeadline r; start = k .dataStart r; stop = k .dataStop r }
+
+abbrev pub startedBy : Kept → Option ℕ → Option ℕ → Started
+startedBy k (some r) d = control (keptControl k r)
+startedBy k none (some r) = message (keptData k r)
+startedBy k none none = nothing
+
+unfoldable pub started : Kept → State → Started
+started k s = startedBy k (startingControl k s) (startingData k s)
+
+pub record Ticked : Type 0 where
+  pub row : Started
+  pub state : State
+
+unfoldable pub step : Kept → State → Input → Res Ticked
+step k s i = do
+  judgedTick k s i
+  ok (record { row = started k s; state = tick k s i })
+
+-- Refusal 40 of a beginning: "of 16 starting places, a module's holds no mode of its own, or a later one holds anything".
+abbrev pub holdsModeOf : Kept → ℕ → Option ℕ → Bool
+holdsModeOf k m none = not (ltb m (k .modules))
+holdsModeOf k m (some μ) = isModeOf k m μ
+
+unfoldable pub startsWell : Kept → (ℕ → Option ℕ) → ℕ → Bool
+startsWell k starting m = holdsModeOf k m (starting m)
+
+pub record Begun : Type 0 where
+  pub kept : Kept
+  pub state : State
+
+-- "It begins only with a passed table (else the checker's number) and one mode for each module."
+unfoldable pub begin : List ℕ → List ℕ → (ℕ → Option ℕ) → Res Begun
+begin plan table starting = do
+  c ← passed plan table
+  at 40 0 (firstBad (startsWell (keptOf c) starting) (upTo modulePlaces))
+  ok (record { kept = keptOf c; state = stateAtStart starting })
