@@ -6,20 +6,13 @@ use Prim.Native.Nat.{ℕ, zero, suc, _<_}
 use native.Mathlib.Nat.{not-suc-le-zero}
 use native.Mathlib.Omega.{arith}
 use lib.Dec.{eqb}
+use Rattle.laws.proofs.Lists.{both-left, both-right}
 use borrow.Author.Tests.{eqb-true, eqb-false}
 
 -- the test passes at each place below n
 abbrev pub everyBelow : (ℕ → Bool) → ℕ → Bool
 everyBelow f zero = true
 everyBelow f (suc n) = f n && everyBelow f n
-
-pub both-left : (a b : Bool) → (a && b) ≡ true → a ≡ true
-both-left true b e = refl
-both-left false b e = e
-
-pub both-right : (a b : Bool) → (a && b) ≡ true → b ≡ true
-both-right true b e = e
-both-right false b e = cc
 
 module _ (f : ℕ → Bool) where
   -- at place n itself, or at one before it

@@ -11,7 +11,7 @@ use lib.Dec.{eqb, leb, ltb}
 use lib.ListN.{length, getD, drop, length-drop, drop-of-length-le}
 use lib.Seq.{drop-cons, drop-drop}
 use borrow.Author.Tests.{ltb-true, ltb-false, leb-true, leb-false, eqb-true, eqb-false}
-use Rattle.laws.proofs.Table.{both-left, both-right}
+use Rattle.laws.proofs.Lists.{both-left, both-right}
 use Rattle.laws.specs.Res.{Res, ok, refuse}
 use Rattle.rules.specs.Records.{Rec, known, bodyLength, recordOf, ended, before, walk}
 use Rattle.records.specs.Reader.{follows, either, endAt, recordAt, kindAt, nextAt}

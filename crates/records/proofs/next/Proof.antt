@@ -4,7 +4,7 @@ use mathlib.Core.Path.{sym, _∙_}
 use borrow.Author.Tests.{le-ltb, lt-ltb, le-leb, lt-leb, eq-eqb, ne-eqb}
 use Rattle.records.specs.Reader.{nextAt}
 use Rattle.records.proofs.LengthTable.{known-length}
-use Rattle.laws.proofs.Table.{both-left}
+use Rattle.laws.proofs.Lists.{both-left}
 use borrow.Author.Needs.{needs}
 use Rattle.records.proofs.next.Statement.{statement}
 use Rattle.records.proofs.next.Tie as tie
