@@ -152,7 +152,7 @@ module _ (F : ℕ → Frame) where
       go true f g = f refl
       go false f g = g refl
 
-  entered-all : {P : ℕ → Type 0} (k : ℕ) {pool : List ℕ} → P k → All P pool → All P (entered k pool)
+  pub entered-all : {P : ℕ → Type 0} (k : ℕ) {pool : List ℕ} → P k → All P pool → All P (entered k pool)
   entered-all k p empty = also p empty
   entered-all {P} k p (also {x = j} {l = js} q r) =
       entered-case (All P) k j js (λ _. also q (entered-all k p r)) (λ _. also p (also q r))
