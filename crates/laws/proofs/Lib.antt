@@ -1,10 +1,10 @@
-pub mod Lists
-pub mod Loops
-pub mod Res
-pub mod Tests
 pub mod Divisors
+pub mod Lists
+pub mod Little
+pub mod Loops
 pub mod Members
 pub mod Orders
+pub mod Res
 pub mod Table
 pub mod Little
 pub mod Faults
@@ -12,3 +12,4 @@ pub mod Refusals
 pub mod Bus
 pub mod Runs
 pub mod Places
+pub mod Tests
