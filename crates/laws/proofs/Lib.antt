@@ -6,7 +6,6 @@ pub mod Members
 pub mod Orders
 pub mod Res
 pub mod Table
-pub mod Little
 pub mod Faults
 pub mod Refusals
 pub mod Bus
