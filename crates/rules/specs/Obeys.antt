@@ -153,11 +153,12 @@ pub record UnreadAt (plan table : List ℕ) (p : ℕ) : Type 0 where
   pub isLaid : layout read ≡ ok laid
   pub unread : BreakRecords tableFollows 0 0 table p
 
--- The plan passes 1 to 11, the table reads as records and keeps the first i of the rules 21 to 27; the next, 21 + i, is broken, first
--- at record p.
+-- the rule that asks nothing
 abbrev pub noRule : Rule
 noRule = record { number = 0; first = 0; places = 0; asks = λ k. Unit {0} }
 
+-- The plan passes 1 to 11, the table reads as records and keeps the first i of the rules 21 to 27; the next, 21 + i, is broken, first
+-- at record p.
 pub record BrokenAt (plan table : List ℕ) (i p : ℕ) : Type 0 where
   pub read : Plan
   pub isRead : readPlan plan ≡ ok read
