@@ -18,3 +18,4 @@ pub mod Room
 pub mod RecordsExact
 pub mod TransparentPlan
 pub mod Transparent
+pub mod TransparentTold
