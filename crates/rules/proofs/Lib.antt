@@ -19,3 +19,4 @@ pub mod RecordsExact
 pub mod TransparentPlan
 pub mod Transparent
 pub mod TransparentTold
+pub mod TransparentPlays
