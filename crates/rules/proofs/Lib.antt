@@ -19,3 +19,5 @@ pub mod Room
 pub mod RecordsExact
 pub mod TransparentPlan
 pub mod Transparent
+pub mod TransparentTold
+pub mod TransparentPlays

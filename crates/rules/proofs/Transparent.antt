@@ -211,20 +211,20 @@ fair-home p kept t w = all-getD noTask (kept .tasks) t w .home
 
 module _ (plan table : List ℕ) (starting : ℕ → Option ℕ) (b : Begun) (begins : begin plan table starting ≡ ok b)
     (p : Plan) (reads : readPlan plan ≡ ok p) (history : List Input) (s : State) (plays : played (b .kept) (b .state) history ≡ ok s) where
-  facts : Beginning plan table starting b
+  pub facts : Beginning plan table starting b
   facts = begun plan table starting b begins
 
-  same-plan : facts .read ≡ p
+  pub same-plan : facts .read ≡ p
   same-plan = ok-injective (sym (facts .isRead) ∙ reads)
 
-  plays-on : played (keptFor (facts .read) (facts .rows)) (stateAtStart starting) history ≡ ok s
+  pub plays-on : played (keptFor (facts .read) (facts .rows)) (stateAtStart starting) history ≡ ok s
   plays-on = subst (λ (b : Begun). played (b .kept) (b .state) history ≡ ok s) (facts .is) plays
 
   module _ (t : ℕ) (w : t < length (facts .read .tasks)) where
-    fair : FairTask (keptFor (facts .read) (facts .rows)) t
+    pub fair : FairTask (keptFor (facts .read) (facts .rows)) t
     fair = fair-task (facts .read) (facts .kept) (facts .rows) t w
 
-    first : ModeOf (keptFor (facts .read) (facts .rows)) t (firstIn starting (keptFor (facts .read) (facts .rows) .taskHome t))
+    pub first : ModeOf (keptFor (facts .read) (facts .rows)) t (firstIn starting (keptFor (facts .read) (facts .rows) .taskHome t))
     unfolding keptOf layoutOf
     first =
         first-mode (keptFor (facts .read) (facts .rows)) starting t (home (facts .kept))

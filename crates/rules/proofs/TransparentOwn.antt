@@ -288,7 +288,7 @@ module _ (k : Kept) (first : ℕ → ℕ) (t : ℕ) where
       not-ending p a q d = true-false (sym (ending-tests k s t .passes (record { invoked = p; released = a; whole = d })) ∙ q)
 
       -- without a change a run begins, which has no result yet, or the run under way goes on
-      goes-case : {C : Type 0} → i .change homeModule ≡ none → 0 < runPeriod k s t
+      pub goes-case : {C : Type 0} → i .change homeModule ≡ none → 0 < runPeriod k s t
           → (runAge k (tick k s i) t ≡ 1 → tick k s i .given t ≡ false → C)
           → (0 < taskAge k s t → endsNow k s t ≡ false → taskAge k (tick k s i) t ≡ taskAge k s t + 1
           → runAge k (tick k s i) t ≡ runAge k s t + 1 → C)

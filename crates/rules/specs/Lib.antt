@@ -11,3 +11,4 @@ pub mod StationRange
 pub mod OneBoard
 pub mod Obeys
 pub mod History
+pub mod Told
