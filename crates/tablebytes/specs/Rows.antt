@@ -1,0 +1,20 @@
+-- A table's rows in arrays, and the bytes of the table that they make.
+use mathlib.Core.List.{List, [], _∷_, _++_, map}
+use lib.ListN.{getD}
+use Prim.Native.Nat.{ℕ}
+use Rattle.laws.specs.Lists.{tab, joined}
+use Rattle.rules.specs.Frames.{ControlRow}
+use Rattle.rules.specs.Table.{DataRow, headerBytes, controlBytes, dataBytes}
+
+-- control row k, data row k
+unfoldable pub controlIn : List ℕ → List ℕ → List ℕ → ℕ → ControlRow
+controlIn node start stop k = record { node = getD node k 0; start = getD start k 0; stop = getD stop k 0 }
+
+unfoldable pub dataIn : List ℕ → List ℕ → List ℕ → List ℕ → ℕ → DataRow
+dataIn task deadline start stop k =
+    record { task = getD task k 0; deadline = getD deadline k 0; start = getD start k 0; stop = getD stop k 0 }
+
+-- "A table is 16, then all 17, then all 18, then 0."
+unfoldable pub tableIn : ℕ → List ControlRow → List DataRow → ℕ → ℕ → List ℕ
+tableIn period control rows controls datas =
+    headerBytes period controls datas ++ (joined (map controlBytes control) ++ (joined (map dataBytes rows) ++ (0 ∷ [])))
