@@ -1,9 +1,11 @@
 -- Frame rows as four numbers each, and what the arrays of placed frames give for them.
 use mathlib.Core.Bool.{Bool, true, false, cond}
 use mathlib.Core.List.{List, [], _∷_}
-use lib.Dec.{eqb, ltb}
-use lib.ListN.{getD}
-use Prim.Native.Nat.{ℕ, zero, suc, _+_, _%_, _^_}
+use lib.Dec.{ltb}
+use lib.ListN.{getD, set, replicate}
+use Prim.Native.Nat.{ℕ, zero, suc, _+_, _%_}
+use Rattle.laws.specs.Loops.{stores}
+use Rattle.rows.specs.declared.TableRows.{TableRows}
 
 -- a zero row
 abbrev pub zeros : ℕ → List ℕ
@@ -13,3 +15,23 @@ zeros k = 0 ∷ 0 ∷ 0 ∷ 0 ∷ []
 unfoldable pub rowIn : List ℕ → List ℕ → List ℕ → List ℕ → ℕ → ℕ → List ℕ
 rowIn task release deadline start frames k =
     cond (ltb k frames) (getD task k 0 ∷ getD release k 0 ∷ getD deadline k 0 ∷ getD start k 0 ∷ []) (zeros k)
+
+-- the starts stored at the numbers of the frames, the last first
+abbrev pub scattered : List ℕ → List ℕ → ℕ → List ℕ → List ℕ
+scattered number start zero by = by
+scattered number start (suc j) by = scattered number start j (set by (getD number j 0) (getD start j 0))
+
+-- row j of the table: its frame's task and deadline, and its stop, by the arrays of frames, of times by task and of placed frames
+unfoldable pub taskAt : List ℕ → List ℕ → ℕ → ℕ
+taskAt task number j = getD task (getD number j 0) 0
+
+unfoldable pub stopAt : List ℕ → List ℕ → List ℕ → List ℕ → ℕ → ℕ
+stopAt task time number start j = (getD start j 0 + getD time (taskAt task number j) 0) % 4294967296
+
+unfoldable pub tableRows : List ℕ → List ℕ → List ℕ → List ℕ → List ℕ → ℕ → TableRows
+tableRows task deadline time number start count =
+    record {
+      task = stores (replicate 256 0) (taskAt task number) count;
+      deadline = stores (replicate 256 0) (taskAt deadline number) count;
+      stop = stores (replicate 256 0) (stopAt task time number start) count;
+    }
