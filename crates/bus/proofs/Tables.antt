@@ -5,7 +5,7 @@ use mathlib.Core.Logic.{_⊎_, inl, inr}
 use native.Mathlib.Nat.{zero-add, not-suc-le-zero}
 use native.Mathlib.Decide.{ℕ-discrete, decLe}
 use native.Mathlib.Omega.{arith}
-use lib.ListN.{length, getD, set, replicate, length-set, length-replicate, getD-replicate}
+use lib.ListN.{length, getD, set, replicate, length-set, length-replicate, getD-replicate, List·getD-eq-default}
 use lib.Seq.{ext-getD, getD-set-same, getD-set-other}
 use Prim.Native.Nat.{ℕ, zero, suc, _+_, _≤_, _<_}
 use Rattle.laws.specs.Lists.{tab}
@@ -63,3 +63,8 @@ module _ {A : Type 0} where
       place : (k : ℕ) → k < 256 → (k < n) ⊎ (n ≤ k) → getD (stores old f n) k (f 0) ≡ f k
       place k v (inl h) = stores-at old f n k (f 0) h (rw (length-replicate 256 z) w)
       place k v (inr h) = stores-beyond old f n k (f 0) h ∙ getD-replicate 256 k z (f 0) v ∙ sym (behind k h v)
+
+-- a number of each thing of a list; what behind them stands for nothing has zero there
+pub filled-of : {B : Type 0} (number : B → ℕ) (l : List B) (nothing : B) → number nothing ≡ 0 → length l ≤ 256 → stores (replicate 256 0) (λ k. number (getD l k nothing)) (length l) ≡ byNumber (λ k. number (getD l k nothing))
+filled-of number l nothing e w =
+    filled (λ k. number (getD l k nothing)) 0 (length l) w (λ k h v. ap number (List·getD-eq-default l nothing h) ∙ e)

@@ -21,7 +21,7 @@ pub struct Senders {
 }
 
 // A number's place in a table.
-fn place(number: u8) -> usize
+pub fn place(number: u8) -> usize
     ensures { λ r. ⌜ (r ≡ number) × (r < 256) ⌝ }
 {
     number as usize

@@ -1,9 +1,9 @@
 -- A `do` block of tests in order gives exactly the first fault of the rules that the tests mean.
-use mathlib.Core.Path.{_≡_, refl, sym, ap, _∙_, subst}
+use mathlib.Core.Path.{_≡_, refl, sym, _∙_}
 use mathlib.Core.Bool.{Bool, true, false}
 use mathlib.Core.List.{List, [], _∷_}
 use mathlib.Core.Option.{Option, none, some}
-use mathlib.Core.Logic.{_⊎_, inl, inr}
+use mathlib.Core.Logic.{inl, inr}
 use native.Mathlib.Nat.{not-suc-le-zero, le-of-suc-le-suc, add-zero}
 use native.Mathlib.Omega.{arith}
 use lib.ListN.{length, getD, take}
@@ -12,8 +12,27 @@ use Rattle.laws.specs.Lists.{firstBad, upTo}
 use Rattle.laws.specs.Res.{Res, ok, refuse, _>>_, unless, at}
 use Rattle.laws.specs.Faults.{Rule, IsKept, BreaksAt, AllKept, FirstFault, CountUp}
 use Rattle.laws.proofs.Lists.{true-false}
-use Rattle.laws.proofs.Loops.{firstBad-upTo-none, firstBad-upTo-some, firstBad-upTo-passes, firstBad-upTo-within, firstBad-upTo-fails, firstBad-upTo-before}
-use Rattle.laws.proofs.Res.{refuse≢ok, refuse-number, refuse-place, then-case, then-refused, then-ok, then-refuse, at-ok, at-none, at-some, unless-ok}
+use Rattle.laws.proofs.Loops.{
+  firstBad-upTo-none,
+  firstBad-upTo-some,
+  firstBad-upTo-passes,
+  firstBad-upTo-within,
+  firstBad-upTo-fails,
+  firstBad-upTo-before,
+}
+use Rattle.laws.proofs.Res.{
+  refuse≢ok,
+  refuse-number,
+  refuse-place,
+  then-case,
+  then-refused,
+  then-ok,
+  then-refuse,
+  at-ok,
+  at-none,
+  at-some,
+  unless-ok,
+}
 use Rattle.laws.proofs.Tests.{Tests}
 
 -- accepted exactly when every rule is kept; refused with n at p exactly when that is the first fault
@@ -40,7 +59,8 @@ only-one : (r : Rule) (n p : ℕ) → FirstFault (r ∷ []) n p → BreaksAt r n
 only-one r n p (inl b) = b
 only-one r n p (inr h) = absurd (h .1)
 
-at-refused : (number first : ℕ) (o : Option ℕ) (n p : ℕ) → at number first o ≡ refuse n p → (k : ℕ) × (o ≡ some k) × (number ≡ n) × (first + k ≡ p)
+at-refused : (number first : ℕ) (o : Option ℕ) (n p : ℕ) → at number first o ≡ refuse n p
+    → (k : ℕ) × (o ≡ some k) × (number ≡ n) × (first + k ≡ p)
 at-refused number first none n p e = refuse≢ok (sym e)
 at-refused number first (some k) n p e = (k, refl, refuse-number e, refuse-place e)
 
@@ -152,7 +172,8 @@ module _ (d : Rule) where
       let rest = fault-of-rule (suc n) i p rs (c .1) (le-of-suc-le-suc w) (rw e (k .1)) in
       ((k .0, rest .0), rw (← e) (rest .1))
 
-  pub rule-of-fault : (n i p : ℕ) (rs : List Rule) → i < length rs → AllKept (take i rs) × BreaksAt (getD rs i d) (n + i) p → FirstFault rs (n + i) p
+  pub rule-of-fault : (n i p : ℕ) (rs : List Rule) → i < length rs → AllKept (take i rs) × BreaksAt (getD rs i d) (n + i) p
+      → FirstFault rs (n + i) p
   rule-of-fault n i p [] w h = absurd (not-suc-le-zero w)
   rule-of-fault n zero p (r ∷ rs) w h = inl (h .1)
   rule-of-fault n (suc i) p (r ∷ rs) w h =

@@ -2,7 +2,7 @@
 use mathlib.Core.Path.{_≡_, refl, sym, ap, _∙_, subst}
 use mathlib.Core.Bool.{Bool, true, false, not, _||_}
 use mathlib.Core.List.{List, [], _∷_, _++_, map, List·Memᴰ, List·Memᴰ·head, List·Memᴰ·tail, Memᴰ·cast}
-use mathlib.Core.Option.{Option, none, some}
+use mathlib.Core.Option.{none}
 use mathlib.Core.Logic.{_⊎_, inl, inr}
 use native.Mathlib.Nat.{not-suc-le-zero, le-of-suc-le-suc, eq-or-lt-of-le}
 use native.Mathlib.Omega.{arith}
@@ -54,6 +54,12 @@ module _ {A : Type 0} where
     all-getD d empty k h = absurd (not-suc-le-zero h)
     all-getD d (also p r) zero h = p
     all-getD d (also p r) (suc k) h = all-getD d r k (le-of-suc-le-suc h)
+
+    -- what also holds of the default holds at every place
+    pub all-getD-or : {l : List A} (d : A) → All P l → P d → (k : ℕ) → P (getD l k d)
+    all-getD-or d empty q k = q
+    all-getD-or d (also p r) q zero = p
+    all-getD-or d (also p r) q (suc k) = all-getD-or d r q k
 
     pub all-of-places : (l : List A) (d : A) → ((k : ℕ) → k < length l → P (getD l k d)) → All P l
     all-of-places [] d h = empty

@@ -3,7 +3,7 @@ use mathlib.Core.Path.{_≡_, sym}
 use mathlib.Core.Bool.{Bool, true, false}
 use mathlib.Core.Option.{Option, none, some}
 use native.Mathlib.Omega.{arith}
-use Prim.Native.Nat.{ℕ, _≤_, _<_}
+use Prim.Native.Nat.{ℕ, _≤_}
 use Rattle.laws.specs.Res.{Res, ok, refuse, _>>=_, _>>_, unless, at}
 use Rattle.laws.proofs.Res.{refuse≢ok, refuse-number, bind-refused, then-refused}
 
@@ -32,3 +32,7 @@ module _ {low high : ℕ} where
 
     pub gives-bind : {m : Res A} {f : A → Res B} → Gives low high m → ((a : A) → Gives low high (f a)) → Gives low high (_>>=_ m f)
     gives-bind {m} {f} s t = record { number = λ n p e. bind-refused m f e (s .number n p) (λ a _ g. t a .number n p g) }
+
+-- one range of numbers within another
+pub gives-within : {low high l h : ℕ} {A : Type 0} {m : Res A} → low ≤ l → h ≤ high → Gives l h m → Gives low high m
+gives-within a b g = record { number = λ n p e. let w = g .number n p e in (omega (arith, w .0), omega (arith, w .1)) }

@@ -78,6 +78,17 @@ module _ {P Q : Type 0} where
       passed true s h = t .passes (h (s .says refl))
       passed false s h = refl
 
+  pub by-implies : {b c : Bool} → Tests b P → Tests c Q → Tests (not b || c) (P → Q)
+  by-implies {b} {c} s t = record { says = said b s; passes = passed b s }
+    where
+      said : (b : Bool) → Tests b P → (not b || c) ≡ true → P → Q
+      said true s e h = t .says e
+      said false s e h = true-false (sym (s .passes h))
+
+      passed : (b : Bool) → Tests b P → (P → Q) → (not b || c) ≡ true
+      passed true s h = t .passes (h (s .says refl))
+      passed false s h = refl
+
 pub by-not : {b : Bool} {P : Type 0} → Tests b P → Tests (not b) (P → ⊥)
 by-not {b} {P} t = record { says = said b t; passes = passed b t }
   where

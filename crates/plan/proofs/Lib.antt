@@ -1,4 +1,5 @@
 pub mod Gathering
+pub mod Laid
 pub mod Parts
 pub mod Sizes
 pub mod SoFar

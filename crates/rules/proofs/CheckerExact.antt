@@ -1,27 +1,26 @@
 -- CheckerExact: each test of 21 to 27 means its rule, so the checker passes exactly the tables that keep all of them, and gives a number
 -- exactly where its rule is the first that is broken, at the lowest record.
 use mathlib.Core.Path.{_≡_, refl, sym, ap, _∙_, subst}
-use mathlib.Core.Bool.{Bool, true, false, cond, not, _&&_}
+use mathlib.Core.Bool.{Bool, true, false}
 use mathlib.Core.List.{List, [], _∷_, List·Memᴰ, List·Memᴰ·head, List·Memᴰ·tail}
 use mathlib.Core.Logic.{_⊎_, inl, inr, _↔_}
 use native.Mathlib.Omega.{arith}
 use borrow.Author.Tests.{le-leb, lt-leb}
-use lib.Dec.{eqb, leb}
 use lib.ListN.{length, getD, take}
 use lib.Seq.{length-take-le, getD-take}
-use Prim.Native.Nat.{ℕ, zero, suc, _+_, _≤_, _<_, _∣_}
+use Prim.Native.Nat.{ℕ, _+_, _≤_, _<_}
 use Rattle.laws.specs.Res.{Res, ok, refuse}
-use Rattle.laws.specs.Lists.{any, firstBad, upTo}
-use Rattle.laws.specs.Faults.{Rule, IsKept, AllKept, FirstFault, CountUp}
-use Rattle.laws.proofs.Lists.{true-false, tested, both-left, both-right}
+use Rattle.laws.specs.Lists.{any}
+use Rattle.laws.specs.Faults.{AllKept, CountUp}
+use Rattle.laws.proofs.Lists.{true-false}
 use Rattle.laws.proofs.Tests.{Tests, by-iff, by-and, by-not, by-any, by-eq, by-le, by-divides}
 use Rattle.laws.proofs.Res.{refuse≢ok, refuse-number, refuse-place, bind-case, then-case, bind-refused, then-refused}
 use Rattle.laws.proofs.Faults.{Exact, exact-rule, exact-once, exact-then, fault-of-rule, rule-of-fault}
 use Rattle.laws.proofs.Orders.{le-or-lt}
-use Rattle.laws.proofs.Members.{Pairs, member-getD, any-member}
-use Rattle.rules.specs.Records.{Rec, records, tableFollows}
+use Rattle.laws.proofs.Members.{Pairs, member-getD}
+use Rattle.rules.specs.Records.{records, tableFollows}
 use Rattle.rules.specs.Plan.{Plan, readPlan}
-use Rattle.rules.specs.Frames.{Frame, ControlRow, noControlRow, Layout, layout, layoutOf, gapTime, mostFrames}
+use Rattle.rules.specs.Frames.{Frame, ControlRow, Layout, layout, layoutOf, gapTime, mostFrames}
 use Rattle.rules.specs.LatestRelease.{noFrame, frameTime}
 use Rattle.rules.specs.Table.{DataRow, FrameRow}
 use Rattle.rules.specs.Checker.{
@@ -43,7 +42,6 @@ use Rattle.rules.specs.Checker.{
   deadlineKept,
   stopBefore,
   gapKept,
-  firstRow,
   rowsKeep,
   judged,
   Passed,
@@ -76,7 +74,8 @@ use Rattle.rules.specs.Obeys.{
 }
 use Rattle.rules.proofs.FramesOf.{Before, one-of-a-pair, plan-frames}
 use Rattle.rules.proofs.LaidOut.{laid-out}
-use Rattle.rules.proofs.RefusalNumbers.{plan-gives, layout-gives, records-give, judged-gives}
+use Rattle.rules.proofs.RefusalNumbers.{plan-gives, layout-gives, judged-gives}
+use Rattle.rules.proofs.RecordsExact.{records-exact, records-refused}
 
 module _ (l : Layout) (t : TableRead) where
   -- 21
@@ -196,7 +195,8 @@ module _ (l : Layout) (sorted : Pairs Before (l .frames)) (t : TableRead) where
   unfolding judged rowsKeep
   judged-exact =
       exact-then (exact-once 21 0 (header-means l t)) λ h₂₁.
-      exact-then (exact-rule (record { number = 22; first = 1; places = length (t .control); asks = IsFixed l t }) (controlKept l t) (control-means l t)) λ h₂₂.
+      exact-then
+      (exact-rule (record { number = 22; first = 1; places = length (t .control); asks = IsFixed l t }) (controlKept l t) (control-means l t)) λ h₂₂.
       exact-then (exact-rule (rowsAsk 23 t (NamesNew l t)) (namesNewFrame l t) (names-means l t)) λ h₂₃.
       exact-then (exact-rule (rowsAsk 24 t (TimeIsRight l t)) (timeKept l t) (λ k w. time-means k (h₂₃ .each k w))) λ h₂₄.
       exact-then (exact-rule (rowsAsk 25 t (IsReleased l t)) (releaseKept l t) (λ k w. release-means k (h₂₃ .each k w))) λ h₂₅.
@@ -259,7 +259,7 @@ module _ (plan table : List ℕ) where
         laid = l;
         isLaid = isLaid;
         rows = rs;
-        areRows = areRows;
+        areRows = records-exact tableFollows 20 table rs .0 areRows;
         obeys = kept-obeys l sorted (tableOf rs) (judged-exact l sorted (tableOf rs) .says isJudged);
       }
 
@@ -272,27 +272,29 @@ module _ (plan table : List ℕ) where
   passed-passes h =
       let sorted = sorted-frames (h .read) (h .laid) (h .isLaid) in
       let t = tableOf (h .rows) in
-      rw (h .isRead, h .isLaid, h .areRows, judged-exact (h .laid) sorted t .passes (obeys-kept (h .laid) sorted t (h .obeys)))
+      let isTable = records-exact tableFollows 20 table (h .rows) .1 (h .areRows) in
+      rw (h .isRead, h .isLaid, isTable, judged-exact (h .laid) sorted t .passes (obeys-kept (h .laid) sorted t (h .obeys)))
 
   pub passed-faults : (n p : ℕ) → passed plan table ≡ refuse n p → CheckFault plan table n p
   unfolding passed
   passed-faults n p e =
       bind-refused (readPlan plan) _ e ofPlan λ q isRead e₁.
       bind-refused (layout q) _ e₁ (ofLayout isRead) λ l isLaid e₂.
-      bind-refused (records tableFollows 20 table) _ e₂ (ofRecords isRead isLaid) λ rs areRows e₃.
+      bind-refused (records tableFollows 20 table) _ e₂
+      (λ f. let b = records-refused tableFollows 20 table n p .0 f in ofRecords isRead isLaid (b .0) (b .1)) λ rs areRows e₃.
       let sorted = sorted-frames q l isLaid in
       then-refused (judged l (tableOf rs)) _ e₃
-      (λ f. ofTable isRead isLaid areRows (judged-exact l sorted (tableOf rs) .refuses n p f))
+      (λ f. ofTable isRead isLaid (records-exact tableFollows 20 table rs .0 areRows) (judged-exact l sorted (tableOf rs) .refuses n p f))
       (λ _ _ f. refuse≢ok (sym f))
 
   pub fault-refuses : (n p : ℕ) → CheckFault plan table n p → passed plan table ≡ refuse n p
   unfolding passed
   fault-refuses n p (ofPlan e) = rw e
   fault-refuses n p (ofLayout a e) = rw (a, e)
-  fault-refuses n p (ofRecords a b e) = rw (a, b, e)
+  fault-refuses n p (ofRecords a b e f) = rw (a, b, records-refused tableFollows 20 table n p .1 (e, f))
   fault-refuses n p (ofTable {q} {l} {rs} a b c f) =
       let sorted = sorted-frames q l b in
-      rw (a, b, c, judged-exact l sorted (tableOf rs) .refused n p f)
+      rw (a, b, records-exact tableFollows 20 table rs .1 c, judged-exact l sorted (tableOf rs) .refused n p f)
 
 -- ---- the checker
 
@@ -350,14 +352,14 @@ module _ (plan table : List ℕ) where
   fault-twenty : (p : ℕ) → CheckFault plan table 20 p → UnreadAt plan table p
   fault-twenty p (ofPlan e) = absurd (omega (arith, plan-gives plan .number 20 p e))
   fault-twenty p (ofLayout {q} a e) = absurd (omega (arith, layout-gives q .number 20 p e))
-  fault-twenty p (ofRecords {q} {l} a b e) = record { read = q; isRead = a; laid = l; isLaid = b; unread = e }
+  fault-twenty p (ofRecords {q} {l} a b e f) = record { read = q; isRead = a; laid = l; isLaid = b; unread = f }
   fault-twenty p (ofTable {q} {l} {rs} a b c f) =
       absurd (omega (arith, judged-gives l (tableOf rs) .number 20 p (judged-exact l (sorted-frames q l b) (tableOf rs) .refused 20 p f)))
 
   fault-rule : (i p : ℕ) → i < 7 → CheckFault plan table (21 + i) p → BrokenAt plan table i p
   fault-rule i p w (ofPlan e) = absurd (omega (arith, plan-gives plan .number (21 + i) p e))
   fault-rule i p w (ofLayout {q} a e) = absurd (omega (arith, layout-gives q .number (21 + i) p e))
-  fault-rule i p w (ofRecords a b e) = absurd (omega (arith, records-give tableFollows 20 table .number (21 + i) p e))
+  fault-rule i p w (ofRecords a b e f) = absurd (omega (arith, e))
   fault-rule i p w (ofTable {q} {l} {rs} a b c f) =
       let t = tableOf rs in
       let r = fault-of-rule noRule 21 i p (tableRules l t) (rules-count-up l t) w f in
@@ -368,12 +370,25 @@ module _ (plan table : List ℕ) where
       ofTable (h .isRead) (h .isLaid) (h .areRows)
       (rule-of-fault noRule 21 i p (tableRules (h .laid) (tableOf (h .rows))) w (h .kept, h .broken))
 
-  -- 20: the plan is laid out and the table does not read as records
-  pub unread-exact : (p : ℕ) → (passed plan table ≡ refuse 20 p) ↔ UnreadAt plan table p
-  unread-exact p =
-      (λ e. fault-twenty p (passed-faults plan table 20 p e), λ h. fault-refuses plan table 20 p (ofRecords (h .isRead) (h .isLaid) (h .unread)))
+module _ (plan table : List ℕ) (rows : List FrameRow) where
+  -- the first fault, where enough rows are lent
+  faults : (n p : ℕ) → 20 ≤ n → check plan table rows .answer ≡ refuse n p → (256 ≤ length rows) × CheckFault plan table n p
+  faults n p w e = lent (checker-refuses plan table rows n p .0 e)
+    where
+      lent : CheckRefuses plan table rows n p → (256 ≤ length rows) × CheckFault plan table n p
+      lent (inl h) = absurd (omega (arith, h .1))
+      lent (inr h) = h
+
+  -- 20: the plan passes 1 to 11, and the table breaks the record rules, first there
+  pub unread-exact : (p : ℕ) → (check plan table rows .answer ≡ refuse 20 p) ↔ ((256 ≤ length rows) × UnreadAt plan table p)
+  unread-exact p = (
+    λ e. let f = faults 20 p (omega arith) e in (f .0, fault-twenty plan table p (f .1)),
+    λ h. checker-refuses plan table rows 20 p .1 (inr (h .0, ofRecords (h .1 .isRead) (h .1 .isLaid) refl (h .1 .unread))),
+  )
 
   -- 21 to 27: the rules before are kept, and this one is broken, first there
-  pub rule-exact : (i p : ℕ) → i < 7 → (passed plan table ≡ refuse (21 + i) p) ↔ BrokenAt plan table i p
-  rule-exact i p w =
-      (λ e. fault-rule i p w (passed-faults plan table (21 + i) p e), λ h. fault-refuses plan table (21 + i) p (rule-fault i p w h))
+  pub rule-exact : (i p : ℕ) → i < 7 → (check plan table rows .answer ≡ refuse (21 + i) p) ↔ ((256 ≤ length rows) × BrokenAt plan table i p)
+  rule-exact i p w = (
+    λ e. let f = faults (21 + i) p (omega arith) e in (f .0, fault-rule plan table i p w (f .1)),
+    λ h. checker-refuses plan table rows (21 + i) p .1 (inr (h .0, rule-fault plan table i p w (h .1))),
+  )

@@ -1,18 +1,18 @@
 -- LaidOut: what refusals 6 to 11 leave of a plan, and how large its numbers can be: P is at most a mode period, the frames' deadlines
 -- and the control rows lie within P, and tasks and nodes are those of the plan.
-use mathlib.Core.Path.{_≡_, refl, sym, ap, _∙_, subst}
-use mathlib.Core.Bool.{Bool, true, false, _&&_}
-use mathlib.Core.List.{List, [], _∷_, map, List·Memᴰ}
+use mathlib.Core.Path.{_≡_, refl, ap}
+use mathlib.Core.Bool.{true}
+use mathlib.Core.List.{List, [], _∷_}
 use native.Mathlib.Nat.{dvd-trans, le-of-dvd, pos-of-dvd-of-pos, div-mul-le-self, mul-le-mul-right}
 use native.Mathlib.Omega.{arith}
 use borrow.Author.Tests.{leb-true, eqb-true, eq-eqb}
-use lib.Dec.{eqb, leb}
-use lib.ListN.{length, getD}
-use Prim.Native.Nat.{ℕ, zero, suc, _+_, _*_, _/_, _≤_, _<_, _∣_}
-use Rattle.laws.specs.Res.{Res, ok, unless}
-use Rattle.laws.specs.Lists.{keep, any, lastD, tab, upTo}
+use lib.Dec.{leb}
+use lib.ListN.{length}
+use Prim.Native.Nat.{ℕ, suc, _+_, _*_, _/_, _≤_, _<_, _∣_}
+use Rattle.laws.specs.Res.{ok, unless}
+use Rattle.laws.specs.Lists.{keep, any, lastD, upTo}
 use Rattle.laws.specs.Numbers.{divides}
-use Rattle.laws.proofs.Lists.{both-left, both-right, any-upTo-true, length-keep, length-upTo}
+use Rattle.laws.proofs.Lists.{both-left, any-upTo-true, length-keep, length-upTo}
 use Rattle.laws.proofs.Res.{ok-injective, then-case, unless-ok}
 use Rattle.laws.proofs.Divisors.{divides-true}
 use Rattle.laws.proofs.Members.{
@@ -33,7 +33,7 @@ use Rattle.laws.proofs.Members.{
   keep-member,
   member-tab,
 }
-use Rattle.rules.specs.Plan.{Bus, Mode, Task, Invocation, Plan, noMode, theMode, theTask, periodOf}
+use Rattle.rules.specs.Plan.{Plan, noMode, theMode, theTask}
 use Rattle.rules.specs.Frames.{
   Run,
   runOf,
@@ -71,7 +71,7 @@ use Rattle.rules.specs.Frames.{
 }
 use Rattle.rules.proofs.Period.{switch-grid}
 use Rattle.rules.proofs.FramesOf.{plan-frames}
-use Rattle.rules.proofs.PlanKept.{Between, PlanKept, InvocationKept}
+use Rattle.rules.proofs.PlanKept.{Between, PlanKept}
 
 -- refusals 6 to 11 passed
 pub record LaidOut (p : Plan) (l : Layout) : Type 0 where
@@ -114,7 +114,8 @@ module _ (p : Plan) (k : PlanKept p) where
   pub sender : (t : ℕ) → t < length (p .tasks) → isBusTask p t ≡ true → isSending p (theTask p t .home) ≡ true
   unfolding isSending busTasks livesIn
   sender t w b =
-      any-among (livesIn p (theTask p t .home)) (keep-member (isBusTask p) b (member-tab (λ k. k) 0 (length (p .tasks)) t (omega arith) (omega arith)))
+      any-among (livesIn p (theTask p t .home))
+      (keep-member (isBusTask p) b (member-tab (λ k. k) 0 (length (p .tasks)) t (omega arith) (omega arith)))
       (eq-eqb (theTask p t .home) (theTask p t .home) refl)
 
   mode-of : (t : ℕ) → t < length (p .tasks) → isBusTask p t ≡ true → SendingMode p

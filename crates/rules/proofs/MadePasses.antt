@@ -1,8 +1,8 @@
 -- MadePasses: whatever `make` makes, `check` passes, and both leave the same frame rows.
 use mathlib.Core.Path.{_≡_, refl, sym, ap, _∙_, subst}
-use mathlib.Core.Bool.{Bool, true, false, cond, _&&_}
-use mathlib.Core.List.{List, [], _∷_, _++_, map, List·Memᴰ}
-use mathlib.Core.Logic.{_⊎_, inl, inr, _↔_}
+use mathlib.Core.Bool.{true, false}
+use mathlib.Core.List.{List, [], _∷_, map}
+use mathlib.Core.Logic.{_⊎_, inl, inr}
 use native.Mathlib.Nat.{zero-add, add-zero, add-suc, suc-add}
 use native.Mathlib.Omega.{arith}
 use borrow.Author.Tests.{leb-true, eqb-true, eqb-false, le-leb, lt-leb}
@@ -11,36 +11,50 @@ use lib.ListN.{length, getD, take, drop, length-map}
 use lib.Seq.{take-at}
 use Prim.Native.Nat.{ℕ, zero, suc, _+_, _≤_, _<_, zero-le, suc-le-suc}
 use Rattle.laws.specs.Res.{Res, ok, refuse, unless}
-use Rattle.laws.specs.Lists.{lastD}
 use Rattle.laws.proofs.Res.{refuse≢ok, ok-injective, bind-case, then-case, unless-ok}
 use Rattle.laws.proofs.Lists.{tested}
 use Rattle.laws.proofs.Tests.{by-same, by-and, by-eq}
 use Rattle.laws.proofs.Orders.{le-or-lt}
-use Rattle.laws.proofs.Members.{All, empty, also, Pairs, all-weaker, all-both, all-getD, all-map, pairs-getD, chain-getD, member-getD, map-getD}
-use Rattle.rules.specs.Records.{Rec, records, tableFollows}
-use Rattle.rules.specs.Plan.{Plan, readPlan}
-use Rattle.rules.specs.Frames.{Frame, ControlRow, noControlRow, Layout, layout, layoutOf, gapTime, busPeriod, controlRows, controlEnd, frames, mostFrames}
-use Rattle.rules.specs.LatestRelease.{Placed, noFrame, frameTime, latestRelease}
-use Rattle.rules.specs.Table.{DataRow, dataRow, tableBytes, FrameRow, startFor, rowsFrom, rowsThenZero, MadeTable, madeTable, tableFor, outcome, make}
-use Rattle.rules.specs.Checker.{TableRead, tableOf, rowAt, noDataRow, controlAt, stopBefore, Passed, passed, startIn, isFrameOf, checkedRow, check}
-use Rattle.rules.specs.Obeys.{
-  frameAt,
-  NamesFrame,
-  HeaderIsRight,
-  IsFixed,
-  NamesNew,
-  TimeIsRight,
-  IsReleased,
-  IsInTime,
-  IsSpaced,
-  ObeysTable,
-  Passes,
+use Rattle.laws.proofs.Members.{
+  All,
+  empty,
+  also,
+  Pairs,
+  all-weaker,
+  all-both,
+  all-getD,
+  all-map,
+  pairs-getD,
+  chain-getD,
+  member-getD,
+  map-getD,
 }
+use Rattle.rules.specs.Records.{records, tableFollows}
+use Rattle.rules.specs.Plan.{Plan, readPlan}
+use Rattle.rules.specs.Frames.{Frame, Layout, layout, layoutOf, gapTime, controlRows, controlEnd, frames, mostFrames}
+use Rattle.rules.specs.LatestRelease.{Placed, noFrame, frameTime, latestRelease}
+use Rattle.rules.specs.Table.{
+  DataRow,
+  dataRow,
+  tableBytes,
+  FrameRow,
+  startFor,
+  rowsFrom,
+  rowsThenZero,
+  MadeTable,
+  madeTable,
+  tableFor,
+  outcome,
+  make,
+}
+use Rattle.rules.specs.Checker.{TableRead, rowAt, noDataRow, Passed, passed, startIn, isFrameOf, checkedRow, check}
+use Rattle.rules.specs.Obeys.{frameAt, NamesFrame, NamesNew, TimeIsRight, IsReleased, IsInTime, IsSpaced, ObeysTable, Passes}
 use Rattle.rules.proofs.PlanKept.{PlanKept, readable-kept}
-use Rattle.rules.proofs.LaidOut.{LaidOut, laid-out, period-kept, FrameKept, frames-kept, ControlKept, control-kept, control-count, gap-within}
+use Rattle.rules.proofs.LaidOut.{LaidOut, laid-out, period-kept, FrameKept, frames-kept, control-kept, control-count, gap-within}
 use Rattle.rules.proofs.FramesOf.{Before, before-not-same, one-of-a-pair, plan-frames}
 use Rattle.rules.proofs.Placing.{Known, Good, PlacedWell, placed-well}
 use Rattle.rules.proofs.TableBytes.{ControlFits, DataFits, TableFits, tableRead, tableRecords, table-reads, table-read}
+use Rattle.rules.proofs.RecordsExact.{records-exact}
 use Rattle.rules.proofs.CheckerExact.{passed-passes, lent-enough}
 
 abbrev noPlaced : Placed
@@ -231,7 +245,8 @@ module _ (p : Plan) (k : PlanKept p) (h : LaidOut p (layoutOf p)) (placed : List
       (λ e. same (tested (eqb (x .number) n)) e)
       (λ e. let q : x .frame ≡ frameAt l n = sym (c .is) ∙ ap (frameAt l) e in (ap (λ (f : Frame). f .task) q, ap (λ (f : Frame). f .deadline) q))
     where
-      same : (eqb (x .number) n ≡ true) ⊎ (eqb (x .number) n ≡ false) → (x .frame .task ≡ frameAt l n .task) × (x .frame .deadline ≡ frameAt l n .deadline)
+      same : (eqb (x .number) n ≡ true) ⊎ (eqb (x .number) n ≡ false)
+          → (x .frame .task ≡ frameAt l n .task) × (x .frame .deadline ≡ frameAt l n .deadline)
           → x .number ≡ n
       same (inl q) e = eqb-true (x .number) n q
       same (inr q) e =
@@ -256,7 +271,8 @@ module _ (p : Plan) (k : PlanKept p) (h : LaidOut p (layoutOf p)) (placed : List
       let w : n < length (l .frames) = rw (add-zero n) at (first .0) in
       let is : frameAt l n ≡ f = rw (add-zero n) at (first .1) in
       let start : startIn (t .rows) f ≡ startFor placed n = ap (startIn (t .rows)) (sym is) ∙ start-same (well .origin) n w in
-      let rest : map (checkedRow t) fs ≡ rowsFrom placed (suc n) fs = rows-same (suc n) fs (λ j v. rw (suc-add n j, ← add-suc n j) (e (suc j) (suc-le-suc v))) in
+      let rest : map (checkedRow t) fs ≡ rowsFrom placed (suc n) fs =
+      rows-same (suc n) fs (λ j v. rw (suc-add n j, ← add-suc n j) (e (suc j) (suc-le-suc v))) in
       rw (start, rest)
 
   pub frame-rows-same : map (checkedRow t) (l .frames) ≡ rowsFrom placed 0 (l .frames)
@@ -332,7 +348,7 @@ module _ {plan : List ℕ} {room : ℕ} {t : MadeTable} (m : TableMade plan room
         laid = m .laid;
         isLaid = m .isLaid;
         rows = tableRecords (m .laid) (m .placed);
-        areRows = read-back;
+        areRows = records-exact tableFollows 20 (t .table) (tableRecords (m .laid) (m .placed)) .0 read-back;
         obeys = rw (table-read (m .laid) (m .placed)) (fineOf .obeys);
       }
 

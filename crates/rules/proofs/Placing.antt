@@ -1,14 +1,14 @@
 -- Placing: what the latest-release rule's own definition gives. A good run of `place` is turned once into data (`Run`), a refused one
 -- into `Stuck`; every fact on what was placed is read off these.
 use mathlib.Core.Path.{_≡_, refl, sym, ap, _∙_, subst}
-use mathlib.Core.Bool.{Bool, true, false, cond, not, _&&_}
+use mathlib.Core.Bool.{Bool, true, false, cond, _&&_}
 use mathlib.Core.List.{List, [], _∷_, List·Memᴰ, List·Memᴰ·head, List·Memᴰ·tail, List·Memᴰ·not-nil}
-use native.Mathlib.Nat.{not-suc-le-zero, le-of-suc-le-suc, zero-add, add-zero, add-suc, suc-add}
+use native.Mathlib.Nat.{not-suc-le-zero, zero-add, add-zero, add-suc, suc-add}
 use native.Mathlib.Omega.{arith}
 use lib.Dec.{eqb, leb}
 use lib.ListN.{length, getD, length-map}
 use borrow.Author.Tests.{leb-true, leb-false, eqb-false, not-true, eq-eqb, le-leb, ne-eqb}
-use Prim.Native.Nat.{ℕ, zero, suc, _+_, _-_, _≤_, _<_, _∣_, min, max, zero-le, suc-le-suc}
+use Prim.Native.Nat.{ℕ, zero, suc, _+_, _-_, _≤_, _<_, _∣_, zero-le, suc-le-suc}
 use Rattle.laws.specs.Res.{Res, ok, refuse}
 use Rattle.laws.specs.Lists.{keep}
 use Rattle.laws.proofs.Lists.{both-left, both-right, keep-yes, keep-no}
@@ -380,7 +380,8 @@ module _ (resolution gap floor : ℕ) (sending : Frame → ℕ) where
           spaced = subst (Chain Spaced) q (s .spaced);
         }
 
-    pub settled : gap ≤ floor → {n e : ℕ} {left : List Numbered} {done all : List Placed} (k : ℕ) → Run n e left done all → n + length done ≡ k
+    pub settled : gap ≤ floor → {n e : ℕ} {left : List Numbered} {done all : List Placed} (k : ℕ) → Run n e left done all
+        → n + length done ≡ k
         → Sofar n e left done → Settled k all
     settled low k (over {e} {left} {done} {all} q) c s = settled-same k e left done all q (omega arith) s
     settled low k (turn {n} {e} {left} {done} q r) c s =
@@ -441,7 +442,9 @@ module _ (l : Layout) where
   abbrev pub PlacedWell : List Placed → Type 0
   PlacedWell = Settled resolutionOf gapOf (l .afterControl) (frameTime l) (Known (l .frames)) (length (l .frames))
 
-  begun : Sofar resolutionOf gapOf (l .afterControl) (frameTime l) (Known (l .frames)) (length (l .frames)) (firstEnd l) (numberedFrom 0 (l .frames)) []
+  begun : Sofar resolutionOf gapOf (l .afterControl) (frameTime l) (Known (l .frames)) (length (l .frames)) (firstEnd l)
+      (numberedFrom 0 (l .frames))
+      []
   begun =
       record {
         count = length-numbered 0 (l .frames);
@@ -468,6 +471,7 @@ module _ (l : Layout) where
       → Source numberOf placed k
   each-placed placed s k w =
       source numberOf placed
-      (pigeonhole (length (l .frames)) k (pairs-map numberOf {R = Differ} (s .distinct)) (all-map numberOf (all-weaker (λ x h. h .within) (s .origin)))
+      (pigeonhole (length (l .frames)) k (pairs-map numberOf {R = Differ} (s .distinct))
+      (all-map numberOf (all-weaker (λ x h. h .within) (s .origin)))
       (length-map placed numberOf ∙ s .count)
       w)

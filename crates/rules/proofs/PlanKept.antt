@@ -1,23 +1,24 @@
 -- PlanKept: what refusals 1 to 5 leave of a plan that is read. Each count, name and range of document 01, by name, and rule 5's sentences.
 use mathlib.Core.Path.{_≡_, refl, sym, ap, _∙_, subst}
-use mathlib.Core.Bool.{Bool, true, false, not, cond, _&&_}
-use mathlib.Core.List.{List, [], _∷_, _++_, map}
-use mathlib.Core.Option.{Option, none, some}
+use mathlib.Core.Bool.{Bool, true, not, _&&_}
+use mathlib.Core.List.{List, [], _∷_}
 use native.Mathlib.Nat.{not-suc-le-zero, le-of-suc-le-suc, suc-inj}
 use native.Mathlib.Omega.{arith}
 use borrow.Author.Tests.{leb-true, ltb-true, eqb-true, eq-eqb, not-true}
-use lib.Dec.{eqb, leb, ltb, lit<}
+use lib.Dec.{leb, lit<}
 use lib.ListN.{length, getD, take, length-map}
 use lib.Seq.{length-take-le, getD-take}
 use Prim.Native.Nat.{ℕ, zero, suc, _+_, _≤_, _<_, _∣_, zero-le, suc-le-suc}
-use Rattle.laws.specs.Res.{Res, ok, refuse, _>>=_, _>>_, at, unless}
-use Rattle.laws.specs.Lists.{keep, any, firstBad, upTo}
+use Rattle.laws.specs.Res.{ok, at}
+use Rattle.laws.specs.Lists.{firstBad, upTo}
 use Rattle.laws.proofs.Lists.{true-false, both-left, both-right, any-true, any-false}
 use Rattle.laws.proofs.Loops.{firstBad-upTo-passes}
 use Rattle.laws.proofs.Tests.{by-and, by-divides, by-le, by-eq}
-use Rattle.laws.proofs.Res.{refuse≢ok, ok-injective, bind-case, then-case, at-ok}
+use Rattle.laws.proofs.Res.{ok-injective, bind-case, then-case, at-ok}
 use Rattle.laws.proofs.Members.{All, empty, also, all-weaker, all-passed, all-both, all-keep, all-of-places, all-getD, keep-passes, all-map}
-use Rattle.rules.specs.Records.{Field, free, fields, kinds, known, Rec, decoded, recordOf, bodyLength, before, ended, walk, records, planFollows}
+use Rattle.rules.specs.Records.{Field, free, fields, kinds, Rec, decoded, recordOf, records, planFollows}
+use Rattle.rules.specs.Obeys.{AreRecords, theEnd, oneMore}
+use Rattle.rules.proofs.RecordsExact.{records-exact}
 use Rattle.rules.specs.Plan.{
   Bus,
   Mode,
@@ -131,35 +132,10 @@ length-decoded : (fs : List Field) (body : List ℕ) → length (decoded fs body
 length-decoded [] body = refl
 length-decoded (f ∷ fs) body = ap suc (length-decoded fs _)
 
-module _ (follows : ℕ → ℕ → Bool) (refusal : ℕ) where
-  sized-before : (r : Rec) (m : Res (List Rec)) (rs : List Rec) → Sized r → ((ss : List Rec) → m ≡ ok ss → All Sized ss)
-      → before follows refusal r m ≡ ok rs → All Sized rs
-  sized-before r (ok ss) rs s h e = subst (All Sized) (ok-injective e) (also s (h ss refl))
-  sized-before r (refuse n p) rs s h e = refuse≢ok e
-
-  sized-ended : (at : ℕ) (bs : List ℕ) (rs : List Rec) → ended follows refusal at bs ≡ ok rs → All Sized rs
-  sized-ended at [] rs e = subst (All Sized) (ok-injective e) empty
-  sized-ended at (b ∷ bs) rs e = refuse≢ok e
-
-  sized-step : (known-here is-end : Bool) (kind at : ℕ) (bs : List ℕ) (rs : List Rec)
-      → ((ss : List Rec) → walk follows refusal kind (bodyLength kind) (suc at) bs ≡ ok ss → All Sized ss)
-      → elim known-here [ true ↦ elim is-end [ true ↦ ended follows refusal (suc at) bs | false ↦ before follows refusal (recordOf kind bs) (walk follows refusal kind (bodyLength kind) (suc at) bs) ] | false ↦ refuse refusal at ] ≡ ok rs
-      → All Sized rs
-  unfolding recordOf
-  sized-step true true kind at bs rs h e = sized-ended (suc at) bs rs e
-  sized-step true false kind at bs rs h e = sized-before (recordOf kind bs) (walk follows refusal kind (bodyLength kind) (suc at) bs) rs (length-decoded (fields kind) bs) h e
-  sized-step false is-end kind at bs rs h e = refuse≢ok e
-
-  sized-walk : (previous inside at : ℕ) (file : List ℕ) (rs : List Rec) → walk follows refusal previous inside at file ≡ ok rs → All Sized rs
-  unfolding walk
-  sized-walk previous inside at [] rs e = refuse≢ok e
-  sized-walk previous (suc inside) at (b ∷ bs) rs e = sized-walk previous inside (suc at) bs rs e
-  sized-walk previous zero at (kind ∷ bs) rs e =
-      sized-step (known kind && follows previous kind) (eqb kind 0) kind at bs rs (sized-walk kind (bodyLength kind) (suc at) bs) e
-
-  pub sized : (file : List ℕ) (rs : List Rec) → records follows refusal file ≡ ok rs → All Sized rs
-  unfolding records
-  sized file rs e = sized-walk 0 0 0 file rs e
+are-sized : {follows : ℕ → ℕ → Bool} {previous : ℕ} {file : List ℕ} {rs : List Rec} → AreRecords follows previous file rs → All Sized rs
+unfolding recordOf
+are-sized (theEnd s e) = empty
+are-sized (oneMore {kind = kind} body s z b e r) = also (length-decoded (fields kind) body) (are-sized r)
 
 -- ---- refusals 2 to 5 passed, as they stand in `readPlan`
 
@@ -206,7 +182,8 @@ passes-at test (f ∷ fs) (x ∷ b) l e zero w = both-left (test f x) (passes te
 passes-at test (f ∷ fs) (x ∷ b) l e (suc k) w =
     passes-at test fs b (suc-inj l) (both-right (test f x) (passes test fs b) e) k (le-of-suc-le-suc w)
 
-body-kept : (counts : ℕ → ℕ) (kind : ℕ) (r : Rec) → isKind kind r ≡ true → Sized r → namesAreThere counts r ≡ true → numbersAreWithin r ≡ true
+body-kept : (counts : ℕ → ℕ) (kind : ℕ) (r : Rec) → isKind kind r ≡ true → Sized r → namesAreThere counts r ≡ true
+    → numbersAreWithin r ≡ true
     → BodyKept counts kind (numbersOf r)
 unfolding isKind namesAreThere numbersAreWithin
 body-kept counts kind r e s n w =
@@ -214,7 +191,9 @@ body-kept counts kind r e s n w =
     subst (λ (k : ℕ). BodyKept counts k (r .numbers)) k
     (record {
       there = passes-at (isThere counts) (fields (r .kind)) (r .numbers) s n;
-      within = passes-at isWithin (fields (r .kind)) (r .numbers) s (both-left (passes isWithin (fields (r .kind)) (r .numbers)) (payloadsOrdered r) w);
+      within =
+          passes-at isWithin (fields (r .kind)) (r .numbers) s
+          (both-left (passes isWithin (fields (r .kind)) (r .numbers)) (payloadsOrdered r) w);
       ordered = both-right (passes isWithin (fields (r .kind)) (r .numbers)) (payloadsOrdered r) w;
     })
 
@@ -222,7 +201,7 @@ module _ {file : List ℕ} {p : Plan} (h : PlanRead file p) where
   pub bodies : (kind : ℕ) → All (BodyKept (count (h .rs)) kind) (things kind (h .rs))
   unfolding things
   bodies kind =
-      let facts = all-both (sized planFollows 1 file (h .rs) (h .reads)) (all-both (h .names) (h .within)) in
+      let facts = all-both (are-sized (records-exact planFollows 1 file (h .rs) .0 (h .reads))) (all-both (h .names) (h .within)) in
       all-map numbersOf
       (all-weaker
       (λ r a. body-kept (count (h .rs)) kind r (a .0) (a .1 .0) (a .1 .1 .0) (a .1 .1 .1))
@@ -382,7 +361,10 @@ module _ (p : Plan) (five : Rule5Kept p) where
       let fresh = not-true (isRepeat p k) (both-right (fitsItsMode p (theInvocation p k)) (not (isRepeat p k)) (five .keeps k w)) in
       let cut : length (take k (p .invocations)) ≡ k = length-take-le k (p .invocations) (omega arith) in
       let same = any-false (sameRun (theInvocation p k)) (take k (p .invocations)) noInvocation j fresh (rw cut h) in
-      true-false (sym (rw (eq-eqb (theInvocation p k .mode) (theInvocation p j .mode) (sym m), eq-eqb (theInvocation p k .task) (theInvocation p j .task) (sym t)) refl) ∙ (rw (getD-take k (p .invocations) j noInvocation h) at same))
+      let a = theInvocation p k in
+      let b = theInvocation p j in
+      let run = by-and (by-eq (a .mode) (b .mode)) (by-eq (a .task) (b .task)) .passes (sym m, sym t) in
+      true-false (sym run ∙ (rw (getD-take k (p .invocations) j noInvocation h) at same))
 
   record FitsMode (i : Invocation) : Type 0 where
     rateDivides : i .rate ∣ theMode p (i .mode) .period
@@ -395,7 +377,10 @@ module _ (p : Plan) (five : Rule5Kept p) where
   fits-mode i e =
       let μ = theMode p (i .mode) in
       let t = theTask p (i .task) in
-      let said = by-and (by-and (by-divides (i .rate) (μ .period)) (by-divides (periodOf p i) (μ .switch))) (by-and (by-le (t .worst) (periodOf p i)) (by-eq (t .home) (μ .home))) .says e in
+      let said =
+      by-and (by-and (by-divides (i .rate) (μ .period)) (by-divides (periodOf p i) (μ .switch)))
+      (by-and (by-le (t .worst) (periodOf p i)) (by-eq (t .home) (μ .home)))
+      .says e in
       record { rateDivides = said .0 .0; periodDivides = said .0 .1; worst = said .1 .0; home = said .1 .1 }
 
   all-fit : All FitsMode (p .invocations)
@@ -406,29 +391,10 @@ module _ (p : Plan) (five : Rule5Kept p) where
 
 -- ---- the bus stands first
 
-first-one : (kind : ℕ) → (known kind && planFollows 0 kind) ≡ true → kind ≡ 1
-unfolding planFollows
-first-one kind e = eqb-true kind 1 (both-right (known kind) (eqb kind 1) e)
-
-bus-before : (r : Rec) (m : Res (List Rec)) (rs : List Rec) → r .kind ≡ 1 → before planFollows 1 r m ≡ ok rs → 0 < length (things 1 rs)
-unfolding things isKind
-bus-before r (ok ss) rs k e = subst (λ (t : List Rec). 0 < length (things 1 t)) (ok-injective e) (rw (eq-eqb (r .kind) 1 k) (suc-le-suc zero-le))
-bus-before r (refuse n q) rs k e = refuse≢ok e
-
-bus-step : (follows-here is-end : Bool) (kind at : ℕ) (bs : List ℕ) (m : Res (List Rec)) (rs : List Rec)
-    → (known kind && planFollows 0 kind) ≡ follows-here → eqb kind 0 ≡ is-end
-    → elim follows-here [ true ↦ elim is-end [ true ↦ ended planFollows 1 (suc at) bs | false ↦ before planFollows 1 (recordOf kind bs) m ] | false ↦ refuse 1 at ] ≡ ok rs
-    → 0 < length (things 1 rs)
-unfolding recordOf
-bus-step true true kind at bs m rs f z e = absurd (omega (arith, first-one kind f, eqb-true kind 0 z))
-bus-step true false kind at bs m rs f z e = bus-before (recordOf kind bs) m rs (first-one kind f) e
-bus-step false is-end kind at bs m rs f z e = refuse≢ok e
-
-bus-first : (file : List ℕ) (rs : List Rec) → records planFollows 1 file ≡ ok rs → 0 < length (things 1 rs)
-unfolding records walk
-bus-first [] rs e = refuse≢ok e
-bus-first (kind ∷ bs) rs e =
-    bus-step (known kind && planFollows 0 kind) (eqb kind 0) kind 0 bs (walk planFollows 1 kind (bodyLength kind) 1 bs) rs refl refl e
+bus-first : {file : List ℕ} {rs : List Rec} → AreRecords planFollows 0 file rs → 0 < length (things 1 rs)
+unfolding things isKind recordOf planFollows
+bus-first (theEnd s e) = true-false (sym (s .isNext))
+bus-first (oneMore {kind = kind} body s z b e r) = rw (eq-eqb kind 1 (eqb-true kind 1 (s .isNext))) (suc-le-suc zero-le)
 
 -- ---- all together
 
@@ -498,7 +464,7 @@ module _ (file : List ℕ) (p : Plan) (h : PlanRead file p) where
 
   bus-is-kept : BusKept (planOf (h .rs) .bus)
   unfolding planOf only
-  bus-is-kept = bus-kept counted (only 1 (h .rs)) (all-getD [] (bodies h 1) 0 (bus-first file (h .rs) (h .reads)))
+  bus-is-kept = bus-kept counted (only 1 (h .rs)) (all-getD [] (bodies h 1) 0 (bus-first (records-exact planFollows 1 file (h .rs) .0 (h .reads))))
 
   pub plan-kept : PlanKept p
   plan-kept =

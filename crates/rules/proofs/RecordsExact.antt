@@ -4,22 +4,32 @@ use mathlib.Core.Path.{_≡_, refl, sym, ap, _∙_, subst}
 use mathlib.Core.Bool.{Bool, true, false, _&&_}
 use mathlib.Core.List.{List, [], _∷_, _++_}
 use mathlib.Core.Logic.{_⊎_, inl, inr, _↔_}
-use native.Mathlib.Nat.{not-suc-le-zero, le-of-suc-le-suc, suc-inj, add-zero}
+use native.Mathlib.Nat.{not-suc-le-zero, le-of-suc-le-suc, add-zero}
 use native.Mathlib.Omega.{arith}
-use borrow.Author.Tests.{eqb-true, eqb-false, eq-eqb, ne-eqb}
+use borrow.Author.Tests.{eqb-true, eqb-false, ne-eqb}
 use lib.Dec.{eqb}
-use lib.ListN.{length, take, drop, take-append-drop, length-append, length-drop}
+use lib.ListN.{length, take, drop, take-append-drop, length-drop}
 use lib.Seq.{length-take-le, take-append-le, drop-append-le}
 use Prim.Native.Nat.{ℕ, zero, suc, _+_, _≤_, _<_}
 use Rattle.laws.specs.Res.{Res, ok, refuse}
-use Rattle.laws.proofs.Lists.{true-false, tested, both-left, both-right}
+use Rattle.laws.proofs.Lists.{tested, both-left, both-right}
 use Rattle.laws.proofs.Res.{refuse≢ok, ok-injective, refuse-number, refuse-place}
 use Rattle.laws.proofs.Orders.{le-or-lt}
-use Rattle.laws.proofs.Tests.{Tests, by-iff}
+use Rattle.laws.proofs.Tests.{Tests}
 use Rattle.laws.proofs.Faults.{by-failed, by-fails}
 use Rattle.rules.specs.Records.{Field, width, widths, known, fields, bodyLength, Rec, decoded, recordOf, before, ended, walk, records}
-use Rattle.rules.specs.Obeys.{MayStand, AreRecords, theEnd, oneMore, BreakRecords, noRecord, wrongKind, behindEnd, cutBody, goodRecord}
-use Rattle.rules.proofs.TableBytes.{walk-step}
+use Rattle.rules.specs.Obeys.{
+  MayStand,
+  AreRecords,
+  theEnd,
+  oneMore,
+  BreakRecords,
+  noRecord,
+  wrongKind,
+  behindEnd,
+  cutBody,
+  goodRecord,
+}
 
 -- a body's numbers are read from the body alone
 decoded-front : (fs : List Field) (body rest : List ℕ) → widths fs ≤ length body → decoded fs (body ++ rest) ≡ decoded fs body
@@ -61,29 +71,37 @@ module _ (follows : ℕ → ℕ → Bool) (refusal : ℕ) where
       let e : suc at + length body ≡ at + suc (length body) = omega arith in
       walk-cut kind n (suc at) body (le-of-suc-le-suc h) ∙ rw e
 
-  walk-wrong : (previous kind at : ℕ) (bs : List ℕ) → (known kind && follows previous kind) ≡ false → reading previous 0 at (kind ∷ bs) ≡ refuse refusal at
+  walk-step : (previous kind at : ℕ) (bs : List ℕ) → (known kind && follows previous kind) ≡ true → eqb kind 0 ≡ false
+      → reading previous 0 at (kind ∷ bs) ≡ before follows refusal (recordOf kind bs) (reading kind (bodyLength kind) (suc at) bs)
+  unfolding walk
+  walk-step previous kind at bs h z = rw (h, z, walk)
+
+  walk-wrong : (previous kind at : ℕ) (bs : List ℕ) → (known kind && follows previous kind) ≡ false
+      → reading previous 0 at (kind ∷ bs) ≡ refuse refusal at
   unfolding walk
   walk-wrong previous kind at bs e = rw (e, walk)
 
-  walk-end : (previous at : ℕ) (bs : List ℕ) → (known 0 && follows previous 0) ≡ true → reading previous 0 at (0 ∷ bs) ≡ ended follows refusal (suc at) bs
+  walk-end : (previous at : ℕ) (bs : List ℕ) → (known 0 && follows previous 0) ≡ true
+      → reading previous 0 at (0 ∷ bs) ≡ ended follows refusal (suc at) bs
   unfolding walk
   walk-end previous at bs e = rw (e, walk)
 
   walk-good : (previous kind at : ℕ) (body rest : List ℕ) → MayStand follows previous kind → (kind ≡ 0 → ⊥) → length body ≡ bodyLength kind
       → reading previous 0 at (kind ∷ body ++ rest) ≡ before follows refusal (recordOf kind body) (reading kind 0 (suc at + length body) rest)
   walk-good previous kind at body rest s z b =
-      walk-step follows refusal previous kind at (body ++ rest) (stand-means previous kind .passes s) (ne-eqb kind 0 z)
+      walk-step previous kind at (body ++ rest) (stand-means previous kind .passes s) (ne-eqb kind 0 z)
       ∙ rw (record-front kind body rest b, ← b, walk-body kind (suc at) body rest)
 
   walk-short : (previous kind at : ℕ) (body : List ℕ) → MayStand follows previous kind → (kind ≡ 0 → ⊥) → length body < bodyLength kind
       → reading previous 0 at (kind ∷ body) ≡ refuse refusal (suc at + length body)
   walk-short previous kind at body s z b =
-      walk-step follows refusal previous kind at body (stand-means previous kind .passes s) (ne-eqb kind 0 z)
+      walk-step previous kind at body (stand-means previous kind .passes s) (ne-eqb kind 0 z)
       ∙ rw (walk-cut kind (bodyLength kind) (suc at) body b)
 
   -- ---- from what the bytes are to what is read
 
-  are-read : {previous : ℕ} {file : List ℕ} {rs : List Rec} → AreRecords follows previous file rs → (at : ℕ) → reading previous 0 at file ≡ ok rs
+  are-read : {previous : ℕ} {file : List ℕ} {rs : List Rec} → AreRecords follows previous file rs → (at : ℕ)
+      → reading previous 0 at file ≡ ok rs
   are-read (theEnd {previous} s e) at = rw e (walk-end previous at [] (stand-means previous 0 .passes s))
   are-read (oneMore {previous} {kind} {rest = rest} body s z b e r) at =
       rw e (walk-good previous kind at body rest s z b ∙ rw (are-read r (suc at + length body)))
@@ -156,7 +174,8 @@ module _ (follows : ℕ → ℕ → Bool) (refusal : ℕ) where
   read-are file rs (inl r) e = subst (AreRecords follows 0 file) (ok-injective (sym (are-read (r .1) 0) ∙ e)) (r .1)
   read-are file rs (inr r) e = refuse≢ok (sym (break-read (r .1)) ∙ e)
 
-  read-breaks : (file : List ℕ) (n p : ℕ) → Sorted 0 0 file → reading 0 0 0 file ≡ refuse n p → (n ≡ refusal) × BreakRecords follows 0 0 file p
+  read-breaks : (file : List ℕ) (n p : ℕ) → Sorted 0 0 file → reading 0 0 0 file ≡ refuse n p
+      → (n ≡ refusal) × BreakRecords follows 0 0 file p
   read-breaks file n p (inl r) e = refuse≢ok (sym e ∙ are-read (r .1) 0)
   read-breaks file n p (inr r) e =
       let same = sym (break-read (r .1)) ∙ e in
@@ -168,7 +187,8 @@ module _ (follows : ℕ → ℕ → Bool) (refusal : ℕ) where
   records-exact file rs = (read-are file rs (sort-file (length file) 0 0 file (omega arith)), λ r. are-read r 0)
 
   -- it is refused exactly at the offset where it first breaks the record rules
-  pub records-refused : (file : List ℕ) (n p : ℕ) → (records follows refusal file ≡ refuse n p) ↔ ((n ≡ refusal) × BreakRecords follows 0 0 file p)
+  pub records-refused : (file : List ℕ) (n p : ℕ)
+      → (records follows refusal file ≡ refuse n p) ↔ ((n ≡ refusal) × BreakRecords follows 0 0 file p)
   unfolding records
   records-refused file n p = (
     read-breaks file n p (sort-file (length file) 0 0 file (omega arith)),

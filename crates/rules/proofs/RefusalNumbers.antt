@@ -1,50 +1,62 @@
--- Which refusals each part can give: reading a plan 1 to 5, laying it out 6 to 11, the latest-release rule 12, reading a table 20, judging it 21 to 27.
-use mathlib.Core.Path.{_≡_}
-use mathlib.Core.Bool.{Bool, true, false, _&&_}
-use mathlib.Core.List.{List, [], _∷_}
-use native.Mathlib.Nat.{le-refl}
+-- Which refusals each part can give: reading a plan 1 to 5, laying it out 6 to 11, reading a table 20, judging it 21 to 27.
+use mathlib.Core.Bool.{Bool}
+use mathlib.Core.List.{List}
 use native.Mathlib.Omega.{arith}
-use lib.Dec.{T, leb, eqb, lit≤}
+use lib.Dec.{T, leb, lit≤}
 use lib.ListN.{length}
-use Prim.Native.Nat.{ℕ, zero, suc}
-use Rattle.laws.specs.Res.{Res, ok, refuse}
+use Prim.Native.Nat.{ℕ}
+use Rattle.laws.specs.Res.{Res}
 use Rattle.laws.specs.Lists.{firstBad, upTo}
 use Rattle.laws.specs.Numbers.{divides}
-use Rattle.laws.proofs.Refusals.{Gives, gives-ok, gives-refuse, gives-unless, gives-at, gives-then, gives-bind}
-use Rattle.rules.specs.Records.{Rec, known, recordOf, bodyLength, before, ended, walk, records, planFollows, tableFollows}
-use Rattle.rules.specs.Plan.{Plan, count, countFits, namesAreThere, numbersAreWithin, hasMode, switchDivides, invocationKeeps, firstMode, firstInvocation, planOf, rule5, readPlan}
-use Rattle.rules.specs.Frames.{someBusTask, busPeriod, switchGrid, frames, mostFrames, payloadsFit, controlEnd, Layout, layout, layoutOf}
-use Rattle.rules.specs.Checker.{TableRead, headerRight, controlKept, namesNewFrame, timeKept, releaseKept, deadlineKept, gapKept, firstRow, judged, rowsKeep}
+use Rattle.laws.proofs.Refusals.{Gives, gives-ok, gives-unless, gives-at, gives-then, gives-bind, gives-within}
+use Rattle.rules.specs.Records.{records, planFollows, tableFollows}
+use Rattle.rules.specs.Plan.{
+  Plan,
+  count,
+  countFits,
+  namesAreThere,
+  numbersAreWithin,
+  hasMode,
+  switchDivides,
+  invocationKeeps,
+  firstMode,
+  firstInvocation,
+  planOf,
+  rule5,
+  readPlan,
+}
+use Rattle.rules.specs.Frames.{
+  someBusTask,
+  busPeriod,
+  switchGrid,
+  frames,
+  mostFrames,
+  payloadsFit,
+  controlEnd,
+  Layout,
+  layout,
+  layoutOf,
+}
+use Rattle.rules.specs.Checker.{
+  TableRead,
+  headerRight,
+  controlKept,
+  namesNewFrame,
+  timeKept,
+  releaseKept,
+  deadlineKept,
+  gapKept,
+  firstRow,
+  judged,
+  tableOf,
+  passed,
+  rowsKeep,
+}
+use Rattle.rules.proofs.RecordsExact.{records-refused}
 
-module _ (follows : ℕ → ℕ → Bool) (refusal : ℕ) where
-  abbrev Gives-it : Res (List Rec) → Type 0
-  Gives-it m = Gives refusal refusal m
-
-  before-gives : (r : Rec) (m : Res (List Rec)) → Gives-it m → Gives-it (before follows refusal r m)
-  before-gives r (ok rs) h = gives-ok (r ∷ rs)
-  before-gives r (refuse n p) h = h
-
-  ended-gives : (at : ℕ) (bs : List ℕ) → Gives-it (ended follows refusal at bs)
-  ended-gives at [] = gives-ok []
-  ended-gives at (b ∷ bs) = gives-refuse refusal at (le-refl refusal) (le-refl refusal)
-
-  step-gives : (allowed is-end : Bool) (kind at : ℕ) (bs : List ℕ) (m : Res (List Rec)) → Gives-it m
-      → Gives-it (elim allowed [ true ↦ elim is-end [ true ↦ ended follows refusal (suc at) bs | false ↦ before follows refusal (recordOf kind bs) m ] | false ↦ refuse refusal at ])
-  step-gives true true kind at bs m h = ended-gives (suc at) bs
-  step-gives true false kind at bs m h = before-gives (recordOf kind bs) m h
-  step-gives false is-end kind at bs m h = gives-refuse refusal at (le-refl refusal) (le-refl refusal)
-
-  walk-gives : (previous inside at : ℕ) (file : List ℕ) → Gives-it (walk follows refusal previous inside at file)
-  unfolding walk
-  walk-gives previous inside at [] = gives-refuse refusal at (le-refl refusal) (le-refl refusal)
-  walk-gives previous (suc inside) at (b ∷ bs) = walk-gives previous inside (suc at) bs
-  walk-gives previous zero at (kind ∷ bs) =
-      step-gives (known kind && follows previous kind) (eqb kind 0) kind at bs (walk follows refusal kind (bodyLength kind) (suc at) bs)
-      (walk-gives kind (bodyLength kind) (suc at) bs)
-
-  pub records-give : (file : List ℕ) → Gives refusal refusal (records follows refusal file)
-  unfolding records
-  records-give file = walk-gives 0 0 0 file
+pub records-give : (follows : ℕ → ℕ → Bool) (refusal : ℕ) (file : List ℕ) → Gives refusal refusal (records follows refusal file)
+records-give follows refusal file =
+    record { number = λ n p e. let same = records-refused follows refusal file n p .0 e .0 in (omega (arith, same), omega (arith, same)) }
 
 five-gives : (p : Plan) → Gives 1 5 (rule5 p)
 unfolding rule5
@@ -53,13 +65,10 @@ five-gives p =
     (gives-then (gives-at 5 (firstMode p) (firstBad switchDivides (p .modes)) (lit≤ tt) (lit≤ tt))
     (gives-at 5 (firstInvocation p) (firstBad (invocationKeeps p) (upTo (length (p .invocations)))) (lit≤ tt) (lit≤ tt)))
 
-wider : {A : Type 0} {m : Res A} → Gives 1 1 m → Gives 1 5 m
-wider h = record { number = λ n p e. let w = h .number n p e in (w .0, omega (arith, w .1)) }
-
 pub plan-gives : (file : List ℕ) → Gives 1 5 (readPlan file)
 unfolding readPlan
 plan-gives file =
-    gives-bind (wider (records-give planFollows 1 file)) λ rs.
+    gives-bind (gives-within (lit≤ tt) (lit≤ tt) (records-give planFollows 1 file)) λ rs.
     gives-then (gives-at 2 2 (firstBad (countFits rs) (upTo 6)) (lit≤ tt) (lit≤ tt))
     (gives-then (gives-at 3 0 (firstBad (namesAreThere (count rs)) rs) (lit≤ tt) (lit≤ tt))
     (gives-then (gives-at 4 0 (firstBad numbersAreWithin rs) (lit≤ tt) (lit≤ tt))
@@ -88,3 +97,11 @@ judged-gives l t =
     (gives-then (rows-give 24 t (timeKept l t) tt tt)
     (gives-then (rows-give 25 t (releaseKept l t) tt tt)
     (gives-then (rows-give 26 t (deadlineKept t) tt tt) (rows-give 27 t (gapKept l t) tt tt))))))
+
+pub passed-gives : (plan table : List ℕ) → Gives 1 27 (passed plan table)
+unfolding passed
+passed-gives plan table =
+    gives-bind (gives-within (lit≤ tt) (lit≤ tt) (plan-gives plan)) λ p.
+    gives-bind (gives-within (lit≤ tt) (lit≤ tt) (layout-gives p)) λ l.
+    gives-bind (gives-within (lit≤ tt) (lit≤ tt) (records-give tableFollows 20 table)) λ rs.
+    gives-then (gives-within (lit≤ tt) (lit≤ tt) (judged-gives l (tableOf rs))) (gives-ok _)

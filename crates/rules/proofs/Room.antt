@@ -3,18 +3,27 @@
 use mathlib.Core.Path.{_≡_, refl, sym, ap, _∙_}
 use mathlib.Core.List.{List, []}
 use mathlib.Core.Logic.{_⊎_, inl, inr, _↔_}
-use mathlib.Core.Bool.{Bool, true, false}
 use native.Mathlib.Omega.{arith}
 use borrow.Author.Tests.{leb-true, leb-false, le-leb, lt-leb}
 use lib.Dec.{leb}
 use lib.ListN.{length}
 use Prim.Native.Nat.{ℕ, _≤_, _<_}
 use Rattle.laws.specs.Res.{Res, ok, refuse, _>>=_, _>>_, unless}
-use Rattle.laws.proofs.Res.{refuse≢ok, ok-injective, refuse-number, refuse-place, bind-case, then-case, bind-refused, then-refused, unless-ok}
+use Rattle.laws.proofs.Res.{
+  refuse≢ok,
+  ok-injective,
+  refuse-number,
+  refuse-place,
+  bind-case,
+  then-case,
+  bind-refused,
+  then-refused,
+  unless-ok,
+}
 use Rattle.laws.proofs.Orders.{le-or-lt}
 use Rattle.laws.proofs.Faults.{unless-refused}
 use Rattle.rules.specs.Plan.{Plan, readPlan}
-use Rattle.rules.specs.Frames.{Layout, layout, gapTime}
+use Rattle.rules.specs.Frames.{Layout, layout}
 use Rattle.rules.specs.LatestRelease.{Placed, numberedFrom, firstEnd, frameTime, latestRelease}
 use Rattle.rules.specs.Table.{FrameRow, tableBytes, MadeTable, madeTable, tableFor, outcome, make}
 use Rattle.rules.specs.Obeys.{MakesTable, MakeFault, inPlan, inLayout, inRule, inRoom, RuleRefuses}
@@ -45,7 +54,9 @@ module _ (l : Layout) where
   rule-number : (n frame : ℕ) → latestRelease l ≡ refuse n frame → (n ≡ 12) × SticksAt frame
   unfolding latestRelease
   rule-number n frame e =
-      let r = refused-of (resolutionOf l) (gapOf l) (l .afterControl) (frameTime l) (length (l .frames)) (firstEnd l) (numberedFrom 0 (l .frames)) [] n frame e in
+      let r =
+      refused-of (resolutionOf l) (gapOf l) (l .afterControl) (frameTime l) (length (l .frames)) (firstEnd l)
+      (numberedFrom 0 (l .frames)) [] n frame e in
       (r .twelve, r .stuck)
 
   rule-stuck : (n frame : ℕ) → (n ≡ 12) × SticksAt frame → latestRelease l ≡ refuse n frame
@@ -86,7 +97,9 @@ module _ (plan : List ℕ) (room : ℕ) where
 -- ---- plans that pass 1 to 11
 
 module _ (plan : List ℕ) (room : ℕ) {p : Plan} {l : Layout} (isRead : readPlan plan ≡ ok p) (isLaid : layout p ≡ ok l) where
-  on : tableFor plan room ≡ _>>=_ (latestRelease l) (λ placed. let t = madeTable l placed in _>>_ (unless 13 (length (t .table)) (leb (length (t .table)) room)) (ok t))
+  on : tableFor plan room
+      ≡ _>>=_ (latestRelease l)
+      (λ placed. let t = madeTable l placed in _>>_ (unless 13 (length (t .table)) (leb (length (t .table)) room)) (ok t))
   unfolding tableFor
   on = rw (isRead, isLaid)
 
@@ -106,7 +119,8 @@ module _ (plan : List ℕ) (room : ℕ) {p : Plan} {l : Layout} (isRead : readPl
     λ s. fault-table plan room 12 frame (inRule isRead isLaid (rule-refuses l 12 frame .1 (refl, s))),
   )
 
-  made-says : (t : MadeTable) → tableFor plan room ≡ ok t → (placed : List Placed) × Places l placed × (length (tableBytes l placed) ≤ room) × (madeTable l placed ≡ t)
+  made-says : (t : MadeTable) → tableFor plan room ≡ ok t
+      → (placed : List Placed) × Places l placed × (length (tableBytes l placed) ≤ room) × (madeTable l placed ≡ t)
   unfolding madeTable
   made-says t e =
       bind-case (latestRelease l) _ (sym on ∙ e) λ placed rule e₁.
@@ -114,10 +128,20 @@ module _ (plan : List ℕ) (room : ℕ) {p : Plan} {l : Layout} (isRead : readPl
       then-case (unless 13 long (leb long room)) _ e₁ λ _ fits e₂.
       (placed, rule-places l placed .0 rule, leb-true long room (unless-ok 13 long (leb long room) fits), ok-injective e₂)
 
-  made-is : (t : MadeTable) → (placed : List Placed) × Places l placed × (length (tableBytes l placed) ≤ room) × (madeTable l placed ≡ t) → tableFor plan room ≡ ok t
+  made-is : (t : MadeTable) → (placed : List Placed) × Places l placed × (length (tableBytes l placed) ≤ room) × (madeTable l placed ≡ t)
+      → tableFor plan room ≡ ok t
   made-is t h =
       table-makes plan room (length (tableBytes l (h .0)))
-      (record { read = p; isRead = isRead; laid = l; isLaid = isLaid; placed = h .0; rule = rule-places l (h .0) .1 (h .1); fits = h .2; long = refl })
+      (record {
+        read = p;
+        isRead = isRead;
+        laid = l;
+        isLaid = isLaid;
+        placed = h .0;
+        rule = rule-places l (h .0) .1 (h .1);
+        fits = h .2;
+        long = refl;
+      })
       ∙ ap ok (h .3)
 
   -- a table is made exactly where the rule places every frame and the room suffices
@@ -127,7 +151,8 @@ module _ (plan : List ℕ) (room : ℕ) {p : Plan} {l : Layout} (isRead : readPl
 
 -- ---- make
 
-outcome-refused : (r : Res MadeTable) (rows : List FrameRow) (buffer : List ℕ) (n p : ℕ) → outcome r rows buffer .answer ≡ refuse n p → r ≡ refuse n p
+outcome-refused : (r : Res MadeTable) (rows : List FrameRow) (buffer : List ℕ) (n p : ℕ) → outcome r rows buffer .answer ≡ refuse n p
+    → r ≡ refuse n p
 outcome-refused (ok t) rows buffer n p e = refuse≢ok (sym e)
 outcome-refused (refuse m q) rows buffer n p e = rw (refuse-number e, refuse-place e)
 
@@ -164,7 +189,8 @@ module _ (plan : List ℕ) (rows : List FrameRow) (buffer : List ℕ) where
 
   refuses-only : (256 ≤ length rows) ⊎ (length rows < 256) → (n p : ℕ) → make plan rows buffer .answer ≡ refuse n p → MakeRefuses n p
   refuses-only (inl h) n p e =
-      inr (h, table-faults plan (length buffer) n p (outcome-refused (tableFor plan (length buffer)) rows buffer n p (rw (make-enough plan rows buffer h) at e)))
+      let r = outcome-refused (tableFor plan (length buffer)) rows buffer n p (rw (make-enough plan rows buffer h) at e) in
+      inr (h, table-faults plan (length buffer) n p r)
   refuses-only (inr h) n p e =
       let f : refuse 19 256 ≡ refuse n p = rw (make-short plan rows buffer h) at e in
       inl (h, sym (refuse-number f), sym (refuse-place f))

@@ -1,39 +1,25 @@
 -- TableBytes: reading back what was written. Records written with numbers that fit their fields are read as these records; a table
 -- written by `tableBytes` is read as the header, the control rows and the data rows that it was written from.
-use mathlib.Core.Path.{_≡_, refl, sym, ap, _∙_, subst}
-use mathlib.Core.Bool.{Bool, true, false, _&&_}
+use mathlib.Core.Path.{_≡_, refl, ap, _∙_}
+use mathlib.Core.Bool.{Bool, true, false}
 use mathlib.Core.List.{List, [], _∷_, _++_, map, append-assoc, append-nil}
 use native.Mathlib.Omega.{arith}
 use lib.Dec.{eqb}
-use lib.ListN.{length, getD, take, drop, length-append}
+use lib.ListN.{length, length-append}
 use lib.Seq.{take-at, drop-at}
-use Prim.Native.Nat.{ℕ, zero, suc, _+_, _≤_, _<_, _^_}
-use Rattle.laws.specs.Res.{Res, ok, refuse}
+use Prim.Native.Nat.{ℕ, _<_, _^_}
+use Rattle.laws.specs.Res.{ok}
 use Rattle.laws.specs.Lists.{joined, keep}
-use Rattle.laws.specs.Numbers.{bytes, number}
+use Rattle.laws.specs.Numbers.{bytes}
 use Rattle.laws.proofs.Little.{length-bytes, number-bytes}
 use Rattle.laws.proofs.Members.{All, empty, also, all-weaker, keep-all, keep-nothing}
 use Rattle.laws.proofs.Lists.{keep-append}
-use Rattle.rules.specs.Records.{
-  Field,
-  width,
-  fields,
-  widths,
-  bodyLength,
-  kinds,
-  known,
-  Rec,
-  decoded,
-  recordOf,
-  before,
-  ended,
-  walk,
-  records,
-  tableFollows,
-}
+use Rattle.rules.specs.Records.{Field, width, fields, widths, bodyLength, kinds, known, Rec, decoded, recordOf, records, tableFollows}
 use Rattle.rules.specs.Plan.{isKind, numbersOf, things, only}
 use Rattle.rules.specs.Frames.{ControlRow, Layout}
 use Rattle.rules.specs.LatestRelease.{Placed}
+use Rattle.rules.proofs.RecordsExact.{records-exact}
+use Rattle.rules.specs.Obeys.{MayStand, AreRecords, theEnd, oneMore}
 use Rattle.rules.specs.Table.{encoded, recordBytes, DataRow, dataRow, headerBytes, controlBytes, dataBytes, tableBytes}
 use Rattle.rules.specs.Checker.{TableRead, tableOf, controlRowOf, dataRowOf}
 
@@ -47,47 +33,22 @@ encoded-length fit-none = refl
 encoded-length (fit {f} {fs} {x} {xs} h r) =
     length-append (bytes (width f) x) (encoded fs xs) ∙ rw (length-bytes (width f) x, encoded-length r)
 
-pub decoded-encoded : {fs : List Field} {xs : List ℕ} (rest : List ℕ) → Fit fs xs → decoded fs (encoded fs xs ++ rest) ≡ xs
-decoded-encoded rest fit-none = refl
-decoded-encoded rest (fit {f} {fs} {x} {xs} h r) =
+pub decoded-encoded : {fs : List Field} {xs : List ℕ} → Fit fs xs → decoded fs (encoded fs xs) ≡ xs
+decoded-encoded fit-none = refl
+decoded-encoded (fit {f} {fs} {x} {xs} h r) =
     let w = width f in
-    let behind = encoded fs xs ++ rest in
-    rw (append-assoc (bytes w x) (encoded fs xs) rest, take-at (bytes w x) behind w (length-bytes w x), drop-at (bytes w x) behind w (length-bytes w x), number-bytes w x h, decoded-encoded rest r)
+    let long = length-bytes w x in
+    rw (take-at (bytes w x) (encoded fs xs) w long, drop-at (bytes w x) (encoded fs xs) w long, number-bytes w x h, decoded-encoded r)
 
-module _ (follows : ℕ → ℕ → Bool) (refusal : ℕ) where
-  -- from a record boundary, behind a record of the kind `previous`, the bytes are read as these records
-  pub record Reads (previous : ℕ) (file : List ℕ) (rs : List Rec) : Type 0 where
-    pub from : (at : ℕ) → walk follows refusal previous 0 at file ≡ ok rs
-
-  pub walk-step : (previous kind at : ℕ) (bs : List ℕ) → (known kind && follows previous kind) ≡ true → eqb kind 0 ≡ false
-      → walk follows refusal previous 0 at (kind ∷ bs)
-      ≡ before follows refusal (recordOf kind bs) (walk follows refusal kind (bodyLength kind) (suc at) bs)
-  unfolding walk
-  walk-step previous kind at bs h z = rw (h, z, walk)
-
-  reads-inside : (kind : ℕ) (body : List ℕ) {rest : List ℕ} {rs : List Rec} → Reads kind rest rs → (at : ℕ)
-      → walk follows refusal kind (length body) at (body ++ rest) ≡ ok rs
-  unfolding walk
-  reads-inside kind [] r at = r .from at
-  reads-inside kind (b ∷ body) r at = reads-inside kind body r (suc at)
-
-  pub reads-end : (previous : ℕ) → follows previous 0 ≡ true → Reads previous (0 ∷ []) []
-  unfolding walk known kinds
-  reads-end previous h = record { from = λ at. rw (h, walk) }
-
-  pub reads-record : (previous kind : ℕ) (xs : List ℕ) {rest : List ℕ} {rs : List Rec} → (known kind && follows previous kind) ≡ true
-      → eqb kind 0 ≡ false → Fit (fields kind) xs → Reads kind rest rs
-      → Reads previous (recordBytes kind xs ++ rest) (record { kind = kind; numbers = xs } ∷ rs)
+-- a record written is a record
+module _ (follows : ℕ → ℕ → Bool) where
+  pub written : {previous kind : ℕ} {xs rest : List ℕ} {rs : List Rec} → MayStand follows previous kind → (kind ≡ 0 → ⊥)
+      → Fit (fields kind) xs
+      → AreRecords follows kind rest rs
+      → AreRecords follows previous (recordBytes kind xs ++ rest) (record { kind = kind; numbers = xs } ∷ rs)
   unfolding recordBytes recordOf bodyLength
-  reads-record previous kind xs {rest} {rs} h z f r = record { from = step }
-    where
-      body : List ℕ
-      body = encoded (fields kind) xs
-
-      step : (at : ℕ) → walk follows refusal previous 0 at (kind ∷ body ++ rest) ≡ ok (record { kind = kind; numbers = xs } ∷ rs)
-      step at =
-          walk-step previous kind at (body ++ rest) h z
-          ∙ rw (← encoded-length f, reads-inside kind body r (suc at), decoded-encoded rest f)
+  written {previous} {kind} {xs} {rest} {rs} s z f r =
+      rw (decoded-encoded f) at (oneMore (encoded (fields kind) xs) s z (encoded-length f) refl r)
 
 -- rows of one kind, one after the other
 module _ {A : Type 0} (kind : ℕ) (numbersOf : A → List ℕ) where
@@ -97,22 +58,19 @@ module _ {A : Type 0} (kind : ℕ) (numbersOf : A → List ℕ) where
   abbrev pub bytesOf : A → List ℕ
   bytesOf x = recordBytes kind (numbersOf x)
 
-module _ (follows : ℕ → ℕ → Bool) (refusal : ℕ) {A : Type 0} (kind : ℕ) (numbersOf : A → List ℕ) (starts : eqb kind 0 ≡ false)
-    (again : (known kind && follows kind kind) ≡ true) where
-  reads-more : {l : List A} {rest : List ℕ} {rs : List Rec} → All (λ x. Fit (fields kind) (numbersOf x)) l → Reads follows refusal kind rest rs
-      → Reads follows refusal kind (joined (map (bytesOf kind numbersOf) l) ++ rest) (map (recOf kind numbersOf) l ++ rs)
-  reads-more empty r = r
-  reads-more {rest = rest} {rs = rs} (also {x} {l} f a) r =
-      rw (append-assoc (bytesOf kind numbersOf x) (joined (map (bytesOf kind numbersOf) l)) rest)
-      (reads-record follows refusal kind kind (numbersOf x) again starts f (reads-more a r))
+module _ (follows : ℕ → ℕ → Bool) {A : Type 0} (kind : ℕ) (numbersOf : A → List ℕ) (row : kind ≡ 0 → ⊥) (again : MayStand follows kind kind) where
+  rows-more : {l : List A} {rest : List ℕ} {rs : List Rec} → All (λ x. Fit (fields kind) (numbersOf x)) l → AreRecords follows kind rest rs
+      → AreRecords follows kind (joined (map (bytesOf kind numbersOf) l) ++ rest) (map (recOf kind numbersOf) l ++ rs)
+  rows-more empty r = r
+  rows-more {rest = rest} (also {x} {l} f a) r =
+      rw (append-assoc (bytesOf kind numbersOf x) (joined (map (bytesOf kind numbersOf) l)) rest) (written follows again row f (rows-more a r))
 
-  pub reads-rows : (previous : ℕ) {l : List A} {rest : List ℕ} {rs : List Rec} → (known kind && follows previous kind) ≡ true
-      → All (λ x. Fit (fields kind) (numbersOf x)) l → Reads follows refusal previous rest rs → Reads follows refusal kind rest rs
-      → Reads follows refusal previous (joined (map (bytesOf kind numbersOf) l) ++ rest) (map (recOf kind numbersOf) l ++ rs)
-  reads-rows previous h empty p r = p
-  reads-rows previous {rest = rest} {rs = rs} h (also {x} {l} f a) p r =
-      rw (append-assoc (bytesOf kind numbersOf x) (joined (map (bytesOf kind numbersOf) l)) rest)
-      (reads-record follows refusal previous kind (numbersOf x) h starts f (reads-more a r))
+  pub rows-written : {previous : ℕ} {l : List A} {rest : List ℕ} {rs : List Rec} → MayStand follows previous kind
+      → All (λ x. Fit (fields kind) (numbersOf x)) l → AreRecords follows previous rest rs → AreRecords follows kind rest rs
+      → AreRecords follows previous (joined (map (bytesOf kind numbersOf) l) ++ rest) (map (recOf kind numbersOf) l ++ rs)
+  rows-written s empty p r = p
+  rows-written {rest = rest} s (also {x} {l} f a) p r =
+      rw (append-assoc (bytesOf kind numbersOf x) (joined (map (bytesOf kind numbersOf) l)) rest) (written follows s row f (rows-more a r))
 
 -- ---- a table
 
@@ -148,7 +106,8 @@ pub record TableFits (l : Layout) (placed : List Placed) : Type 0 where
   pub rows : All DataFits (map (dataRow l) placed)
 
 -- the rows of a kind among the rows of both
-all-rows : {A : Type 0} (k kind : ℕ) (numbersOf : A → List ℕ) (b : Bool) → eqb kind k ≡ b → (l : List A) → All (λ r. isKind k r ≡ b) (map (recOf kind numbersOf) l)
+all-rows : {A : Type 0} (k kind : ℕ) (numbersOf : A → List ℕ) (b : Bool) → eqb kind k ≡ b → (l : List A)
+    → All (λ r. isKind k r ≡ b) (map (recOf kind numbersOf) l)
 unfolding isKind
 all-rows k kind numbersOf b e [] = empty
 all-rows k kind numbersOf b e (x ∷ l) = also e (all-rows k kind numbersOf b e l)
@@ -195,19 +154,30 @@ module _ (l : Layout) (placed : List Placed) where
   unfolding fields kinds
   header-fit h = fit (h .period) (fit (h .controls) (fit (h .datas) fit-none))
 
-  data-read : (previous : ℕ) → (known 18 && tableFollows previous 18) ≡ true → tableFollows previous 0 ≡ true → TableFits l placed
-      → Reads tableFollows 20 previous (joined (map (bytesOf 18 dataNumbers) (map (dataRow l) placed)) ++ (0 ∷ [])) (map dataRec (map (dataRow l) placed) ++ [])
+  stands : {previous kind : ℕ} → known kind ≡ true → tableFollows previous kind ≡ true → MayStand tableFollows previous kind
+  stands k f = record { isKnown = k; isNext = f }
+
+  data-written : {previous : ℕ} → MayStand tableFollows previous 18 → MayStand tableFollows previous 0 → TableFits l placed
+      → AreRecords tableFollows previous (joined (map (bytesOf 18 dataNumbers) (map (dataRow l) placed)) ++ (0 ∷ []))
+      (map dataRec (map (dataRow l) placed) ++ [])
   unfolding known kinds tableFollows
-  data-read previous h e t =
-      reads-rows tableFollows 20 18 dataNumbers refl refl previous h (all-weaker data-fit (t .rows)) (reads-end tableFollows 20 previous e)
-      (reads-end tableFollows 20 18 refl)
+  data-written s e t =
+      rows-written tableFollows 18 dataNumbers (omega arith) (stands refl refl) s (all-weaker data-fit (t .rows)) (theEnd e refl)
+      (theEnd (stands refl refl) refl)
+
+  -- the table's bytes are its records
+  pub table-written : TableFits l placed → AreRecords tableFollows 0 (tableBytes l placed) tableRecords
+  unfolding tableBytes headerBytes controlBytes dataBytes known kinds tableFollows
+  table-written t =
+      written tableFollows (stands refl refl) (omega arith) (header-fit t)
+      (rows-written tableFollows 17 controlNumbers (omega arith) (stands refl refl)
+      (stands refl refl)
+      (all-weaker control-fit (t .control))
+      (data-written (stands refl refl) (stands refl refl) t)
+      (data-written (stands refl refl) (stands refl refl) t))
 
   pub table-reads : TableFits l placed → records tableFollows 20 (tableBytes l placed) ≡ ok tableRecords
-  unfolding records tableBytes headerBytes controlBytes dataBytes known kinds tableFollows
-  table-reads t =
-      reads-record tableFollows 20 0 16 headerNumbers refl refl (header-fit t)
-      (reads-rows tableFollows 20 17 controlNumbers refl refl 16 refl (all-weaker control-fit (t .control)) (data-read 16 refl refl t) (data-read 17 refl refl t))
-      .from 0
+  table-reads t = records-exact tableFollows 20 (tableBytes l placed) tableRecords .1 (table-written t)
 
   -- the table as it is read back
   abbrev pub tableRead : TableRead

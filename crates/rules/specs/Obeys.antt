@@ -8,14 +8,14 @@ use lib.ListN.{length, getD, take}
 use Prim.Native.Nat.{ℕ, zero, suc, _+_, _-_, _%_, _^_, _≤_, _<_, _∣_}
 use Rattle.laws.specs.Res.{Res, ok, refuse}
 use Rattle.laws.specs.Faults.{Rule, BreaksAt, AllKept, FirstFault}
-use Rattle.rules.specs.Records.{Rec, known, bodyLength, recordOf, records, tableFollows}
+use Rattle.rules.specs.Records.{Rec, known, bodyLength, recordOf, tableFollows}
 use Rattle.rules.specs.Plan.{Plan, readPlan}
 use Rattle.rules.specs.Frames.{Frame, Layout, layout, gapTime}
 use Rattle.rules.specs.LatestRelease.{Placed, noFrame, frameTime, latestRelease}
 use Rattle.rules.specs.Table.{tableBytes}
-use Rattle.rules.specs.Checker.{TableRead, tableOf, controlAt, rowAt, stopBefore, firstRow}
+use Rattle.rules.specs.Checker.{TableRead, tableOf, controlAt, rowAt, stopBefore, firstRow, Passed, passed}
 use Rattle.rules.specs.Playing.{modulePlaces, taskPlaces, Input}
-use Rattle.rules.specs.Station.{Kept, State, runPeriod, taskAge, runAge}
+use Rattle.rules.specs.Station.{Kept, keptOf, State, stateAtStart, runPeriod, taskAge, runAge, Begun}
 
 -- ---- files (1 and 20)
 
@@ -131,7 +131,7 @@ pub record Passes (plan table : List ℕ) : Type 0 where
   pub laid : Layout
   pub isLaid : layout read ≡ ok laid
   pub rows : List Rec
-  pub areRows : records tableFollows 20 table ≡ ok rows
+  pub areRows : AreRecords tableFollows 0 table rows
   pub obeys : ObeysTable laid (tableOf rows)
 
 -- Number n at p is the first fault of plan and table: 1 to 5, 6 to 11, 20, then the first of 21 to 27 at its lowest record.
@@ -139,10 +139,10 @@ pub data CheckFault (plan table : List ℕ) (n p : ℕ) : Type 0 where
   ofPlan : readPlan plan ≡ refuse n p → CheckFault plan table n p
   ofLayout : {q : Plan} → readPlan plan ≡ ok q → layout q ≡ refuse n p → CheckFault plan table n p
   ofRecords :
-      {q : Plan} {l : Layout} → readPlan plan ≡ ok q → layout q ≡ ok l → records tableFollows 20 table ≡ refuse n p →
+      {q : Plan} {l : Layout} → readPlan plan ≡ ok q → layout q ≡ ok l → n ≡ 20 → BreakRecords tableFollows 0 0 table p →
       CheckFault plan table n p
   ofTable :
-      {q : Plan} {l : Layout} {rs : List Rec} → readPlan plan ≡ ok q → layout q ≡ ok l → records tableFollows 20 table ≡ ok rs →
+      {q : Plan} {l : Layout} {rs : List Rec} → readPlan plan ≡ ok q → layout q ≡ ok l → AreRecords tableFollows 0 table rs →
       FirstFault (tableRules l (tableOf rs)) n p → CheckFault plan table n p
 
 -- The plan passes 1 to 11, and the table does not read as records, first at p.
@@ -151,20 +151,21 @@ pub record UnreadAt (plan table : List ℕ) (p : ℕ) : Type 0 where
   pub isRead : readPlan plan ≡ ok read
   pub laid : Layout
   pub isLaid : layout read ≡ ok laid
-  pub unread : records tableFollows 20 table ≡ refuse 20 p
+  pub unread : BreakRecords tableFollows 0 0 table p
 
--- The plan passes 1 to 11, the table reads as records and keeps the first i of the rules 21 to 27; the next, 21 + i, is broken, first
--- at record p.
+-- the rule that asks nothing
 abbrev pub noRule : Rule
 noRule = record { number = 0; first = 0; places = 0; asks = λ k. Unit {0} }
 
+-- The plan passes 1 to 11, the table reads as records and keeps the first i of the rules 21 to 27; the next, 21 + i, is broken, first
+-- at record p.
 pub record BrokenAt (plan table : List ℕ) (i p : ℕ) : Type 0 where
   pub read : Plan
   pub isRead : readPlan plan ≡ ok read
   pub laid : Layout
   pub isLaid : layout read ≡ ok laid
   pub rows : List Rec
-  pub areRows : records tableFollows 20 table ≡ ok rows
+  pub areRows : AreRecords tableFollows 0 table rows
   pub kept : AllKept (take i (tableRules laid (tableOf rows)))
   pub broken : BreaksAt (getD (tableRules laid (tableOf rows)) i noRule) (21 + i) p
 
@@ -229,3 +230,46 @@ pub record MayTick (k : Kept) (s : State) (i : Input) : Type 0 where
       (t : ℕ) → t < taskPlaces → IsRunning k s t → runAge k s t ≡ k .taskWorst t → s .given t ≡ false →
       (v : ℕ) × (i .result t ≡ some v)
   pub allowed : (m μ : ℕ) → m < modulePlaces → i .change m ≡ some μ → MayChange k s m μ
+
+-- The same rules in order, with their numbers; a place is a task, or a module.
+abbrev pub tickRules : Kept → State → Input → List Rule
+tickRules k s i =
+    record { number = 41; first = 0; places = taskPlaces; asks = λ t. (v : ℕ) → i .result t ≡ some v → IsAwaited k s t }
+    ∷ record { number = 42; first = 0; places = taskPlaces; asks = λ t. (v : ℕ) → i .result t ≡ some v → v < 256 ^ k .taskSize t }
+    ∷ record {
+      number = 43;
+      first = 0;
+      places = taskPlaces;
+      asks =
+          λ t. IsRunning k s t → runAge k s t ≡ k .taskWorst t → s .given t ≡ false → (v : ℕ) × (i .result t ≡ some v);
+    }
+    ∷ record { number = 44; first = 0; places = modulePlaces; asks = λ m. (μ : ℕ) → i .change m ≡ some μ → MayChange k s m μ }
+    ∷ []
+
+-- The tick keeps the first j of the rules 41 to 44; the next, 41 + j, is broken, first at the task or module p.
+pub record TickBrokenAt (k : Kept) (s : State) (i : Input) (j p : ℕ) : Type 0 where
+  pub kept : AllKept (take j (tickRules k s i))
+  pub broken : BreaksAt (getD (tickRules k s i) j noRule) (41 + j) p
+
+-- ---- beginnings
+
+-- What a starting place must hold: "one mode for each module", one of its own; "a later one" nothing.
+pub record StartsRight (k : Kept) (starting : ℕ → Option ℕ) (m : ℕ) : Type 0 where
+  pub own : m < k .modules → (μ : ℕ) × (starting m ≡ some μ) × (μ < k .modes) × (k .modeHome μ ≡ m)
+  pub later : k .modules ≤ m → starting m ≡ none
+
+abbrev pub startRule : Kept → (ℕ → Option ℕ) → Rule
+startRule k starting = record { number = 40; first = 0; places = modulePlaces; asks = StartsRight k starting }
+
+-- What a beginning needs: a table that passes, and each starting place holding what it must.
+pub record MayBegin (plan table : List ℕ) (starting : ℕ → Option ℕ) (b : Begun) : Type 0 where
+  pub played : Passed
+  pub passes : passed plan table ≡ ok played
+  pub starts : (m : ℕ) → m < modulePlaces → StartsRight (keptOf played) starting m
+  pub is : b ≡ record { kept = keptOf played; state = stateAtStart starting }
+
+-- The table passes, and the lowest starting place that does not hold what it must is m.
+pub record BeginBrokenAt (plan table : List ℕ) (starting : ℕ → Option ℕ) (m : ℕ) : Type 0 where
+  pub played : Passed
+  pub passes : passed plan table ≡ ok played
+  pub broken : BreaksAt (startRule (keptOf played) starting) 40 m

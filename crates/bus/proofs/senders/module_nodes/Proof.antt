@@ -1,6 +1,6 @@
 use borrow.Author.Needs.{needs}
-use mathlib.Core.Path.{_≡_, refl, sym, _∙_}
-use lib.ListN.{length, getD, replicate, List·getD-eq-default}
+use mathlib.Core.Path.{_≡_, refl, sym, ap, _∙_}
+use lib.ListN.{length, getD, replicate}
 use native.Mathlib.Omega.{arith}
 use Prim.Native.Nat.{ℕ, _≤_, _<_, _-_}
 use Rattle.laws.specs.Loops.{stores}
@@ -8,7 +8,7 @@ use Rattle.laws.proofs.Loops.{stores-turn}
 use Rattle.plan.specs.Memory.{seen, moduleSeen, moduleLaid}
 use Rattle.plan.specs.declared.Plan.{Plan}
 use Rattle.rules.specs.Frames.{moduleNode}
-use Rattle.bus.proofs.Tables.{filled}
+use Rattle.bus.proofs.Tables.{filled-of}
 use Rattle.bus.proofs.Things.{module-here}
 use Rattle.bus.proofs.senders.module_nodes.Statement.{statement}
 use Rattle.bus.proofs.senders.module_nodes.Tie as tie
@@ -19,14 +19,9 @@ Inv-loop p n nodes₀ m₀ nodes m = (m ≤ n) × (nodes ≡ stores (replicate 2
 abbrev μ-loop : tie.MeasureT-loop
 μ-loop p n nodes₀ m₀ nodes m = n - m
 
--- a module of the plan, and a number behind them
-here : (p : Plan) (m : ℕ) → m < length (seen p .modules) → getD (p .modules) m (moduleLaid 0) .node .0 ≡ moduleNode (seen p) m
+here : (p : Plan) (k : ℕ) → k < length (seen p .modules) → getD (p .modules) k (moduleLaid 0) .node .0 ≡ moduleNode (seen p) k
 unfolding moduleNode moduleSeen moduleLaid
-here p m h = sym (module-here p m h)
-
-behind : (p : Plan) (m : ℕ) → length (seen p .modules) ≤ m → moduleNode (seen p) m ≡ 0
-unfolding moduleNode
-behind p m h = List·getD-eq-default (seen p .modules) 0 h
+here p k h = sym (module-here p k h)
 
 module-count-requires : tie.Need-module-count-requires Inv-loop μ-loop
 module-count-requires c κs = search needs
@@ -54,11 +49,11 @@ loop-again c =
     (search needs, stores-turn _ _ _ (c .before .loop .inv .1) (here p _ w))
 
 returns : tie.Need-returns Inv-loop μ-loop
+unfolding moduleNode
 returns c =
-    let p = c .before .before .before .args .t1 in
-    let n = length (seen p .modules) in
-    let e : c .before .loop .m ≡ n = omega arith in
-    c .before .loop .inv .1 ∙ rw e (filled (moduleNode (seen p)) 0 n (omega arith) (λ k h v. behind p k h))
+    let l = seen (c .before .before .before .args .t1) .modules in
+    let e : c .before .loop .m ≡ length l = omega arith in
+    c .before .loop .inv .1 ∙ rw e (filled-of (λ n. n) l 0 refl (omega arith))
 
 pub module-nodes-spec : {M : Type 1} → statement M
 module-nodes-spec =

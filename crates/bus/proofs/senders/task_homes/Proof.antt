@@ -1,6 +1,6 @@
 use borrow.Author.Needs.{needs}
 use mathlib.Core.Path.{_≡_, refl, sym, ap, _∙_}
-use lib.ListN.{length, getD, replicate, List·getD-eq-default}
+use lib.ListN.{length, getD, replicate}
 use native.Mathlib.Omega.{arith}
 use Prim.Native.Nat.{ℕ, _≤_, _<_, _-_}
 use Rattle.laws.specs.Loops.{stores}
@@ -9,7 +9,7 @@ use Rattle.plan.specs.Memory.{seen, taskSeen, taskLaid}
 use Rattle.plan.specs.declared.Plan.{Plan}
 use Rattle.rules.specs.Plan.{Task, noTask, theTask}
 use Rattle.bus.specs.Senders.{taskHome}
-use Rattle.bus.proofs.Tables.{filled}
+use Rattle.bus.proofs.Tables.{filled-of}
 use Rattle.bus.proofs.Things.{task-here}
 use Rattle.bus.proofs.senders.task_homes.Statement.{statement}
 use Rattle.bus.proofs.senders.task_homes.Tie as tie
@@ -21,16 +21,11 @@ abbrev μ-loop : tie.MeasureT-loop
 μ-loop p n homes₀ t₀ homes t = n - t
 
 abbrev home : Task → ℕ
-home t = t .home
+home x = x .home
 
--- a task of the plan, and a number behind them
-here : (p : Plan) (t : ℕ) → t < length (seen p .tasks) → getD (p .tasks) t (taskLaid noTask) .home .0 ≡ taskHome (seen p) t
+here : (p : Plan) (k : ℕ) → k < length (seen p .tasks) → getD (p .tasks) k (taskLaid noTask) .home .0 ≡ taskHome (seen p) k
 unfolding taskHome theTask taskSeen taskLaid
-here p t h = sym (ap home (task-here p t h))
-
-behind : (p : Plan) (t : ℕ) → length (seen p .tasks) ≤ t → taskHome (seen p) t ≡ 0
-unfolding taskHome theTask
-behind p t h = ap home (List·getD-eq-default (seen p .tasks) noTask h)
+here p k h = sym (ap home (task-here p k h))
 
 task-count-requires : tie.Need-task-count-requires Inv-loop μ-loop
 task-count-requires c κs = search needs
@@ -61,11 +56,11 @@ loop-again c =
     (search needs, stores-turn _ _ _ (c .before .loop .inv .1) (here p _ w))
 
 returns : tie.Need-returns Inv-loop μ-loop
+unfolding taskHome theTask
 returns c =
-    let p = c .before .before .before .args .t1 in
-    let n = length (seen p .tasks) in
-    let e : c .before .loop .t ≡ n = omega arith in
-    c .before .loop .inv .1 ∙ rw e (filled (taskHome (seen p)) 0 n (omega arith) (λ k h v. behind p k h))
+    let l = seen (c .before .before .before .args .t1) .tasks in
+    let e : c .before .loop .t ≡ length l = omega arith in
+    c .before .loop .inv .1 ∙ rw e (filled-of home l noTask refl (omega arith))
 
 pub task-homes-spec : {M : Type 1} → statement M
 task-homes-spec =

@@ -1,0 +1,78 @@
+use borrow.Author.Needs.{needs}
+use mathlib.Core.Path.{_≡_, refl, sym, ap, _∙_}
+use native.Mathlib.Omega.{arith}
+use Prim.Native.Nat.{_≤_, _-_}
+use Rattle.laws.specs.Lists.{tab}
+use Rattle.rules.specs.Frames.{periodOfRuns}
+use Rattle.cycle.specs.Runs.{runAt, runsSeen}
+use mathlib.Core.Bool.{true}
+use Prim.Native.Nat.{_+_}
+use Rattle.laws.specs.Numbers.{divides}
+use Rattle.cycle.proofs.Multiples.{period-more, period-below}
+use Rattle.cycle.proofs.period.bus_period.Statement.{statement}
+use Rattle.cycle.proofs.period.bus_period.Tie as tie
+
+abbrev Inv-loop : tie.InvT-loop
+Inv-loop grid runs n period₀ i₀ period i = (i ≤ n) × (period ≡ periodOfRuns (tab (runAt runs) 0 i))
+
+abbrev μ-loop : tie.MeasureT-loop
+μ-loop grid runs n period₀ i₀ period i = n - i
+
+made : (c : tie.After-lcm Inv-loop μ-loop) → c .lcm .result ≡ periodOfRuns (tab (runAt (c .before .before .before .before .args .t1)) 0 (c .before .before .before .loop .i + 1))
+unfolding runAt
+made c =
+    c .lcm .ensures ∙ rw (c .before .before .before .loop .inv .1)
+    (sym (period-more (runAt (c .before .before .before .before .args .t1)) (c .before .before .before .loop .i)))
+
+whole : (c : tie.After-lcm Inv-loop μ-loop) → divides (periodOfRuns (tab (runAt (c .before .before .before .before .args .t1)) 0 (c .before .before .before .before .args .t1 .count))) (c .before .before .before .before .args .grid) ≡ true
+unfolding runsSeen
+whole c = c .before .before .before .before .pre .1 .1
+
+loop-holds : tie.Need-loop-holds Inv-loop μ-loop
+unfolding periodOfRuns
+loop-holds c = (search needs, refl)
+
+mul-lcm : tie.Need-mul-lcm Inv-loop μ-loop
+mul-lcm c = search needs
+
+element-copy-out-lcm : tie.Need-element-copy-out-lcm Inv-loop μ-loop
+element-copy-out-lcm c = search needs
+
+lcm-requires : tie.Need-lcm-requires Inv-loop μ-loop
+lcm-requires c κs = search needs
+
+cast-period : tie.Need-cast-period Inv-loop μ-loop
+cast-period c = omega (arith, made c, period-below (runAt (c .before .before .before .before .args .t1)) (c .before .before .before .before .args .grid) (c .before .before .before .before .args .t1 .count) (c .before .before .before .loop .i + 1) (omega arith) (c .before .before .before .before .pre .1 .0) (whole c))
+
+add-i : tie.Need-add-i Inv-loop μ-loop
+add-i c = search needs
+
+loop-less : tie.Need-loop-less Inv-loop μ-loop
+loop-less c = search needs
+
+loop-again : tie.Need-loop-again Inv-loop μ-loop
+loop-again c = (omega arith, made c)
+
+returns : tie.Need-returns Inv-loop μ-loop
+unfolding runsSeen
+returns c =
+    let s = c .before .before in
+    let e : c .before .loop .i ≡ s .args .t1 .count = omega arith in
+    let h = rw e at (c .before .loop .inv .1) in
+    (h, rw h (period-below (runAt (s .args .t1)) (s .args .grid) (s .args .t1 .count) (s .args .t1 .count) (omega arith) (s .pre .1 .0) (s .pre .1 .1)))
+
+pub bus-period-spec : {M : Type 1} → statement M
+bus-period-spec =
+    tie.close
+    (tie.spec
+    Inv-loop
+    μ-loop
+    loop-holds
+    mul-lcm
+    element-copy-out-lcm
+    lcm-requires
+    cast-period
+    add-i
+    loop-less
+    loop-again
+    returns)

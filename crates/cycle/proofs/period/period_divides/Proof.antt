@@ -1,0 +1,73 @@
+use borrow.Author.Needs.{needs}
+use mathlib.Core.Path.{_≡_, refl, sym, ap, _∙_}
+use native.Mathlib.Omega.{arith}
+use mathlib.Core.Bool.{true}
+use Prim.Native.Nat.{_≤_, _-_}
+use Rattle.laws.specs.Lists.{tab}
+use Rattle.laws.specs.Numbers.{divides}
+use Rattle.rules.specs.Frames.{periodOfRuns}
+use Rattle.cycle.specs.Runs.{runAt, runsSeen}
+use borrow.Author.Tests.{not-true, not-false}
+use Rattle.cycle.proofs.Multiples.{divides-none, divides-more, divides-not}
+use Rattle.cycle.proofs.period.period_divides.Statement.{statement}
+use Rattle.cycle.proofs.period.period_divides.Tie as tie
+
+abbrev Inv-loop : tie.InvT-loop
+Inv-loop grid runs n i₀ i = (i ≤ n) × (divides (periodOfRuns (tab (runAt runs) 0 i)) grid ≡ true)
+
+abbrev μ-loop : tie.MeasureT-loop
+μ-loop grid runs n i₀ i = n - i
+
+loop-holds : tie.Need-loop-holds Inv-loop μ-loop
+loop-holds c = (search needs, divides-none (runAt (c .args .t1)) (c .args .grid))
+
+mul-divides : tie.Need-mul-divides Inv-loop μ-loop
+mul-divides c = search needs
+
+element-copy-out-divides : tie.Need-element-copy-out-divides Inv-loop μ-loop
+element-copy-out-divides c = search needs
+
+divides-requires : tie.Need-divides-requires Inv-loop μ-loop
+divides-requires c κs = search needs
+
+returns : tie.Need-returns Inv-loop μ-loop
+unfolding runAt runsSeen
+returns c =
+    let s = c .before .before .before .before .before in
+    let l = c .before .before .before .before .loop in
+    sym (divides-not (runAt (s .args .t1)) (s .args .grid) (s .args .t1 .count) (l .i) (omega arith) (sym (c .before .divides .ensures) ∙ not-true _ (c .if1 .taken)))
+
+add-i : tie.Need-add-i Inv-loop μ-loop
+add-i c = search needs
+
+loop-less : tie.Need-loop-less Inv-loop μ-loop
+loop-less c = search needs
+
+loop-again : tie.Need-loop-again Inv-loop μ-loop
+unfolding runAt
+loop-again c =
+    let s = c .before .before .before .before .before in
+    let l = c .before .before .before .before .loop in
+    (omega arith, divides-more (runAt (s .args .t1)) (s .args .grid) (l .i) (l .inv .1) (sym (c .before .divides .ensures) ∙ not-false _ (c .if1 .left)))
+
+returns-2 : tie.Need-returns-2 Inv-loop μ-loop
+unfolding runsSeen
+returns-2 c =
+    let e : c .before .loop .i ≡ c .before .before .args .t1 .count = omega arith in
+    sym (rw e at (c .before .loop .inv .1))
+
+pub period-divides-spec : {M : Type 1} → statement M
+period-divides-spec =
+    tie.close
+    (tie.spec
+    Inv-loop
+    μ-loop
+    loop-holds
+    mul-divides
+    element-copy-out-divides
+    divides-requires
+    returns
+    add-i
+    loop-less
+    loop-again
+    returns-2)

@@ -1,0 +1,100 @@
+use borrow.Author.Needs.{needs}
+use mathlib.Core.Path.{_≡_, refl, sym, ap, _∙_}
+use native.Mathlib.Omega.{arith}
+use Prim.Native.Nat.{_≤_, _<_, _-_}
+use lib.ListN.{length, getD, take}
+use lib.Seq.{take-all}
+use Rattle.plan.specs.Memory.{seen, modeSeen, modeLaid}
+use Rattle.rules.specs.Plan.{noMode}
+use Rattle.rules.specs.Frames.{switchGrid}
+use Rattle.bus.proofs.Things.{mode-here}
+use Rattle.cycle.proofs.Multiples.{gridAmong, grid-turn}
+use Rattle.cycle.proofs.period.switch_grid.Statement.{statement}
+use Rattle.cycle.proofs.period.switch_grid.Tie as tie
+
+abbrev Inv-loop : tie.InvT-loop
+Inv-loop p sending n grid₀ i₀ grid i = (i ≤ n) × (grid ≡ gridAmong (seen p) (take i (seen p .modes)))
+
+abbrev μ-loop : tie.MeasureT-loop
+μ-loop p sending n grid₀ i₀ grid i = n - i
+
+mode-count-requires : tie.Need-mode-count-requires Inv-loop μ-loop
+mode-count-requires c κs = search needs
+
+loop-holds : tie.Need-loop-holds Inv-loop μ-loop
+unfolding gridAmong
+loop-holds c = (search needs, refl)
+
+mul-place : tie.Need-mul-place Inv-loop μ-loop
+mul-place c = search needs
+
+element-copy-out-place : tie.Need-element-copy-out-place Inv-loop μ-loop
+element-copy-out-place c = search needs
+
+place-requires : tie.Need-place-requires Inv-loop μ-loop
+place-requires c κs = search needs
+
+array-read-with-mode : tie.Need-array-read-with-mode Inv-loop μ-loop
+array-read-with-mode c = search needs
+
+mul-with-mode : tie.Need-mul-with-mode Inv-loop μ-loop
+mul-with-mode c = search needs
+
+element-copy-out-with-mode : tie.Need-element-copy-out-with-mode Inv-loop μ-loop
+element-copy-out-with-mode c = search needs
+
+mul-with-mode-2 : tie.Need-mul-with-mode-2 Inv-loop μ-loop
+mul-with-mode-2 c = search needs
+
+element-copy-out-with-mode-2 : tie.Need-element-copy-out-with-mode-2 Inv-loop μ-loop
+element-copy-out-with-mode-2 c = search needs
+
+with-mode-requires : tie.Need-with-mode-requires Inv-loop μ-loop
+with-mode-requires c κs = search needs
+
+add-i : tie.Need-add-i Inv-loop μ-loop
+add-i c = search needs
+
+loop-less : tie.Need-loop-less Inv-loop μ-loop
+loop-less c = search needs
+
+loop-again : tie.Need-loop-again Inv-loop μ-loop
+unfolding modeSeen modeLaid
+loop-again c =
+    let s = c .before .before .before .before .before in
+    let q = seen (s .args .t1) in
+    let l = c .before .before .before .loop in
+    let h : l .i < length (q .modes) = omega arith in (
+      omega arith,
+      grid-turn q (q .modes) (l .i) (modeSeen (getD (s .args .t1 .modes) (l .i) (modeLaid noMode))) h (mode-here (s .args .t1) (l .i) h)
+          (c .before .place .result) (s .pre) (omega arith) (c .before .place .ensures .0) (l .inv .1) (c .with-mode .ensures),
+    )
+
+returns : tie.Need-returns Inv-loop μ-loop
+unfolding switchGrid gridAmong
+returns c =
+    let q = seen (c .before .before .before .args .t1) in
+    let w : length (q .modes) ≤ c .before .loop .i = omega arith in
+    rw (take-all (c .before .loop .i) (q .modes) w) at (c .before .loop .inv .1)
+
+pub switch-grid-spec : {M : Type 1} → statement M
+switch-grid-spec =
+    tie.close
+    (tie.spec
+    Inv-loop
+    μ-loop
+    mode-count-requires
+    loop-holds
+    mul-place
+    element-copy-out-place
+    place-requires
+    array-read-with-mode
+    mul-with-mode
+    element-copy-out-with-mode
+    mul-with-mode-2
+    element-copy-out-with-mode-2
+    with-mode-requires
+    add-i
+    loop-less
+    loop-again
+    returns)

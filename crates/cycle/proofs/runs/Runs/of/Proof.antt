@@ -1,0 +1,187 @@
+use borrow.Author.Needs.{needs}
+use mathlib.Core.Path.{_≡_, refl, sym, _∙_}
+use mathlib.Core.Logic.{⊎-elim}
+use native.Mathlib.Omega.{arith}
+use Prim.Native.Nat.{ℕ, _≤_, _<_, _-_}
+use lib.ListN.{length, getD, take}
+use Rattle.plan.specs.Memory.{seen}
+use Rattle.cycle.specs.Runs.{runsAmong}
+use lib.Seq.{take-all}
+use Rattle.plan.specs.Memory.{invocationSeen, invocationLaid}
+use Rattle.rules.specs.Frames.{busRuns}
+use Rattle.bus.proofs.Things.{invocation-here}
+use Rattle.rules.specs.Plan.{noInvocation}
+use Rattle.cycle.proofs.Columns.{among-few, bus-task-is, period-is, worst-is}
+use Rattle.cycle.proofs.Columns.{Laid, laid-none, laid-few, laid-more, laid-kept, laid-is}
+use Rattle.cycle.proofs.runs.Runs.of.Statement.{statement}
+use Rattle.cycle.proofs.runs.Runs.of.Tie as tie
+
+abbrev Inv-loop : tie.InvT-loop
+Inv-loop p bus n modes times tasks₀ periods₀ worsts₀ count₀ i₀ tasks periods worsts count i = (i ≤ n) × Laid (runsAmong (seen p) (take i (seen p .invocations))) count tasks periods worsts
+
+abbrev μ-loop : tie.MeasureT-loop
+μ-loop p bus n modes times tasks₀ periods₀ worsts₀ count₀ i₀ tasks periods worsts count i = n - i
+
+few : (c : tie.In-loop Inv-loop μ-loop) → c .before .loop .count ≤ c .before .loop .i
+few c =
+    let q = seen (c .before .before .before .before .before .args .t1) in
+    let l = c .before .loop in
+    laid-few q (q .invocations) (l .i) (l .count) (l .tasks) (l .periods) (l .worsts) (omega arith) (l .inv .1)
+
+invocation-count-requires : tie.Need-invocation-count-requires Inv-loop μ-loop
+invocation-count-requires c κs = search needs
+
+mode-periods-requires : tie.Need-mode-periods-requires Inv-loop μ-loop
+mode-periods-requires c κs = search needs
+
+task-worsts-requires : tie.Need-task-worsts-requires Inv-loop μ-loop
+task-worsts-requires c κs = search needs
+
+loop-holds : tie.Need-loop-holds Inv-loop μ-loop
+loop-holds c = (search needs, laid-none (seen (c .before .before .before .args .t1)))
+
+mul-place : tie.Need-mul-place Inv-loop μ-loop
+mul-place c = search needs
+
+element-copy-out-place : tie.Need-element-copy-out-place Inv-loop μ-loop
+element-copy-out-place c = search needs
+
+place-requires : tie.Need-place-requires Inv-loop μ-loop
+place-requires c κs = search needs
+
+array-read-if1 : tie.Need-array-read-if1 Inv-loop μ-loop
+array-read-if1 c = search needs
+
+mul-place-2 : tie.Need-mul-place-2 Inv-loop μ-loop
+mul-place-2 c = search needs
+
+element-copy-out-place-2 : tie.Need-element-copy-out-place-2 Inv-loop μ-loop
+element-copy-out-place-2 c = search needs
+
+place-requires-2 : tie.Need-place-requires-2 Inv-loop μ-loop
+place-requires-2 c κs = search needs
+
+mul-tasks : tie.Need-mul-tasks Inv-loop μ-loop
+mul-tasks c = search needs
+
+element-copy-out-tasks : tie.Need-element-copy-out-tasks Inv-loop μ-loop
+element-copy-out-tasks c = search needs
+
+array-write-tasks : tie.Need-array-write-tasks Inv-loop μ-loop
+array-write-tasks c = omega (arith, few (c .before .before .before))
+
+mul-quotient : tie.Need-mul-quotient Inv-loop μ-loop
+mul-quotient c = search needs
+
+array-read-quotient : tie.Need-array-read-quotient Inv-loop μ-loop
+array-read-quotient c = search needs
+
+mul-quotient-2 : tie.Need-mul-quotient-2 Inv-loop μ-loop
+mul-quotient-2 c = search needs
+
+element-copy-out-quotient : tie.Need-element-copy-out-quotient Inv-loop μ-loop
+element-copy-out-quotient c = search needs
+
+quotient-requires : tie.Need-quotient-requires Inv-loop μ-loop
+quotient-requires c κs = search needs
+
+mul-periods : tie.Need-mul-periods Inv-loop μ-loop
+mul-periods c = omega (arith, few (c .before .before .before .before))
+
+array-write-periods : tie.Need-array-write-periods Inv-loop μ-loop
+array-write-periods c = omega (arith, few (c .before .before .before .before))
+
+mul-worsts : tie.Need-mul-worsts Inv-loop μ-loop
+mul-worsts c = search needs
+
+array-read-worsts : tie.Need-array-read-worsts Inv-loop μ-loop
+array-read-worsts c = search needs
+
+mul-worsts-2 : tie.Need-mul-worsts-2 Inv-loop μ-loop
+mul-worsts-2 c = omega (arith, few (c .before .before .before .before))
+
+array-write-worsts : tie.Need-array-write-worsts Inv-loop μ-loop
+array-write-worsts c = omega (arith, few (c .before .before .before .before))
+
+add-count : tie.Need-add-count Inv-loop μ-loop
+add-count c = omega (arith, few (c .before .before .before .before))
+
+add-i : tie.Need-add-i Inv-loop μ-loop
+add-i c = search needs
+
+loop-less : tie.Need-loop-less Inv-loop μ-loop
+loop-less c = search needs
+
+loop-again : tie.Need-loop-again Inv-loop μ-loop
+unfolding invocationSeen invocationLaid
+loop-again c =
+    let s = c .before .before .before .before .before .before .before in
+    let q = seen (s .args .t1) in
+    let l = c .before .before .before .loop in
+    let is = q .invocations in
+    let h : l .i < length is = omega arith in
+    let x = invocationSeen (getD (s .args .t1 .invocations) (l .i) (invocationLaid noInvocation)) in
+    let e = invocation-here (s .args .t1) (l .i) h in
+    let t = c .before .place .result in
+    let u = c .before .place .ensures .0 in
+    ⊎-elim
+    (λ w. (
+      omega arith,
+      rw (w .3, w .4, w .5, w .6)
+          (laid-more q is (l .i) (l .count) (l .tasks) (l .periods) (l .worsts) h (l .inv .1) e (bus-task-is q x t (s .pre) (omega arith) u (w .0 .taken)) refl
+          (period-is q x (w .1 .result) (c .before .before .before .before .before .mode-periods .ensures) (omega arith) (w .1 .ensures .0) (w .2 .ensures))
+          (worst-is q x t (c .before .before .before .before .task-worsts .ensures) (omega arith) u)),
+    ))
+    (λ w. (
+      omega arith,
+      rw (w .1, w .2, w .3, w .4)
+          (laid-kept q is (l .i) (l .count) (l .tasks) (l .periods) (l .worsts) h (l .inv .1) e (bus-task-is q x t (s .pre) (omega arith) u (w .0 .left))),
+    ))
+    (c .if1 .came)
+
+returns : tie.Need-returns Inv-loop μ-loop
+unfolding busRuns runsAmong
+returns c =
+    let q = seen (c .before .before .before .before .before .args .t1) in
+    let l = c .before .loop in
+    let w : length (q .invocations) ≤ l .i = omega arith in
+    let h : Laid (busRuns q) (l .count) (l .tasks) (l .periods) (l .worsts) = rw (take-all (l .i) (q .invocations) w) at (l .inv .1) in
+    let k : length (busRuns q) ≤ length (q .invocations) = among-few q (q .invocations) in
+    (laid-is (busRuns q) _ h, omega (arith, h .counted))
+
+pub of-spec : {M : Type 1} → statement M
+of-spec =
+    tie.close
+    (tie.spec
+    Inv-loop
+    μ-loop
+    invocation-count-requires
+    mode-periods-requires
+    task-worsts-requires
+    loop-holds
+    mul-place
+    element-copy-out-place
+    place-requires
+    array-read-if1
+    mul-place-2
+    element-copy-out-place-2
+    place-requires-2
+    mul-tasks
+    element-copy-out-tasks
+    array-write-tasks
+    mul-quotient
+    array-read-quotient
+    mul-quotient-2
+    element-copy-out-quotient
+    quotient-requires
+    mul-periods
+    array-write-periods
+    mul-worsts
+    array-read-worsts
+    mul-worsts-2
+    array-write-worsts
+    add-count
+    add-i
+    loop-less
+    loop-again
+    returns)

@@ -1,0 +1,16 @@
+use borrow.Author.Needs.{needs}
+use native.Mathlib.Nat.{div-zero}
+use Rattle.cycle.proofs.runs.quotient.Statement.{statement}
+use Rattle.cycle.proofs.runs.quotient.Tie as tie
+
+returns : tie.Need-returns
+returns c = rw (c .if1 .taken, div-zero)
+
+div-result : tie.Need-div-result
+div-result c = search needs
+
+returns-2 : tie.Need-returns-2
+returns-2 c = search needs
+
+pub quotient-spec : {M : Type 1} → statement M
+quotient-spec = tie.close (tie.spec returns div-result returns-2)

@@ -1,0 +1,47 @@
+-- The runs of bus tasks in memory: an array for each of their numbers, zeros behind.
+use mathlib.Core.List.{List, map}
+use lib.ListN.{length, getD}
+use Prim.Native.Nat.{ℕ}
+use Rattle.laws.specs.Lists.{keep, tab}
+use Rattle.laws.specs.Loops.{padTo}
+use Rattle.rules.specs.Plan.{Plan, Invocation, theMode, theTask}
+use Rattle.rules.specs.Frames.{Run, runOf, ofBusTask}
+use Rattle.cycle.specs.declared.runs.Runs.{Runs}
+
+unfoldable pub modePeriod : Plan → ℕ → ℕ
+modePeriod p μ = theMode p μ .period
+
+unfoldable pub taskWorst : Plan → ℕ → ℕ
+taskWorst p t = theTask p t .worst
+
+-- "An invocation of a bus task with period T and worst time w": the runs of some of a plan's invocations
+unfoldable pub runsAmong : Plan → List Invocation → List Run
+runsAmong p is = map (runOf p) (keep (ofBusTask p) is)
+
+abbrev pub runTask : Run → ℕ
+runTask r = r .task
+
+abbrev pub runPeriod : Run → ℕ
+runPeriod r = r .period
+
+abbrev pub runWorst : Run → ℕ
+runWorst r = r .worst
+
+unfoldable pub column : (Run → ℕ) → List Run → List ℕ
+column f rs = padTo 64 0 (map f rs)
+
+unfoldable pub runsLaid : List Run → Runs
+runsLaid rs =
+    record {
+      count = length rs;
+      tasks = column runTask rs;
+      periods = column runPeriod rs;
+      worsts = column runWorst rs;
+    }
+
+-- the runs that a struct stands for
+unfoldable pub runAt : Runs → ℕ → Run
+runAt r k = record { task = getD (r .tasks) k 0; period = getD (r .periods) k 0; worst = getD (r .worsts) k 0 }
+
+unfoldable pub runsSeen : Runs → List Run
+runsSeen r = tab (runAt r) 0 (r .count)

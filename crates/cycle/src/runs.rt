@@ -1,0 +1,89 @@
+// The invocations of bus tasks, each with its period and its task's worst time.
+ghost use mathlib.Core.Path.{_≡_};
+ghost use Prim.Native.Nat.{_/_, _≤_};
+ghost use Rattle.plan.specs.Memory.{seen};
+ghost use Rattle.rules.specs.Frames.{isBusTask, busRuns};
+ghost use Rattle.bus.specs.Senders.{byNumber};
+ghost use Rattle.cycle.specs.Runs.{modePeriod, taskWorst, runsLaid};
+use bus::senders::place;
+use plan::Plan;
+use plan::look::invocation_count;
+use plan::look::mode_count;
+use plan::look::task_count;
+
+// An array for each number of a run, so that each can be lent.
+pub struct Runs {
+    pub count: usize,
+    pub tasks: [u8; 64],
+    pub periods: [u32; 64],
+    pub worsts: [u32; 64],
+}
+
+fn mode_periods(p: Plan) -> [u32; 256]
+    ensures { λ r. ⌜ r ≡ byNumber (modePeriod (seen p)) ⌝ }
+{
+    let n = mode_count(p);
+    let mut periods: [u32; 256] = [0; 256];
+    let mut m = 0;
+    while m < n {
+        periods[m] = p.modes[m].period.0;
+        m += 1;
+    }
+    periods
+}
+
+fn task_worsts(p: Plan) -> [u32; 256]
+    ensures { λ r. ⌜ r ≡ byNumber (taskWorst (seen p)) ⌝ }
+{
+    let n = task_count(p);
+    let mut worsts: [u32; 256] = [0; 256];
+    let mut t = 0;
+    while t < n {
+        worsts[t] = p.tasks[t].worst.0;
+        t += 1;
+    }
+    worsts
+}
+
+// Nothing is left of a period by a rate of 0, as the definition has it.
+fn quotient(a: u32, b: u32) -> u32
+    ensures { λ r. ⌜ r ≡ a / b ⌝ }
+{
+    if b == 0 {
+        return 0;
+    }
+    a / b
+}
+
+impl Runs {
+    pub fn of(p: Plan, bus: [bool; 256]) -> Runs
+        requires { ⌜ bus ≡ byNumber (isBusTask (seen p)) ⌝ }
+        ensures { λ r. ⌜ (r ≡ runsLaid (busRuns (seen p))) × (r .count ≤ 64) ⌝ }
+    {
+        let n = invocation_count(p);
+        let modes = mode_periods(p);
+        let times = task_worsts(p);
+        let mut tasks: [u8; 64] = [0; 64];
+        let mut periods: [u32; 64] = [0; 64];
+        let mut worsts: [u32; 64] = [0; 64];
+        let mut count = 0;
+        let mut i = 0;
+        while i < n {
+            let t = place(p.invocations[i].task.0);
+            if bus[t] {
+                let m = place(p.invocations[i].mode.0);
+                tasks[count] = p.invocations[i].task.0;
+                periods[count] = quotient(modes[m], p.invocations[i].rate);
+                worsts[count] = times[t];
+                count += 1;
+            }
+            i += 1;
+        }
+        Runs {
+            count: count,
+            tasks: tasks,
+            periods: periods,
+            worsts: worsts,
+        }
+    }
+}

@@ -1,0 +1,616 @@
+-- StationStays: a station that comes from a beginning holds no number outside its range, so refusal 40 never comes to it. What each
+-- range test means; that an accepted tick stays within; that a beginning is within.
+use mathlib.Core.Path.{_≡_, refl, sym, _∙_, subst}
+use mathlib.Core.Bool.{Bool, true, false, cond, not, _&&_}
+use mathlib.Core.List.{List, [], _∷_}
+use mathlib.Core.Logic.{_⊎_, inl, inr, _↔_}
+use mathlib.Core.Option.{Option, none, some, Option·getD}
+use native.Mathlib.Nat.{pow-le-pow-right, div-le-self}
+use native.Mathlib.Omega.{arith}
+use borrow.Author.Tests.{eqb-true}
+use lib.Dec.{eqb, ltb, lit<}
+use lib.ListN.{length, List·getD-eq-default}
+use Prim.Native.Nat.{ℕ, _+_, _≤_, _<_, _^_, zero-le}
+use Rattle.laws.specs.Res.{ok, refuse, unless}
+use Rattle.laws.proofs.Lists.{both-left}
+use Rattle.laws.proofs.Loops.{firstBad-upTo-within}
+use Rattle.laws.proofs.Res.{ok-injective, bind-case, then-refused}
+use Rattle.laws.proofs.Tests.{Tests, by-iff, by-le, by-lt, by-eq, by-and, by-implies, by-all-upTo}
+use Rattle.laws.proofs.Orders.{le-or-lt}
+use Rattle.laws.proofs.Members.{all-weaker, all-getD, all-getD-or}
+use Rattle.laws.proofs.Faults.{by-failed, by-fails, unless-refused}
+use Rattle.rules.specs.Plan.{Mode, Task, Invocation, Plan, noMode, noTask, theMode, theTask, periodOf}
+use Rattle.rules.specs.Frames.{moduleNode, busPeriod, ControlRow, noControlRow, controlRows, Layout, layoutOf, mostFrames}
+use Rattle.rules.specs.LatestRelease.{noFrame}
+use Rattle.rules.specs.Table.{DataRow}
+use Rattle.rules.specs.Checker.{TableRead, tableOf, controlAt, noDataRow, rowAt, Passed, passed}
+use Rattle.rules.specs.Playing.{nodePlaces, modulePlaces, modePlaces, taskPlaces, Input, isGiven, isRun, periodAmong, periodIn}
+use Rattle.rules.specs.Station.{
+  Kept,
+  keptOf,
+  State,
+  stateAtStart,
+  outAfter,
+  hasOther,
+  rowWith,
+  landsOn,
+  landedBy,
+  landedAfter,
+  isByteOf,
+  heldBy,
+  heldAfter,
+  ownShows,
+  otherShows,
+  shownAfter,
+  modeAfter,
+  oneOn,
+  ageAfter,
+  startingControl,
+  startingData,
+  modeByteBy,
+  modeByteAfter,
+  loadBy,
+  loadAfter,
+  tick,
+  Ticked,
+  step,
+  Begun,
+  begin,
+}
+use Rattle.rules.specs.History.{played}
+use Rattle.rules.specs.StationRange.{
+  isBetween,
+  mostTime,
+  countsInRange,
+  moduleInRange,
+  modeInRange,
+  taskInRange,
+  runInRange,
+  runsInRange,
+  controlInRange,
+  dataInRange,
+  keptInRange,
+  playInRange,
+  isValue,
+  boxInRange,
+  placeInRange,
+  byteInRange,
+  nodeInRange,
+  stateInRange,
+  inRange,
+  ticked,
+}
+use Rattle.rules.specs.Obeys.{frameAt, ObeysTable, MayTick, StartsRight}
+use Rattle.rules.proofs.PlanKept.{Between, PlanKept, readable-kept}
+use Rattle.rules.proofs.LaidOut.{LaidOut, laid-out, period-kept, frames-kept, control-kept, control-count}
+use Rattle.rules.proofs.CheckerExact.{passed-says, passed-passes}
+use Rattle.rules.proofs.StationExact.{step-accepted, numbers-of-ticks, begin-exact}
+
+-- ---- what is within its range
+
+pub record ModeIn (k : Kept) (μ : ℕ) : Type 0 where
+  pub home : k .modeHome μ < k .modules
+  pub period : k .modePeriod μ ≤ mostTime
+  pub switch : k .modeSwitch μ ≤ mostTime
+  pub there : μ < k .modes → (0 < k .modePeriod μ) × (0 < k .modeSwitch μ)
+
+pub record TaskIn (k : Kept) (t : ℕ) : Type 0 where
+  pub home : k .taskHome t < k .modules
+  pub size : k .taskSize t ≤ 8
+  pub worst : k .taskWorst t ≤ mostTime
+  pub there : t < k .tasks → (0 < k .taskSize t) × (0 < k .taskWorst t)
+
+pub record ControlIn (k : Kept) (r : ℕ) : Type 0 where
+  pub node : k .controlNode r < nodePlaces
+  pub start : k .controlStart r ≤ k .period
+  pub stop : k .controlStop r ≤ k .period
+
+pub record DataIn (k : Kept) (r : ℕ) : Type 0 where
+  pub task : k .dataTask r < k .tasks
+  pub deadline : k .dataDeadline r ≤ k .period
+  pub start : k .dataStart r ≤ k .period
+  pub stop : k .dataStop r ≤ k .period
+
+pub record KeptIn (k : Kept) : Type 0 where
+  pub moduleCount : Between 1 modulePlaces (k .modules)
+  pub modeCount : Between 1 modePlaces (k .modes)
+  pub taskCount : Between 1 taskPlaces (k .tasks)
+  pub period : Between 1 mostTime (k .period)
+  pub controlCount : k .controls ≤ nodePlaces
+  pub dataCount : k .datas ≤ mostFrames
+  pub modules : (m : ℕ) → m < modulePlaces → k .moduleNode m < nodePlaces
+  pub modes : (μ : ℕ) → μ < modePlaces → ModeIn k μ
+  pub tasks : (t : ℕ) → t < taskPlaces → TaskIn k t
+  pub runs : (μ : ℕ) → μ < modePlaces → (t : ℕ) → t < taskPlaces → k .run μ t ≤ k .modePeriod μ
+  pub controls : (r : ℕ) → r < nodePlaces → ControlIn k r
+  pub datas : (r : ℕ) → r < mostFrames → DataIn k r
+
+abbrev pub IsValue : ℕ → Type 0
+IsValue v = v < 2 ^ 64
+
+pub record PlayIn (k : Kept) (s : State) (m : ℕ) : Type 0 where
+  pub mode : s .mode m < k .modes
+  pub own : m < k .modules → k .modeHome (s .mode m) ≡ m
+  pub age : s .age m ≤ k .modePeriod (s .mode m)
+  pub byte : s .modeByte m < k .modes
+
+pub record StateIn (k : Kept) (s : State) : Type 0 where
+  pub clock : s .clock ≤ k .period
+  pub load : IsValue (s .load)
+  pub plays : (m : ℕ) → m < modulePlaces → PlayIn k s m
+  pub boxes : (t : ℕ) → t < taskPlaces → IsValue (s .out t)
+  pub landed : (n : ℕ) → n < nodePlaces → (t : ℕ) → t < taskPlaces → IsValue (s .landed n t)
+  pub shown : (n : ℕ) → n < nodePlaces → (t : ℕ) → t < taskPlaces → IsValue (s .shown n t)
+  pub held : (n : ℕ) → n < nodePlaces → (m : ℕ) → m < modulePlaces → s .held n m < k .modes
+
+-- ---- the tests mean it
+
+between-tests : (low high x : ℕ) → Tests (isBetween low high x) (Between low high x)
+unfolding isBetween
+between-tests low high x =
+    by-iff (by-and (by-le low x) (by-le x high)) (λ h. record { least = h .0; most = h .1 }) (λ h. (h .least, h .most))
+
+value-tests : (v : ℕ) → Tests (isValue v) (IsValue v)
+unfolding isValue
+value-tests v = by-lt v (2 ^ 64)
+
+module _ (k : Kept) where
+  module-tests : (m : ℕ) → Tests (moduleInRange k m) (k .moduleNode m < nodePlaces)
+  unfolding moduleInRange
+  module-tests m = by-lt (k .moduleNode m) nodePlaces
+
+  mode-tests : (μ : ℕ) → Tests (modeInRange k μ) (ModeIn k μ)
+  unfolding modeInRange
+  mode-tests μ =
+      by-iff
+      (by-and (by-lt (k .modeHome μ) (k .modules))
+      (by-and (by-and (by-le (k .modePeriod μ) mostTime) (by-le (k .modeSwitch μ) mostTime))
+      (by-implies (by-lt μ (k .modes)) (by-and (by-lt 0 (k .modePeriod μ)) (by-lt 0 (k .modeSwitch μ))))))
+      (λ h. record { home = h .0; period = h .1 .0 .0; switch = h .1 .0 .1; there = h .1 .1 })
+      (λ h. (h .home, ((h .period, h .switch), h .there)))
+
+  task-tests : (t : ℕ) → Tests (taskInRange k t) (TaskIn k t)
+  unfolding taskInRange
+  task-tests t =
+      by-iff
+      (by-and (by-lt (k .taskHome t) (k .modules))
+      (by-and (by-and (by-le (k .taskSize t) 8) (by-le (k .taskWorst t) mostTime))
+      (by-implies (by-lt t (k .tasks)) (by-and (by-lt 0 (k .taskSize t)) (by-lt 0 (k .taskWorst t))))))
+      (λ h. record { home = h .0; size = h .1 .0 .0; worst = h .1 .0 .1; there = h .1 .1 })
+      (λ h. (h .home, ((h .size, h .worst), h .there)))
+
+  runs-tests : (μ : ℕ) → Tests (runsInRange k μ) ((t : ℕ) → t < taskPlaces → k .run μ t ≤ k .modePeriod μ)
+  unfolding runsInRange runInRange
+  runs-tests μ = by-all-upTo (runInRange k μ) taskPlaces (λ t w. by-le (k .run μ t) (k .modePeriod μ))
+
+  control-tests : (r : ℕ) → Tests (controlInRange k r) (ControlIn k r)
+  unfolding controlInRange
+  control-tests r =
+      by-iff (by-and (by-lt (k .controlNode r) nodePlaces) (by-and (by-le (k .controlStart r) (k .period)) (by-le (k .controlStop r) (k .period))))
+      (λ h. record { node = h .0; start = h .1 .0; stop = h .1 .1 })
+      (λ h. (h .node, (h .start, h .stop)))
+
+  data-tests : (r : ℕ) → Tests (dataInRange k r) (DataIn k r)
+  unfolding dataInRange
+  data-tests r =
+      by-iff
+      (by-and (by-and (by-lt (k .dataTask r) (k .tasks)) (by-le (k .dataDeadline r) (k .period)))
+      (by-and (by-le (k .dataStart r) (k .period)) (by-le (k .dataStop r) (k .period))))
+      (λ h. record { task = h .0 .0; deadline = h .0 .1; start = h .1 .0; stop = h .1 .1 })
+      (λ h. ((h .task, h .deadline), (h .start, h .stop)))
+
+  pub kept-tests : Tests (keptInRange k) (KeptIn k)
+  unfolding keptInRange countsInRange
+  kept-tests =
+      by-iff
+      (by-and
+      (by-and
+      (by-and
+      (by-and (between-tests 1 modulePlaces (k .modules)) (by-and (between-tests 1 modePlaces (k .modes)) (between-tests 1 taskPlaces (k .tasks))))
+      (by-and (between-tests 1 mostTime (k .period)) (by-and (by-le (k .controls) nodePlaces) (by-le (k .datas) mostFrames))))
+      (by-and (by-all-upTo (moduleInRange k) modulePlaces (λ m w. module-tests m)) (by-all-upTo (modeInRange k) modePlaces (λ μ w. mode-tests μ))))
+      (by-and
+      (by-and (by-all-upTo (taskInRange k) taskPlaces (λ t w. task-tests t)) (by-all-upTo (runsInRange k) modePlaces (λ μ w. runs-tests μ)))
+      (by-and (by-all-upTo (controlInRange k) nodePlaces (λ r w. control-tests r)) (by-all-upTo (dataInRange k) mostFrames (λ r w. data-tests r)))))
+      (λ h. record {
+        moduleCount = h .0 .0 .0 .0;
+        modeCount = h .0 .0 .0 .1 .0;
+        taskCount = h .0 .0 .0 .1 .1;
+        period = h .0 .0 .1 .0;
+        controlCount = h .0 .0 .1 .1 .0;
+        dataCount = h .0 .0 .1 .1 .1;
+        modules = h .0 .1 .0;
+        modes = h .0 .1 .1;
+        tasks = h .1 .0 .0;
+        runs = h .1 .0 .1;
+        controls = h .1 .1 .0;
+        datas = h .1 .1 .1;
+      })
+      (λ h. (
+        (((h .moduleCount, (h .modeCount, h .taskCount)), (h .period, (h .controlCount, h .dataCount))), (h .modules, h .modes)),
+        ((h .tasks, h .runs), (h .controls, h .datas)),
+      ))
+
+  module _ (s : State) where
+    play-tests : (m : ℕ) → Tests (playInRange k s m) (PlayIn k s m)
+    unfolding playInRange
+    play-tests m =
+        by-iff
+        (by-and (by-and (by-lt (s .mode m) (k .modes)) (by-implies (by-lt m (k .modules)) (by-eq (k .modeHome (s .mode m)) m)))
+        (by-and (by-le (s .age m) (k .modePeriod (s .mode m))) (by-lt (s .modeByte m) (k .modes))))
+        (λ h. record { mode = h .0 .0; own = h .0 .1; age = h .1 .0; byte = h .1 .1 })
+        (λ h. ((h .mode, h .own), (h .age, h .byte)))
+
+    box-tests : (t : ℕ) → Tests (boxInRange s t) (IsValue (s .out t))
+    unfolding boxInRange
+    box-tests t = value-tests (s .out t)
+
+    place-tests : (n t : ℕ) → Tests (placeInRange s n t) (IsValue (s .landed n t) × IsValue (s .shown n t))
+    unfolding placeInRange
+    place-tests n t = by-and (value-tests (s .landed n t)) (value-tests (s .shown n t))
+
+    byte-tests : (n m : ℕ) → Tests (byteInRange k s n m) (s .held n m < k .modes)
+    unfolding byteInRange
+    byte-tests n m = by-lt (s .held n m) (k .modes)
+
+    node-tests : (n : ℕ)
+        → Tests (nodeInRange k s n)
+        (((t : ℕ) → t < taskPlaces → IsValue (s .landed n t) × IsValue (s .shown n t)) × ((m : ℕ) → m < modulePlaces → s .held n m < k .modes))
+    unfolding nodeInRange
+    node-tests n =
+        by-and (by-all-upTo (placeInRange s n) taskPlaces (λ t w. place-tests n t)) (by-all-upTo (byteInRange k s n) modulePlaces (λ m w. byte-tests n m))
+
+    pub state-tests : Tests (stateInRange k s) (StateIn k s)
+    unfolding stateInRange
+    state-tests =
+        by-iff
+        (by-and (by-and (by-le (s .clock) (k .period)) (value-tests (s .load)))
+        (by-and (by-all-upTo (playInRange k s) modulePlaces (λ m w. play-tests m))
+        (by-and (by-all-upTo (boxInRange s) taskPlaces (λ t w. box-tests t)) (by-all-upTo (nodeInRange k s) nodePlaces (λ n w. node-tests n)))))
+        (λ h. record {
+          clock = h .0 .0;
+          load = h .0 .1;
+          plays = h .1 .0;
+          boxes = h .1 .1 .0;
+          landed = λ n w t v. h .1 .1 .1 n w .0 t v .0;
+          shown = λ n w t v. h .1 .1 .1 n w .0 t v .1;
+          held = λ n w m v. h .1 .1 .1 n w .1 m v;
+        })
+        (λ h. (
+          (h .clock, h .load),
+          (h .plays, (h .boxes, λ n w. (λ t v. (h .landed n w t v, h .shown n w t v), λ m v. h .held n w m v))),
+        ))
+
+    -- every number that a station holds is within its range
+    pub range-tests : Tests (inRange k s) (KeptIn k × StateIn k s)
+    unfolding inRange
+    range-tests = by-and kept-tests state-tests
+
+-- ---- an accepted tick stays within
+
+cond-keeps : {A : Type 0} (P : A → Type 0) (b : Bool) {x y : A} → P x → P y → P (cond b x y)
+cond-keeps P true p q = p
+cond-keeps P false p q = q
+
+given-keeps : {A : Type 0} (P : A → Type 0) (o : Option A) {d : A} → ((x : A) → o ≡ some x → P x) → P d → P (Option·getD o d)
+given-keeps P none f p = p
+given-keeps P (some x) f p = f x refl
+
+-- a result of at most 8 bytes has 64 bits
+eight-bytes : (v size : ℕ) → v < 256 ^ size → size ≤ 8 → IsValue v
+eight-bytes v size h w =
+    let most : 256 ^ size ≤ 256 ^ 8 = pow-le-pow-right {n = 256} (lit< tt) w in
+    omega (arith, most)
+
+one-on-within : (now period : ℕ) → 0 < period → oneOn now period ≤ period
+unfolding oneOn
+one-on-within now period h = go (ltb now period) (by-lt now period)
+  where
+    go : (b : Bool) → Tests b (now < period) → cond b (now + 1) 1 ≤ period
+    go true t = let l : now < period = t .says refl in omega arith
+    go false t = h
+
+row-within : (times : ℕ → ℕ) (count now r : ℕ) → rowWith times count now ≡ some r → r < count
+unfolding rowWith
+row-within times count now r e = firstBad-upTo-within (hasOther times now) count r e
+
+module _ {k : Kept} {s : State} {i : Input} (kept : KeptIn k) (state : StateIn k s) (may : MayTick k s i) where
+  out-stays : (t : ℕ) → t < taskPlaces → IsValue (outAfter s i t)
+  unfolding outAfter
+  out-stays t w =
+      given-keeps IsValue (i .result t)
+      (λ v e. eight-bytes v (k .taskSize t) (may .fits t v w e) (kept .tasks t w .size))
+      (state .boxes t w)
+
+  landed-stays : (n : ℕ) → n < nodePlaces → (t : ℕ) → t < taskPlaces → IsValue (landedAfter k s n t)
+  unfolding landedAfter
+  landed-stays n v t w = go (rowWith (k .dataStop) (k .datas) (s .clock))
+    where
+      go : (o : Option ℕ) → IsValue (landedBy k s n t o)
+      go none = state .landed n v t w
+      go (some r) = cond-keeps IsValue (landsOn k s n t r) (state .load) (state .landed n v t w)
+
+  shown-stays : (n : ℕ) → n < nodePlaces → (t : ℕ) → t < taskPlaces → IsValue (shownAfter k s i n t)
+  unfolding shownAfter
+  shown-stays n v t w =
+      cond-keeps IsValue (ownShows k s n t) (out-stays t w)
+      (cond-keeps IsValue (otherShows k s n t) (landed-stays n v t w) (state .shown n v t w))
+
+  held-stays : (n : ℕ) → n < nodePlaces → (m : ℕ) → m < modulePlaces → heldAfter k s n m < k .modes
+  unfolding heldAfter
+  held-stays n v m w = go (rowWith (k .controlStop) (k .controls) (s .clock))
+    where
+      go : (o : Option ℕ) → heldBy k s n m o < k .modes
+      go none = state .held n v m w
+      go (some r) =
+          cond-keeps (λ μ. μ < k .modes) (isByteOf k m r && not (eqb (k .moduleNode m) n)) (state .plays m w .byte) (state .held n v m w)
+
+  load-stays : IsValue (loadAfter k s i)
+  unfolding loadAfter startingData
+  load-stays = go (startingData k s) (λ r e. row-within (k .dataStart) (k .datas) _ r e)
+    where
+      go : (o : Option ℕ) → ((r : ℕ) → o ≡ some r → r < k .datas) → IsValue (loadBy k s i o)
+      go none h = state .load
+      go (some r) h =
+          let there : k .dataTask r < k .tasks = kept .datas r (omega (arith, h r refl, kept .dataCount)) .task in
+          out-stays (k .dataTask r) (omega (arith, there, kept .taskCount .most))
+
+  mode-stays : (m : ℕ) → m < modulePlaces → modeAfter s i m < k .modes
+  unfolding modeAfter
+  mode-stays m w = given-keeps (λ μ. μ < k .modes) (i .change m) (λ μ e. may .allowed m μ w e .isMode) (state .plays m w .mode)
+
+  own-stays : (m : ℕ) → m < modulePlaces → m < k .modules → k .modeHome (modeAfter s i m) ≡ m
+  unfolding modeAfter
+  own-stays m w v = given-keeps (λ μ. k .modeHome μ ≡ m) (i .change m) (λ μ e. may .allowed m μ w e .own) (state .plays m w .own v)
+
+  some-period : (μ : ℕ) → μ < k .modes → 0 < k .modePeriod μ
+  some-period μ h = kept .modes μ (omega (arith, h, kept .modeCount .most)) .there h .0
+
+  age-stays : (m : ℕ) → m < modulePlaces → ageAfter k s i m ≤ k .modePeriod (modeAfter s i m)
+  unfolding ageAfter modeAfter
+  age-stays m w = go (i .change m) (λ μ e. may .allowed m μ w e .isMode)
+    where
+      go : (o : Option ℕ) → ((μ : ℕ) → o ≡ some μ → μ < k .modes)
+          → cond (isGiven o) 1 (oneOn (s .age m) (k .modePeriod (s .mode m))) ≤ k .modePeriod (Option·getD o (s .mode m))
+      go none h = one-on-within (s .age m) (k .modePeriod (s .mode m)) (some-period (s .mode m) (state .plays m w .mode))
+      go (some μ) h = some-period μ (h μ refl)
+
+  byte-stays : (m : ℕ) → m < modulePlaces → modeByteAfter k s i m < k .modes
+  unfolding modeByteAfter
+  byte-stays m w = go (startingControl k s)
+    where
+      go : (o : Option ℕ) → modeByteBy k s i m o < k .modes
+      go none = state .plays m w .byte
+      go (some r) = cond-keeps (λ μ. μ < k .modes) (isByteOf k m r) (mode-stays m w) (state .plays m w .byte)
+
+  pub state-stays : StateIn k (tick k s i)
+  unfolding tick
+  state-stays =
+      record {
+        clock = one-on-within (s .clock) (k .period) (kept .period .least);
+        load = load-stays;
+        plays = λ m w. record { mode = mode-stays m w; own = own-stays m w; age = age-stays m w; byte = byte-stays m w };
+        boxes = out-stays;
+        landed = landed-stays;
+        shown = shown-stays;
+        held = held-stays;
+      }
+
+-- a tick of a station in range leaves it in range
+pub tick-stays : (k : Kept) (s : State) (i : Input) (a : Ticked) → inRange k s ≡ true → step k s i ≡ ok a → inRange k (a .state) ≡ true
+tick-stays k s i a e q =
+    let h = range-tests k s .says e in
+    let accepted = step-accepted k s i a q in
+    rw (accepted .is) (range-tests k (tick k s i) .passes (h .0, state-stays (h .0) (h .1) (accepted .may)))
+
+-- in range a tick is judged by 41 to 44 alone
+pub in-range-steps : (k : Kept) (s : State) (i : Input) → inRange k s ≡ true → ticked k s i ≡ step k s i
+unfolding ticked
+in-range-steps k s i e = rw e
+
+-- ---- a beginning is within
+
+record ModeWithin (p : Plan) (μ : Mode) : Type 0 where
+  home : μ .home < length (p .modules)
+  period : μ .period ≤ 1000000
+  switch : μ .switch ≤ 1000000
+
+record TaskWithin (p : Plan) (t : Task) : Type 0 where
+  home : t .home < length (p .modules)
+  size : t .size ≤ 8
+  worst : t .worst ≤ 1000000
+
+module _ (p : Plan) (kept : PlanKept p) where
+  mode-begins : (μ : ℕ) → ModeWithin p (theMode p μ)
+  unfolding theMode
+  mode-begins =
+      all-getD-or {P = ModeWithin p} noMode
+      (all-weaker (λ μ h. record { home = h .home; period = h .period .most; switch = h .switch .most }) (kept .modes))
+      (record { home = kept .moduleCount .least; period = zero-le; switch = zero-le })
+
+  mode-there : (μ : ℕ) → μ < length (p .modes) → (0 < theMode p μ .period) × (0 < theMode p μ .switch)
+  unfolding theMode
+  mode-there μ w = let h = all-getD noMode (kept .modes) μ w in (h .period .least, h .switch .least)
+
+  task-begins : (t : ℕ) → TaskWithin p (theTask p t)
+  unfolding theTask
+  task-begins =
+      all-getD-or {P = TaskWithin p} noTask
+      (all-weaker (λ t h. record { home = h .home; size = h .size .most; worst = h .worst .most }) (kept .tasks))
+      (record { home = kept .moduleCount .least; size = zero-le; worst = zero-le })
+
+  task-there : (t : ℕ) → t < length (p .tasks) → (0 < theTask p t .size) × (0 < theTask p t .worst)
+  unfolding theTask
+  task-there t w = let h = all-getD noTask (kept .tasks) t w in (h .size .least, h .worst .least)
+
+  node-begins : (m : ℕ) → moduleNode p m < nodePlaces
+  unfolding moduleNode
+  node-begins =
+      all-getD-or {P = λ n. n < nodePlaces} 0 (all-weaker (λ n h. omega (arith, h, kept .nodeCount .most)) (kept .modules)) (lit< tt)
+
+-- a run's period is at most its mode's
+run-begins : (p : Plan) (is : List Invocation) (μ t : ℕ) → periodAmong p is μ t ≤ theMode p μ .period
+unfolding periodAmong isRun periodOf
+run-begins p [] μ t = zero-le
+run-begins p (i ∷ is) μ t = go (isRun μ t i) refl (run-begins p is μ t)
+  where
+    go : (b : Bool) → isRun μ t i ≡ b → periodAmong p is μ t ≤ theMode p μ .period
+        → cond b (periodOf p i) (periodAmong p is μ t) ≤ theMode p μ .period
+    go true e rest =
+        let same : i .mode ≡ μ = eqb-true (i .mode) μ (both-left (eqb (i .mode) μ) (eqb (i .task) t) e) in
+        rw same (div-le-self (theMode p μ .period) (i .rate))
+    go false e rest = rest
+
+-- a row of a table that passes lies within P and names what is there; behind the rows all is zero
+record ControlWithin (p : Plan) (r : ControlRow) : Type 0 where
+  node : r .node < nodePlaces
+  start : r .start ≤ busPeriod p
+  stop : r .stop ≤ busPeriod p
+
+record DataWithin (p : Plan) (r : DataRow) : Type 0 where
+  task : r .task < length (p .tasks)
+  deadline : r .deadline ≤ busPeriod p
+  start : r .start ≤ busPeriod p
+  stop : r .stop ≤ busPeriod p
+
+module _ (p : Plan) (kept : PlanKept p) {l : Layout} (laid : LaidOut p l) (t : TableRead) (obeys : ObeysTable (layoutOf p) t) where
+  control-row : (r : ℕ) → r < length (t .control) → ControlWithin p (controlAt (t .control) r)
+  unfolding layoutOf controlAt
+  control-row r w =
+      let many : r < length (controlRows p) = omega (arith, w, obeys .header .controlRows) in
+      let h = all-getD noControlRow (control-kept p) r many in
+      rw (obeys .control r w)
+      (record {
+        node = omega (arith, h .node, kept .nodeCount .most);
+        start = omega (arith, h .start, h .stop, laid .room);
+        stop = omega (arith, h .stop, laid .room);
+      })
+
+  control-begins : (r : ℕ) → ControlWithin p (controlAt (t .control) r)
+  unfolding controlAt
+  control-begins r = go (le-or-lt (length (t .control)) r)
+    where
+      go : (length (t .control) ≤ r) ⊎ (r < length (t .control)) → ControlWithin p (controlAt (t .control) r)
+      go (inl h) = rw (List·getD-eq-default (t .control) noControlRow h) (record { node = lit< tt; start = zero-le; stop = zero-le })
+      go (inr w) = control-row r w
+
+  data-row : (r : ℕ) → r < length (t .rows) → DataWithin p (rowAt t r)
+  unfolding layoutOf frameAt
+  data-row r w =
+      let n = obeys .names r w in
+      let f = all-getD noFrame (frames-kept p kept) (n .frame) (n .names .there) in
+      let task : rowAt t r .task < length (p .tasks) = omega (arith, n .names .task, f .task) in
+      let deadline : rowAt t r .deadline ≤ busPeriod p = omega (arith, n .names .deadline, f .deadline) in
+      let stop : rowAt t r .stop ≤ busPeriod p = omega (arith, obeys .inTime r w) in
+      record { task = task; deadline = deadline; start = omega (arith, obeys .time r w .stop (n .frame) (n .names)); stop = stop }
+
+  data-begins : (r : ℕ) → DataWithin p (rowAt t r)
+  unfolding rowAt
+  data-begins r = go (le-or-lt (length (t .rows)) r)
+    where
+      go : (length (t .rows) ≤ r) ⊎ (r < length (t .rows)) → DataWithin p (rowAt t r)
+      go (inl h) =
+          rw (List·getD-eq-default (t .rows) noDataRow h)
+          (record { task = kept .taskCount .least; deadline = zero-le; start = zero-le; stop = zero-le })
+      go (inr w) = data-row r w
+
+  kept-of-plan : KeptIn (keptOf (record { layout = layoutOf p; table = t }))
+  unfolding keptOf layoutOf mostTime mostFrames periodIn
+  kept-of-plan =
+      record {
+        moduleCount = kept .moduleCount;
+        modeCount = kept .modeCount;
+        taskCount = kept .taskCount;
+        period = period-kept p kept laid;
+        controlCount = omega (arith, obeys .header .controlRows, control-count p, kept .nodeCount .most);
+        dataCount = omega (arith, obeys .header .dataRows, laid .few);
+        modules = λ m w. node-begins p kept m;
+        modes = λ μ w. let h = mode-begins p kept μ in record { home = h .home; period = h .period; switch = h .switch; there = mode-there p kept μ };
+        tasks = λ u w. let h = task-begins p kept u in record { home = h .home; size = h .size; worst = h .worst; there = task-there p kept u };
+        runs = λ μ w u v. run-begins p (p .invocations) μ u;
+        controls = λ r w. let h = control-begins r in record { node = h .node; start = h .start; stop = h .stop };
+        datas =
+            λ r w. let h = data-begins r in
+            record { task = h .task; deadline = h .deadline; start = h .start; stop = h .stop };
+      }
+
+-- what a station keeps of a table that passes
+pub kept-begins : (plan table : List ℕ) (c : Passed) → passed plan table ≡ ok c → KeptIn (keptOf c)
+kept-begins plan table c e =
+    let h = passed-says plan table c e in
+    let same = ok-injective (sym (passed-passes plan table h) ∙ e) in
+    let laid = laid-out (h .read) (h .laid) (h .isLaid) in
+    let t = tableOf (h .rows) in
+    subst (λ (c : Passed). KeptIn (keptOf c)) same
+    (subst (λ (l : Layout). ObeysTable l t → KeptIn (keptOf (record { layout = l; table = t }))) (laid .is)
+    (kept-of-plan (h .read) (readable-kept plan (h .read) (h .isRead)) laid t)
+    (h .obeys))
+
+module _ (k : Kept) (kept : KeptIn k) (starting : ℕ → Option ℕ) (starts : (m : ℕ) → m < modulePlaces → StartsRight k starting m) where
+  -- the mode that is started with
+  abbrev first : ℕ → ℕ
+  first m = Option·getD (starting m) 0
+
+  first-is : (m : ℕ) → m < modulePlaces → m < k .modules → (first m < k .modes) × (k .modeHome (first m) ≡ m)
+  first-is m w v = let h = starts m w .own v in rw (h .1) (h .2, h .3)
+
+  first-there : (m : ℕ) → m < modulePlaces → first m < k .modes
+  first-there m w = go (le-or-lt (k .modules) m)
+    where
+      go : (k .modules ≤ m) ⊎ (m < k .modules) → first m < k .modes
+      go (inl h) = rw (starts m w .later h) (kept .modeCount .least)
+      go (inr v) = first-is m w v .0
+
+  state-begins : StateIn k (stateAtStart starting)
+  unfolding stateAtStart
+  state-begins =
+      record {
+        clock = zero-le;
+        load = lit< tt;
+        plays = λ m w. record { mode = first-there m w; own = λ v. first-is m w v .1; age = zero-le; byte = kept .modeCount .least };
+        boxes = λ t w. lit< tt;
+        landed = λ n v t w. lit< tt;
+        shown = λ n v t w. lit< tt;
+        held = λ n v m w. kept .modeCount .least;
+      }
+
+-- a beginning gives a station in range
+pub begin-in-range : (plan table : List ℕ) (starting : ℕ → Option ℕ) (b : Begun) → begin plan table starting ≡ ok b
+    → inRange (b .kept) (b .state) ≡ true
+begin-in-range plan table starting b e =
+    let h = begin-exact plan table starting b .0 e in
+    let kept = kept-begins plan table (h .played) (h .passes) in
+    rw (h .is)
+    (range-tests (keptOf (h .played)) (stateAtStart starting) .passes (kept, state-begins (keptOf (h .played)) kept starting (h .starts)))
+
+-- and it stays in range however it is played
+played-in-range : (k : Kept) (s : State) (past : List Input) (now : State) → inRange k s ≡ true → played k s past ≡ ok now → inRange k now ≡ true
+unfolding played
+played-in-range k s [] now h e = rw (← ok-injective e) h
+played-in-range k s (i ∷ past) now h e =
+    bind-case (played k s past) _ e λ before done e₁.
+    bind-case (step k before i) _ e₁ λ a accepted e₂.
+    rw (← ok-injective e₂) (tick-stays k before i a (played-in-range k s past before h done) accepted)
+
+pub stays-in-range : (plan table : List ℕ) (starting : ℕ → Option ℕ) (b : Begun) (past : List Input) (now : State)
+    → begin plan table starting ≡ ok b → played (b .kept) (b .state) past ≡ ok now → inRange (b .kept) now ≡ true
+stays-in-range plan table starting b past now e = played-in-range (b .kept) (b .state) past now (begin-in-range plan table starting b e)
+
+-- so refusal 40 never comes to a station that comes from a beginning
+pub never-forty : (plan table : List ℕ) (starting : ℕ → Option ℕ) (b : Begun) (past : List Input) (now : State) (i : Input)
+    → begin plan table starting ≡ ok b → played (b .kept) (b .state) past ≡ ok now → ticked (b .kept) now i ≡ step (b .kept) now i
+never-forty plan table starting b past now i e h = in-range-steps (b .kept) now i (stays-in-range plan table starting b past now e h)
+
+-- and to any other station value it comes exactly where a number is outside its range, at 0
+pub tick-forty : (k : Kept) (s : State) (i : Input) (p : ℕ) → (ticked k s i ≡ refuse 40 p) ↔ ((KeptIn k × StateIn k s → ⊥) × (p ≡ 0))
+unfolding ticked
+tick-forty k s i p = (refuses, refused)
+  where
+    refuses : ticked k s i ≡ refuse 40 p → (KeptIn k × StateIn k s → ⊥) × (p ≡ 0)
+    refuses e =
+        then-refused (unless 40 0 (inRange k s)) (step k s i) e
+        (λ f. let r = unless-refused 40 0 (inRange k s) 40 p f in (by-failed (range-tests k s) (r .0), sym (r .2)))
+        (λ u f g. absurd (omega (arith, numbers-of-ticks k s i .number 40 p g)))
+
+    refused : (KeptIn k × StateIn k s → ⊥) × (p ≡ 0) → ticked k s i ≡ refuse 40 p
+    refused h = rw (by-fails (range-tests k s) (h .0), h .1)
