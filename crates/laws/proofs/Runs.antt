@@ -1,10 +1,10 @@
 -- Runs: an age counted in runs of one length T. The run's age is 1 to T; a run ends where T divides the age; ages that differ by a
 -- multiple of T have the same run's age.
-use mathlib.Core.Path.{_≡_, refl, sym, ap, _∙_}
+use mathlib.Core.Path.{_≡_, sym, ap, _∙_}
 use mathlib.Core.Logic.{_⊎_, inl, inr}
 use native.Mathlib.Nat.{mod-lt, mod-eq-of-lt, mod-self, mod-add-div, suc-mod, zero-mod, eq-or-lt-of-le, mod-eq-zero-of-dvd, dvd-of-mod-eq-zero, mul-div-cancel', add-mul-mod-self-left, lt-of-mul-lt-mul-left, mul-suc}
 use native.Mathlib.Omega.{arith}
-use Prim.Native.Nat.{ℕ, zero, suc, _+_, _*_, _-_, _/_, _%_, _≤_, _<_, _∣_}
+use Prim.Native.Nat.{ℕ, suc, _+_, _*_, _-_, _/_, _%_, _≤_, _<_, _∣_}
 
 -- the age within the run, of an age from 1 on
 abbrev pub withinRun : ℕ → ℕ → ℕ

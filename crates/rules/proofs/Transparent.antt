@@ -1,7 +1,7 @@
 -- Demand 3. For every plan, table and starting modes with which a station begins, and every history of ticks that are all accepted:
 -- on every node that consumes a task of another node, and on each task's own node, the value shown is the one board's.
 use mathlib.Core.Path.{_≡_, refl, sym, ap, _∙_, subst}
-use mathlib.Core.Bool.{Bool, true, false, cond, not, _&&_}
+use mathlib.Core.Bool.{Bool, true, false, not, _&&_}
 use mathlib.Core.List.{List, [], _∷_}
 use mathlib.Core.Logic.{_⊎_, inl, inr}
 use mathlib.Core.Option.{Option, none, some, Option·getD}
@@ -9,26 +9,26 @@ use native.Mathlib.Omega.{arith}
 use borrow.Author.Tests.{ltb-true, eqb-true, eqb-false, eq-eqb, ne-eqb, lt-ltb, not-true}
 use lib.Dec.{eqb, ltb}
 use lib.ListN.{length}
-use Prim.Native.Nat.{ℕ, zero, suc, _≤_, _<_}
-use Rattle.laws.specs.Res.{Res, ok, refuse, _>>=_, _>>_, at}
+use Prim.Native.Nat.{ℕ, _<_}
+use Rattle.laws.specs.Res.{ok, _>>=_, at}
 use Rattle.laws.specs.Lists.{any, firstBad, upTo}
 use Rattle.laws.proofs.Lists.{true-false, both, both-left, both-right, neither-left, neither-right, tested}
 use Rattle.laws.proofs.Loops.{firstBad-upTo-passes}
 use Rattle.laws.proofs.Members.{all-member, all-getD, any-member, any-among}
 use Rattle.laws.proofs.Res.{ok-injective, bind-case, then-case, at-ok}
 use Rattle.rules.specs.Plan.{Plan, Invocation, Connection, readPlan, noTask, theTask}
-use Rattle.rules.specs.Frames.{moduleNode, taskNode, invokes, leaves, isBusTask, Layout, layoutOf}
+use Rattle.rules.specs.Frames.{taskNode, invokes, leaves, isBusTask, Layout, layoutOf}
 use Rattle.rules.specs.Checker.{TableRead, Passed, passed, tableOf}
 use Rattle.rules.specs.Playing.{modulePlaces, Input, isRun, periodAmong, periodIn}
-use Rattle.rules.specs.Station.{Kept, State, Ticked, Begun, keptOf, stateAtStart, homeNode, runPeriod, endsNow, isModeOf, holdsModeOf, startsWell, step, tick, begin}
+use Rattle.rules.specs.Station.{Kept, State, Begun, keptOf, stateAtStart, homeNode, runPeriod, endsNow, isModeOf, holdsModeOf, startsWell, step, tick, begin}
 use Rattle.rules.specs.OneBoard.{value}
 use Rattle.rules.specs.Obeys.{MayTick, ObeysTable, Passes}
 use Rattle.rules.specs.History.{played, homeIn, firstIn, boardValue, brings, consumes}
 use Rattle.rules.proofs.CheckerExact.{passed-says, passed-passes}
 use Rattle.rules.proofs.PlanKept.{PlanKept, readable-kept}
 use Rattle.rules.proofs.LaidOut.{LaidOut, laid-out}
-use Rattle.rules.proofs.StationExact.{Accepted, step-accepted}
-use Rattle.rules.proofs.TransparentTick.{Ending, ending-tests, shown-still, value-still}
+use Rattle.rules.proofs.StationExact.{step-accepted}
+use Rattle.rules.proofs.TransparentTick.{ending-tests, shown-still, value-still}
 use Rattle.rules.proofs.TransparentOwn.{ModeOf, FairTask, board, Own, ends-same, own-on, own-start}
 use Rattle.rules.proofs.TransparentBus.{FairBus, Sent, sent-on, sent-start}
 use Rattle.rules.proofs.TransparentPlan.{keptFor, fair-task, fair-bus}

@@ -1,22 +1,22 @@
 -- Demand 3 on another node, for one bus task and one node: what the bus carries and where it has landed. Everything is told by the
 -- bus time of the tick to come; a mode of the sender begins only where a cycle does.
 use mathlib.Core.Path.{_≡_, refl, sym, ap, _∙_}
-use mathlib.Core.Bool.{Bool, true, false}
+use mathlib.Core.Bool.{true, false}
 use mathlib.Core.List.{List, [], _∷_}
 use mathlib.Core.Logic.{_⊎_, inl, inr}
 use mathlib.Core.Option.{Option, none, some}
 use native.Mathlib.Nat.{not-suc-le-zero, dvd-trans, dvd-refl, dvd-zero, le-of-dvd, eq-or-lt-of-le, eq-zero-or-pos, mod-eq-of-lt, mod-self, zero-mod}
 use native.Mathlib.Omega.{arith}
-use Prim.Native.Nat.{ℕ, zero, suc, _+_, _-_, _%_, _≤_, _<_, _∣_, zero-le}
-use Rattle.laws.proofs.Lists.{true-false, tested}
+use Prim.Native.Nat.{ℕ, _+_, _-_, _%_, _≤_, _<_, _∣_, zero-le}
+use Rattle.laws.proofs.Lists.{tested}
 use Rattle.laws.proofs.Orders.{compare-case}
 use Rattle.laws.proofs.Runs.{withinRun, same-run, same-multiple, multiple-same, run-deadline}
 use Rattle.rules.specs.Playing.{Input}
 use Rattle.rules.specs.Station.{Kept, State, stateAtStart, homeNode, runPeriod, taskAge, runAge, rowWith, endsNow, hasMessage, startingControl, startingData, tick}
 use Rattle.rules.specs.History.{firstIn}
-use Rattle.rules.specs.Obeys.{MayChange, MayTick}
+use Rattle.rules.specs.Obeys.{MayTick}
 use Rattle.rules.specs.OneBoard.{value}
-use Rattle.rules.proofs.StationExact.{none-some, given-case}
+use Rattle.rules.proofs.StationExact.{given-case}
 use Rattle.rules.proofs.TransparentTick.{
   Ending,
   ending-tests,
@@ -28,7 +28,6 @@ use Rattle.rules.proofs.TransparentTick.{
   out-kept,
   shown-other,
   shown-still,
-  RowAt,
   row-none,
   row-found,
   held-found,
@@ -43,7 +42,6 @@ use Rattle.rules.proofs.TransparentTick.{
   load-none,
   starting-control,
   starting-data,
-  period-kept,
   taskAge-new,
   taskAge-on,
   taskAge-turns,

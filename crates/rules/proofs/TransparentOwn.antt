@@ -1,22 +1,22 @@
 -- Demand 3 on a task's own node, for one task: modes and ages are those of the one board, the out-box holds the run's result once it
 -- was given, and it was given when the run ends.
 use mathlib.Core.Path.{_≡_, refl, sym, ap, _∙_}
-use mathlib.Core.Bool.{Bool, true, false, not, _&&_, _||_}
+use mathlib.Core.Bool.{Bool, true, false, _||_}
 use mathlib.Core.List.{List, [], _∷_}
 use mathlib.Core.Logic.{_⊎_, inl, inr}
 use mathlib.Core.Option.{Option, none, some}
 use native.Mathlib.Nat.{not-suc-le-zero, dvd-trans, dvd-refl, dvd-zero, dvd-add, eq-or-lt-of-le, eq-zero-or-pos}
 use native.Mathlib.Omega.{arith}
-use Prim.Native.Nat.{ℕ, zero, suc, _+_, _-_, _%_, _≤_, _<_, _∣_, zero-le}
+use Prim.Native.Nat.{ℕ, suc, _+_, _-_, _%_, _≤_, _<_, _∣_, zero-le}
 use Rattle.laws.proofs.Lists.{true-false, tested}
 use Rattle.laws.proofs.Orders.{le-or-lt}
-use Rattle.laws.proofs.Runs.{withinRun, run-most, run-ends, run-goes, run-anew, run-first, same-multiple, multiple-same}
-use Rattle.laws.proofs.Tests.{Tests, by-iff, by-same, by-lt, by-divides, by-and}
+use Rattle.laws.proofs.Runs.{withinRun, run-ends, run-goes, run-anew, run-first, same-multiple, multiple-same}
+use Rattle.laws.proofs.Tests.{by-same, by-lt, by-divides, by-and}
 use Rattle.rules.specs.Playing.{taskPlaces, modulePlaces, Input, isGiven}
 use Rattle.rules.specs.History.{firstIn}
 use Rattle.rules.specs.Station.{Kept, State, stateAtStart, homeNode, runPeriod, taskAge, runAge, endsNow, tick}
 use Rattle.rules.specs.OneBoard.{modeNow, sinceMode, periodNow, runEnds, resultWithin, value}
-use Rattle.rules.specs.Obeys.{IsRunning, IsAwaited, MayChange, MayTick}
+use Rattle.rules.specs.Obeys.{IsRunning, MayTick}
 use Rattle.rules.proofs.StationExact.{none-some, given-case}
 use Rattle.rules.proofs.TransparentTick.{
   Ending,

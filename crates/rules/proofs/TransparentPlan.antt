@@ -1,25 +1,24 @@
 -- Demand 3, the plan's part: what a plan and a passed table keep of each task is what the station's proof asks.
 use mathlib.Core.Path.{_≡_, refl, sym, ap, _∙_, subst}
-use mathlib.Core.Bool.{Bool, true, false, cond, not, _&&_}
-use mathlib.Core.List.{List, [], _∷_, map, List·Memᴰ, List·Memᴰ·head, List·Memᴰ·tail, Memᴰ·cast, Memᴰ·append-left, Memᴰ·append-right}
+use mathlib.Core.Bool.{Bool, true, false, cond}
+use mathlib.Core.List.{List, [], _∷_, map, List·Memᴰ, List·Memᴰ·head, List·Memᴰ·tail}
 use mathlib.Core.Logic.{_⊎_, inl, inr}
-use native.Mathlib.Nat.{not-suc-le-zero, le-of-suc-le-suc, dvd-trans, div-mul-cancel, le-div-iff-mul-le, eq-or-lt-of-le, mul-pos, suc-mul, le-of-mul-le-mul-right, zero-mul, zero-lt-suc, le-max-left}
+use native.Mathlib.Nat.{not-suc-le-zero, le-of-suc-le-suc, dvd-trans, div-mul-cancel, le-div-iff-mul-le, eq-or-lt-of-le, suc-mul, zero-mul, zero-lt-suc, le-max-left}
 use native.Mathlib.Omega.{arith}
 use borrow.Author.Tests.{ltb-true, ltb-false, eqb-true, eq-eqb, lt-ltb}
 use lib.Dec.{eqb, ltb}
-use lib.ListN.{length, getD, length-map}
+use lib.ListN.{length, length-map}
 use lib.Seq.{ext-getD}
 use Prim.Native.Nat.{ℕ, zero, suc, _+_, _*_, _-_, _/_, max, _≤_, _<_, _∣_, zero-le, suc-le-suc}
-use Rattle.laws.specs.Lists.{keep, joined, lastD, tab, upTo}
-use Rattle.laws.specs.Numbers.{ceil, up}
-use Rattle.laws.proofs.Lists.{true-false, both, both-left, both-right, tested, length-upTo}
+use Rattle.laws.specs.Lists.{upTo}
+use Rattle.laws.specs.Numbers.{ceil}
+use Rattle.laws.proofs.Lists.{both, both-left, both-right, tested, length-upTo}
 use Rattle.laws.proofs.Divisors.{ceil-enough, up-enough}
-use Rattle.laws.proofs.Members.{All, empty, also, all-weaker, all-member, all-getD, all-of-places, all-keep, Pairs, alone, before, pairs-getD, member-getD, member-map, member-tab, keep-member, keep-passes, Source, source, pigeonhole, Differ, pairs-map, all-map, all-upTo}
-use Rattle.laws.proofs.Places.{Place, member-place, member-some, member-joined, pairs-tab}
-use Rattle.rules.specs.Plan.{Bus, Mode, Task, Invocation, Plan, noMode, noTask, noInvocation, theMode, theTask, theInvocation, periodOf}
+use Rattle.laws.proofs.Members.{All, empty, also, all-weaker, all-member, all-getD, all-of-places, Pairs, alone, before, pairs-getD, member-getD, member-map, member-tab, keep-member, keep-passes, source, pigeonhole, Differ, pairs-map, all-map, all-upTo}
+use Rattle.laws.proofs.Places.{member-place, member-some, member-joined, pairs-tab}
+use Rattle.rules.specs.Plan.{Bus, Invocation, Plan, noMode, noTask, noInvocation, theMode, theTask, theInvocation, periodOf}
 use Rattle.rules.specs.Frames.{
   moduleNode,
-  taskNode,
   isBusTask,
   isSending,
   standsOn,
@@ -33,7 +32,6 @@ use Rattle.rules.specs.Frames.{
   busRuns,
   busPeriod,
   ofSender,
-  switchGrid,
   Frame,
   message,
   messagesOf,
@@ -52,15 +50,15 @@ use Rattle.rules.specs.Frames.{
   layoutOf,
 }
 use Rattle.rules.specs.LatestRelease.{noFrame, frameTime}
-use Rattle.rules.specs.Checker.{TableRead, controlAt, rowAt, stopBefore, Passed}
+use Rattle.rules.specs.Checker.{TableRead, controlAt, rowAt}
 use Rattle.rules.specs.Playing.{isRun, periodAmong, periodIn}
 use Rattle.rules.specs.Station.{Kept, keptOf, homeNode}
-use Rattle.rules.specs.Obeys.{frameAt, NamesFrame, NamesNew, ObeysTable}
+use Rattle.rules.specs.Obeys.{frameAt, NamesFrame, ObeysTable}
 use Rattle.rules.proofs.Period.{period, switch-grid}
-use Rattle.rules.proofs.FramesOf.{Covered, release-greatest, plan-frames}
-use Rattle.rules.proofs.PlanKept.{Between, PlanKept, BusKept, ModeKept, TaskKept, InvocationKept}
-use Rattle.rules.proofs.LaidOut.{LaidOut, sender, period-kept, FrameKept, frames-kept, ControlKept, control-kept}
-use Rattle.rules.proofs.TransparentOwn.{ModeOf, FairTask}
+use Rattle.rules.proofs.FramesOf.{release-greatest, plan-frames}
+use Rattle.rules.proofs.PlanKept.{PlanKept, BusKept, ModeKept, TaskKept}
+use Rattle.rules.proofs.LaidOut.{LaidOut, sender, period-kept, FrameKept, frames-kept, control-kept}
+use Rattle.rules.proofs.TransparentOwn.{FairTask}
 use Rattle.rules.proofs.TransparentBus.{RowOf, FairBus}
 
 -- ---- the invocation behind a run

@@ -1,23 +1,23 @@
 -- Demand 3 says something: from every beginning, and behind every accepted history, another tick is accepted, so that there are
 -- accepted histories of every length; and in one that is computed the value on a consumer changes twice.
-use mathlib.Core.Path.{_≡_, refl, sym, ap, _∙_}
-use mathlib.Core.Bool.{Bool, true, false, cond, not, _&&_}
+use mathlib.Core.Path.{_≡_, refl, sym, ap}
+use mathlib.Core.Bool.{Bool, true, false, not, _&&_}
 use mathlib.Core.List.{List, [], _∷_}
 use mathlib.Core.Option.{Option, none, some}
 use native.Mathlib.Nat.{one-le-pow}
 use native.Mathlib.Omega.{arith}
 use borrow.Author.Tests.{not-true}
-use lib.Dec.{T, eqb, leb, ltb}
+use lib.Dec.{T, eqb, ltb}
 use lib.ListN.{length}
 use Prim.Native.Nat.{ℕ, zero, suc, _^_, _<_}
-use Rattle.laws.specs.Res.{Res, ok, refuse, _>>=_}
+use Rattle.laws.specs.Res.{Res, ok, refuse}
 use Rattle.laws.specs.Lists.{all}
-use Rattle.laws.proofs.Lists.{true-false, both-left, both-right}
+use Rattle.laws.proofs.Lists.{both-left, both-right}
 use Rattle.laws.proofs.Tests.{by-eq}
 use Rattle.rules.specs.Plan.{Plan, readPlan}
 use Rattle.rules.specs.Jobs.{rec, file}
 use Rattle.rules.specs.Playing.{Input, isRun, periodAmong, periodIn}
-use Rattle.rules.specs.Station.{Kept, State, Ticked, Begun, keptOf, stateAtStart, homeNode, runPeriod, taskAge, runAge, isRunning, isAwaited, resultAwaited, resultFits, isLastChance, resultInTime, isModeOf, maySwitch, changeAllowed, judgedTick, outAfter, hasOther, rowWith, landsOn, landedAfter, isByteOf, heldAfter, endsNow, hasMessage, ownShows, otherShows, shownAfter, modeAfter, oneOn, ageAfter, givenAfter, startingControl, startingData, modeByteAfter, fullAfter, loadAfter, tick, keptControl, keptData, started, step, startsWell, begin}
+use Rattle.rules.specs.Station.{Kept, State, Begun, keptOf, stateAtStart, homeNode, runPeriod, taskAge, runAge, isRunning, isAwaited, resultAwaited, resultFits, isLastChance, resultInTime, isModeOf, maySwitch, changeAllowed, judgedTick, outAfter, hasOther, rowWith, landsOn, landedAfter, isByteOf, heldAfter, endsNow, hasMessage, ownShows, otherShows, shownAfter, modeAfter, oneOn, ageAfter, givenAfter, startingControl, startingData, modeByteAfter, fullAfter, loadAfter, tick, keptControl, keptData, started, step, startsWell, begin}
 use Rattle.rules.specs.Obeys.{IsRunning, IsAwaited, MayTick}
 use Rattle.rules.specs.History.{played, brings, consumes}
 use Rattle.rules.proofs.Jobs.{everything}

@@ -1,14 +1,12 @@
 -- Demand 3, the fields: what one tick makes of each place of the state, and of the one board. Nothing behind this file opens `tick`.
-use mathlib.Core.Path.{_≡_, refl, sym, ap, _∙_}
+use mathlib.Core.Path.{_≡_, refl, ap}
 use mathlib.Core.Bool.{Bool, true, false, cond, not, _&&_, _||_}
-use mathlib.Core.List.{List, [], _∷_}
+use mathlib.Core.List.{List, _∷_}
 use mathlib.Core.Option.{Option, none, some}
-use native.Mathlib.Omega.{arith}
-use lib.Dec.{eqb, ltb}
+use lib.Dec.{eqb}
 use borrow.Author.Tests.{eqb-true, not-false, lt-ltb, le-ltb, eq-eqb, ne-eqb}
-use Prim.Native.Nat.{ℕ, zero, suc, _+_, _-_, _%_, _≤_, _<_, _∣_}
-use Rattle.laws.specs.Lists.{firstBad, upTo}
-use Rattle.laws.proofs.Lists.{true-false, both-left, both-right}
+use Prim.Native.Nat.{ℕ, suc, _+_, _%_, _≤_, _<_, _∣_}
+use Rattle.laws.proofs.Lists.{both-left, both-right}
 use Rattle.laws.proofs.Loops.{firstBad-upTo-none, firstBad-upTo-some, firstBad-upTo-within, firstBad-upTo-fails}
 use Rattle.laws.proofs.Runs.{withinRun}
 use Rattle.laws.proofs.Tests.{Tests, by-iff, by-lt, by-divides, by-and}

@@ -7,19 +7,19 @@ use mathlib.Core.Option.{Option, none, some}
 use native.Mathlib.Nat.{not-suc-le-zero, dvd-add, dvd-refl, dvd-sub, le-of-dvd, eq-or-lt-of-le, eq-zero-or-pos}
 use native.Mathlib.Omega.{arith}
 use lib.ListN.{length}
-use Prim.Native.Nat.{ℕ, zero, suc, _+_, _-_, _%_, _≤_, _<_, _∣_, zero-le}
+use Prim.Native.Nat.{ℕ, suc, _+_, _-_, _≤_, _<_, _∣_, zero-le}
 use Rattle.laws.proofs.Lists.{true-false, tested}
 use Rattle.laws.proofs.Runs.{withinRun, run-first, run-ends}
 use Rattle.laws.proofs.Tests.{Tests, by-iff, by-lt, by-divides, by-and}
-use Rattle.laws.specs.Res.{Res, ok}
+use Rattle.laws.specs.Res.{ok}
 use Rattle.rules.specs.Playing.{Input, isGiven, periodIn}
 use Rattle.rules.specs.Plan.{Plan, readPlan}
-use Rattle.rules.specs.Frames.{taskNode, isBusTask, layoutOf}
+use Rattle.rules.specs.Frames.{taskNode, layoutOf}
 use Rattle.rules.specs.Station.{Kept, State, Begun, keptOf, stateAtStart, runPeriod, taskAge, runAge, endsNow, tick, begin}
 use Rattle.rules.specs.Obeys.{MayTick}
 use Rattle.rules.specs.History.{played, homeIn, firstIn, boardValue, consumes}
 use Rattle.rules.specs.OneBoard.{modeNow, sinceMode, periodNow, runEnds, resultWithin, value}
-use Rattle.rules.specs.Told.{At, newest, older, Enters, fromStart, byChange, InMode, EndedRun, LastRun, OneResult, ValueIs, ofNone, ofLast}
+use Rattle.rules.specs.Told.{At, newest, older, Enters, fromStart, byChange, InMode, EndedRun, OneResult, ValueIs, ofNone, ofLast}
 use Rattle.rules.proofs.PlanKept.{readable-kept}
 use Rattle.rules.proofs.StationExact.{none-some, some-same, given-case}
 use Rattle.rules.proofs.TransparentTick.{
@@ -39,9 +39,9 @@ use Rattle.rules.proofs.TransparentTick.{
   value-ends,
   value-still,
 }
-use Rattle.rules.proofs.TransparentOwn.{ModeOf, FairTask, Own, own-on, own-start, goes-case, had-at-end, result-at-end, quiet-given, period-is, ends-same}
+use Rattle.rules.proofs.TransparentOwn.{ModeOf, FairTask, Own, own-on, own-start, goes-case, had-at-end, result-at-end, period-is, ends-same}
 use Rattle.rules.proofs.TransparentPlan.{keptFor}
-use Rattle.rules.proofs.Transparent.{Beginning, along, consumed-there, facts, same-plan, plays-on, fair, first, transparent, transparent-own, transparent-bus}
+use Rattle.rules.proofs.Transparent.{Beginning, along, consumed-there, facts, same-plan, plays-on, fair, first, transparent, transparent-own}
 
 -- ---- ticks by number
 

@@ -1,8 +1,8 @@
 -- One board in plain words, over the history itself: its ticks by their number from 0 on, the runs that ended in it, the one result
 -- of a run, and the value of a task.
 use mathlib.Core.Path.{_≡_}
-use mathlib.Core.List.{List, [], _∷_}
-use mathlib.Core.Option.{Option, none, some}
+use mathlib.Core.List.{List, _∷_}
+use mathlib.Core.Option.{none, some}
 use lib.ListN.{length}
 use Prim.Native.Nat.{ℕ, _+_, _-_, _≤_, _<_, _∣_}
 use Rattle.rules.specs.Playing.{Input}
