@@ -55,13 +55,23 @@ row-empty f d t (suc n) h =
     rw (h t (omega arith) (omega arith)) (row-empty f d (suc t) n (λ u a b. h u (omega arith) (omega arith)))
 
 -- deadlines at which nothing stands may be passed over
-pub grid-skip : (f : ℕ → ℕ → ℕ) (n d j k : ℕ) → ((e t : ℕ) → d ≤ e → e < d + j → t < n → f e t ≡ 0) → grid f n d (j + k) ≡ grid f n (d + j) k
-grid-skip f n d zero k h = let p : zero + k ≡ k = omega arith in let q : d + zero ≡ d = omega arith in rw (p, q)
-grid-skip f n d (suc j) k h =
+pub grid-nothing : (f : ℕ → ℕ → ℕ) (n d k : ℕ) → ((e t : ℕ) → d ≤ e → e < d + k → t < n → f e t ≡ 0) → grid f n d k ≡ []
+grid-nothing f n d zero h = refl
+grid-nothing f n d (suc k) h =
+    rw (row-empty (f d) d 0 n (λ u a b. h d u (omega arith) (omega arith) (omega arith)))
+    (grid-nothing f n (suc d) k (λ e t a b c. h e t (omega arith) (omega arith) c))
+
+-- deadlines behind deadlines
+pub grid-append : (f : ℕ → ℕ → ℕ) (n d j k : ℕ) → grid f n d (j + k) ≡ grid f n d j ++ grid f n (d + j) k
+grid-append f n d zero k =
+    let p : zero + k ≡ k = omega arith in
+    let q : d + zero ≡ d = omega arith in
+    rw (p, q)
+grid-append f n d (suc j) k =
     let p : suc j + k ≡ suc (j + k) = omega arith in
     let q : d + suc j ≡ suc d + j = omega arith in
-    rw (p, q, row-empty (f d) d 0 n (λ u a b. h d u (omega arith) (omega arith) (omega arith)))
-    (grid-skip f n (suc d) j k (λ e t a b c. h e t (omega arith) (omega arith) c))
+    rw (p, q)
+    (ap (λ (l : List Frame). row (f d) d 0 n ++ l) (grid-append f n (suc d) j k) ∙ sym (append-assoc (row (f d) d 0 n) (grid f n (suc d) j) (grid f n (suc d + j) k)))
 
 -- ---- a message put into the grid
 
@@ -205,13 +215,9 @@ within-append : {n period : ℕ} {ms ns : List Frame} → Within n period ms →
 within-append nothing w = w
 within-append (also a b c v) w = also a b c (within-append v w)
 
-grid-empty : (n d k : ℕ) → grid (best []) n d k ≡ []
-grid-empty n d zero = refl
-grid-empty n d (suc k) = rw (row-empty (best [] d) d 0 n (λ u a b. refl)) (grid-empty n (suc d) k)
-
 pub frames-best : {n period : ℕ} {ms : List Frame} → Within n period ms → framesOf ms ≡ grid (best ms) n 1 period
 unfolding framesOf
-frames-best {n} {period} nothing = sym (grid-empty n 1 period)
+frames-best {n} {period} nothing = sym (grid-nothing (best []) n 1 period (λ e t a b c. refl))
 frames-best {n} {period} (also {m} {ms} a b c w) =
     ap (withMessage m) (frames-best w) ∙ grid-insert m (best ms) n 1 period b (omega arith) a
 
@@ -332,25 +338,6 @@ latest-snoc (s ∷ rs) r d t =
     ap (max (ends s d t)) (latest-snoc rs r d t) ∙ sym (max-assoc (ends s d t) (latest rs d t) (ends r d t))
 
 -- ---- from deadline to deadline
-
-module _ (f : ℕ → ℕ → ℕ) (n period : ℕ) where
-  -- the frames from deadline d on
-  abbrev pub onward : ℕ → List Frame
-  onward d = grid f n d (suc period - d)
-
-  pub onward-here : (d : ℕ) → d ≤ period → onward d ≡ row (f d) d 0 n ++ onward (suc d)
-  onward-here d h =
-      let e : suc period - d ≡ suc (suc period - suc d) = omega arith in
-      rw e
-
-  pub onward-skip : (d e : ℕ) → d ≤ e → e ≤ suc period → ((y t : ℕ) → d ≤ y → y < e → t < n → f y t ≡ 0) → onward d ≡ onward e
-  onward-skip d e h w z =
-      let p : suc period - d ≡ (e - d) + (suc period - e) = omega arith in
-      let q : d + (e - d) ≡ e = omega arith in
-      rw (p, grid-skip f n d (e - d) (suc period - e) (λ y t a b c. z y t a (omega arith) c), q)
-
-  pub onward-end : (d : ℕ) → period < d → onward d ≡ []
-  onward-end d h = let e : suc period - d ≡ 0 = omega arith in rw e
 
 -- x is the first multiple of the period that is not before d
 pub record Next (period d x : ℕ) : Type 0 where

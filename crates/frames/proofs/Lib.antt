@@ -1,0 +1,3 @@
+pub mod Meeting
+pub mod Storing
+pub mod Walking
