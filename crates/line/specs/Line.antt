@@ -1,0 +1,75 @@
+-- How a layout stands in arrays.
+use mathlib.Core.List.{List, [], _∷_, map}
+use lib.ListN.{length, replicate}
+use Prim.Native.Nat.{ℕ}
+use Rattle.laws.specs.Res.{Res, ok, refuse}
+use Rattle.laws.specs.Lists.{tab}
+use Rattle.laws.specs.Loops.{padTo}
+use Rattle.rules.specs.Plan.{Plan, theTask}
+use Rattle.rules.specs.Frames.{Frame, ControlRow, Layout, sendingTime, gapTime}
+use Rattle.line.specs.declared.Line.{Line}
+
+-- the sending time of a task's message
+unfoldable pub taskTime : Plan → ℕ → ℕ
+taskTime p t = sendingTime (p .bus) (theTask p t .size)
+
+abbrev pub nodeOf : ControlRow → ℕ
+nodeOf r = r .node
+
+abbrev pub startOf : ControlRow → ℕ
+startOf r = r .start
+
+abbrev pub stopOf : ControlRow → ℕ
+stopOf r = r .stop
+
+abbrev pub taskOf : Frame → ℕ
+taskOf f = f .task
+
+abbrev pub releaseOf : Frame → ℕ
+releaseOf f = f .release
+
+abbrev pub deadlineOf : Frame → ℕ
+deadlineOf f = f .deadline
+
+-- a layout laid into arrays, zeros behind
+unfoldable pub lineOf : Layout → Line
+lineOf l =
+    record {
+      period = record { 0 = l .period };
+      resolution = record { 0 = l .plan .bus .resolution };
+      gap = record { 0 = gapTime (l .plan .bus) };
+      floor = record { 0 = l .afterControl };
+      time = tab (taskTime (l .plan)) 0 32;
+      controls = length (l .control);
+      nodes = padTo 8 0 (map nodeOf (l .control));
+      starts = padTo 8 0 (map startOf (l .control));
+      stops = padTo 8 0 (map stopOf (l .control));
+      frames = length (l .frames);
+      task = padTo 256 0 (map taskOf (l .frames));
+      release = padTo 256 0 (map releaseOf (l .frames));
+      deadline = padTo 256 0 (map deadlineOf (l .frames))
+    }
+
+-- the line of no plan
+unfoldable pub noLine : Line
+noLine =
+    record {
+      period = record { 0 = 0 };
+      resolution = record { 0 = 0 };
+      gap = record { 0 = 0 };
+      floor = record { 0 = 0 };
+      time = replicate 32 0;
+      controls = 0;
+      nodes = replicate 8 0;
+      starts = replicate 8 0;
+      stops = replicate 8 0;
+      frames = 0;
+      task = replicate 256 0;
+      release = replicate 256 0;
+      deadline = replicate 256 0
+    }
+
+-- what `lay_out` leaves of the line: that of the layout, or none where the plan is refused
+abbrev pub lineFor : Res Layout → Line
+lineFor (ok l) = lineOf l
+lineFor (refuse n p) = noLine
