@@ -1,17 +1,17 @@
 -- What one more invocation, connection, task or module makes of the tables of bus tasks, sending modules and control payloads.
 use mathlib.Core.Path.{_≡_, refl, sym, ap, _∙_}
 use mathlib.Core.Bool.{Bool, true, false, not, _&&_, _||_, cond}
-use mathlib.Core.List.{List, [], _∷_, _++_}
+use mathlib.Core.List.{List, []}
 use borrow.Author.Tests.{eq-eqb, ne-eqb}
 use native.Mathlib.Nat.{add-zero}
 use lib.Dec.{eqb}
 use lib.ListN.{length, getD, set, take, replicate, length-append}
-use Prim.Native.Nat.{ℕ, zero, suc, _+_, _≤_, _<_}
+use Prim.Native.Nat.{ℕ, _+_, _≤_, _<_}
 use Rattle.laws.specs.Lists.{consIf, keep, any, upTo}
 use Rattle.laws.proofs.Lists.{any-more, any-append, keep-upTo-more, length-keep, length-upTo}
 use Rattle.plan.specs.Memory.{noConnection}
 use Rattle.rules.specs.Plan.{Plan, Invocation, Connection, noInvocation, theTask}
-use Rattle.rules.specs.Frames.{invokes, leaves, taskNode, isBusTask, isSending, livesIn, standsOn, moduleNode, controlPayload}
+use Rattle.rules.specs.Frames.{invokes, leaves, taskNode, isBusTask, isSending, livesIn, standsOn, moduleNode}
 use Rattle.bus.specs.Senders.{byNumber, taskHome, invokedBy, busTaskBy, sendingBy, payloadBy}
 use Rattle.bus.proofs.Tables.{stored, all-alike, at-number}
 

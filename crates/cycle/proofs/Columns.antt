@@ -6,11 +6,11 @@ use native.Mathlib.Nat.{zero-add}
 use native.Mathlib.Omega.{arith}
 use lib.ListN.{length, getD, set, take, replicate, length-map, length-take, List·getD-map}
 use lib.Seq.{ext-getD}
-use Prim.Native.Nat.{ℕ, _+_, _/_, _≤_, _<_, min}
+use Prim.Native.Nat.{ℕ, _+_, _/_, _≤_, _<_}
 use Rattle.laws.specs.Lists.{keep, tab}
 use Rattle.laws.specs.Loops.{padTo}
 use Rattle.laws.proofs.Lists.{take-more, map-snoc, keep-snoc-yes, keep-snoc-no, length-keep, length-snoc, length-tab, getD-tab, padTo-none, padTo-snoc, getD-padTo}
-use Rattle.rules.specs.Plan.{Plan, Invocation, noInvocation, periodOf, theTask}
+use Rattle.rules.specs.Plan.{Plan, Invocation, noInvocation, periodOf}
 use Rattle.rules.specs.Frames.{Run, runOf, isBusTask, ofBusTask}
 use Rattle.bus.specs.Senders.{byNumber}
 use Rattle.bus.proofs.Tables.{at-number}

@@ -13,3 +13,4 @@ pub mod Runs
 pub mod Places
 pub mod Tests
 pub mod Laid
+pub mod Arrays

@@ -47,7 +47,7 @@ lineOf l =
       frames = length (l .frames);
       task = padTo 256 0 (map taskOf (l .frames));
       release = padTo 256 0 (map releaseOf (l .frames));
-      deadline = padTo 256 0 (map deadlineOf (l .frames))
+      deadline = padTo 256 0 (map deadlineOf (l .frames));
     }
 
 -- the line of no plan
@@ -66,7 +66,7 @@ noLine =
       frames = 0;
       task = replicate 256 0;
       release = replicate 256 0;
-      deadline = replicate 256 0
+      deadline = replicate 256 0;
     }
 
 -- what `lay_out` leaves of the line: that of the layout, or none where the plan is refused

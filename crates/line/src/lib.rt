@@ -1,7 +1,6 @@
 // What a plan asks of the bus, in arrays that can be lent: the cycle, the sending times by task, the control rows, the frames by number.
 ghost use mathlib.Core.Path.{_≡_};
 ghost use Rattle.line.specs.Line.{noLine};
-
 use units::Ticks;
 
 // `floor` is C; `time` is by task; `nodes`, `starts` and `stops` are the control rows, `controls` of them; `task`, `release` and

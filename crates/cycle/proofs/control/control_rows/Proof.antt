@@ -1,0 +1,148 @@
+use borrow.Author.Needs.{needs}
+use mathlib.Core.Path.{_≡_}
+use native.Mathlib.Omega.{arith}
+use mathlib.Core.Logic.{⊎-elim}
+use Prim.Native.Nat.{_+_, _-_, _^_, _≤_, _<_}
+use Rattle.plan.specs.Memory.{seen, countSeen}
+use Rattle.rules.specs.Frames.{controlEnd, controlRows, sendingNodes}
+use Rattle.cycle.specs.Control.{controlLaid}
+use Rattle.cycle.proofs.Turns.{shown-none}
+use Rattle.cycle.proofs.Turns.{Shown, timeOf, rowsTo, nodesTo, sends-yes, sends-no, time-is, shown-few, shown-fits, shown-more, shown-kept}
+use Rattle.cycle.proofs.control.control_rows.Statement.{statement}
+use Rattle.cycle.proofs.control.control_rows.Tie as tie
+
+abbrev Inv-loop : tie.InvT-loop
+Inv-loop p payloads gap nodes rows₀ count₀ next₀ n₀ rows count next n = (n ≤ nodes) × (nodes ≤ 8) × Shown (seen p) n count next rows
+
+abbrev μ-loop : tie.MeasureT-loop
+μ-loop p payloads gap nodes rows₀ count₀ next₀ n₀ rows count next n = nodes - n
+
+few : (c : tie.After-control-time Inv-loop μ-loop) → c .before .before .before .loop .count ≤ c .before .before .before .loop .n
+few c =
+    let l = c .before .before .before .loop in
+    shown-few (seen (c .before .before .before .before .before .before .before .before .args .t1)) (l .n) (l .count) (l .next) (l .rows) (l .inv .2)
+
+-- a control frame that is made stops by C, and C fits
+stops : (c : tie.After-control-time Inv-loop μ-loop) → c .before .before .before .loop .next + c .control-time .result < 2 ^ 32
+unfolding seen countSeen
+stops c =
+    let s = c .before .before .before .before .before .before .before .before in
+    let q = seen (s .args .t1) in
+    let l = c .before .before .before .loop in
+    let t = s .pre .1 .0 in
+    let y = sends-yes q (l .n) t (omega arith) (c .before .if1 .taken) in
+    let time = time-is q (l .n) t (omega arith) (c .control-time .ensures .0) in
+    let w : l .next + timeOf q (l .n) ≤ controlEnd q = shown-fits q (l .n) (l .count) (l .next) (l .rows) (l .inv .2) y (omega arith) in
+    omega (arith, time, s .pre .1 .1)
+
+gap-time-requires : tie.Need-gap-time-requires Inv-loop μ-loop
+gap-time-requires c κs = search needs
+
+element-copy-out-nodes : tie.Need-element-copy-out-nodes Inv-loop μ-loop
+element-copy-out-nodes c = search needs
+
+row-requires : tie.Need-row-requires Inv-loop μ-loop
+row-requires c κs = search needs
+
+loop-holds : tie.Need-loop-holds Inv-loop μ-loop
+unfolding seen countSeen
+loop-holds c = (omega arith, c .before .before .before .before .pre .0, shown-none (seen (c .before .before .before .before .args .t1)) (c .row .ensures))
+
+array-read-if1 : tie.Need-array-read-if1 Inv-loop μ-loop
+array-read-if1 c = omega arith
+
+array-read-control-time : tie.Need-array-read-control-time Inv-loop μ-loop
+array-read-control-time c = omega arith
+
+control-time-requires : tie.Need-control-time-requires Inv-loop μ-loop
+control-time-requires c κs = search needs
+
+add-stop : tie.Need-add-stop Inv-loop μ-loop
+add-stop c = omega (arith, stops c)
+
+cast-row : tie.Need-cast-row Inv-loop μ-loop
+cast-row c = omega arith
+
+cast-row-2 : tie.Need-cast-row-2 Inv-loop μ-loop
+cast-row-2 c = omega (arith, stops c)
+
+cast-row-3 : tie.Need-cast-row-3 Inv-loop μ-loop
+cast-row-3 c = omega (arith, stops c)
+
+row-requires-2 : tie.Need-row-requires-2 Inv-loop μ-loop
+row-requires-2 c κs = search needs
+
+mul-rows : tie.Need-mul-rows Inv-loop μ-loop
+mul-rows c = omega (arith, few (c .before))
+
+array-set-from-rows : tie.Need-array-set-from-rows Inv-loop μ-loop
+array-set-from-rows c = omega (arith, few (c .before))
+
+add-count : tie.Need-add-count Inv-loop μ-loop
+add-count c = omega (arith, few (c .before))
+
+add-next : tie.Need-add-next Inv-loop μ-loop
+add-next c = omega (arith, stops (c .before))
+
+add-n : tie.Need-add-n Inv-loop μ-loop
+add-n c = omega arith
+
+loop-less : tie.Need-loop-less Inv-loop μ-loop
+loop-less c = search needs
+
+loop-again : tie.Need-loop-again Inv-loop μ-loop
+unfolding seen
+loop-again c =
+    let s = c .before .before .before .before .before .before .before in
+    let q = seen (s .args .t1) in
+    let l = c .before .before .loop in
+    let t = s .pre .1 .0 in
+    ⊎-elim
+    (λ w.
+    let y = sends-yes q (l .n) t (omega arith) (w .0 .taken) in
+    let time = time-is q (l .n) t (omega arith) (w .1 .ensures .0) in (
+      omega arith,
+      l .inv .1,
+      rw (w .3, w .4, w .5, w .2 .ensures)
+          (shown-more q (l .n) (l .count) (l .next) (l .rows) (l .inv .2) y (rw time) (rw (c .before .before .before .before .before .gap-time .ensures .0))),
+    )
+    )
+    (λ w.
+    let y = sends-no q (l .n) t (omega arith) (w .0 .left) in
+    (omega arith, l .inv .1, rw (w .1, w .2, w .3) (shown-kept q (l .n) (l .count) (l .next) (l .rows) (l .inv .2) y)))
+    (c .if1 .came)
+
+returns : tie.Need-returns Inv-loop μ-loop
+unfolding seen countSeen controlLaid controlRows sendingNodes rowsTo nodesTo
+returns c =
+    let q = seen (c .before .before .before .before .before .before .args .t1) in
+    let e : c .before .loop .n ≡ q .nodes = omega arith in
+    let h = c .before .loop .inv .2 in
+    rw (h .counted, h .shown, e)
+
+pub control-rows-spec : {M : Type 1} → statement M
+control-rows-spec =
+    tie.close
+    (tie.spec
+    Inv-loop
+    μ-loop
+    gap-time-requires
+    element-copy-out-nodes
+    row-requires
+    loop-holds
+    array-read-if1
+    array-read-control-time
+    control-time-requires
+    add-stop
+    cast-row
+    cast-row-2
+    cast-row-3
+    row-requires-2
+    mul-rows
+    array-set-from-rows
+    add-count
+    add-next
+    add-n
+    loop-less
+    loop-again
+    returns)
