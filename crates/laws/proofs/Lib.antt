@@ -12,5 +12,4 @@ pub mod Bus
 pub mod Runs
 pub mod Places
 pub mod Tests
-pub mod Little
 pub mod Laid
