@@ -1,3 +1,5 @@
+pub mod BodyNumbers
+pub mod Held
 pub mod LengthTable
 pub mod Steps
-pub mod BodyNumbers
+pub mod Taken

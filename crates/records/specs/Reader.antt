@@ -1,9 +1,9 @@
 -- What a record reader finds at a place of a file.
 use mathlib.Core.Bool.{Bool, true, false, _&&_}
-use mathlib.Core.List.{List}
+use mathlib.Core.List.{List, []}
 use Prim.Native.Nat.{ℕ, _+_, _-_}
 use lib.Dec.{eqb, leb, ltb}
-use lib.ListN.{length, getD}
+use lib.ListN.{length, getD, take, drop}
 use Rattle.rules.specs.Records.{known, bodyLength, planFollows, tableFollows}
 use Rattle.records.specs.declared.Sort.{Sort}
 use Rattle.records.specs.declared.Sort.the-variants.{Plan, Table}
@@ -40,3 +40,12 @@ kindAt sort s previous at kind =
 unfoldable pub nextAt : Sort → List ℕ → ℕ → ℕ → Step
 nextAt sort s previous at =
     either (ltb at (length s)) (kindAt sort s previous at (getD s at 0)) (Wrong (length s))
+
+-- "The body handed out is that part of the lent file itself": from where it begins to the next record; empty where no record stands.
+abbrev pub bodyOf : List ℕ → Step → List ℕ
+bodyOf s (Record kind body next) = take (next - body) (drop body s)
+bodyOf s End = []
+bodyOf s (Wrong place) = []
+
+unfoldable pub bodyAt : Sort → List ℕ → ℕ → ℕ → List ℕ
+bodyAt sort s previous at = bodyOf s (nextAt sort s previous at)

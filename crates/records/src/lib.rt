@@ -4,10 +4,11 @@ ghost use mathlib.Core.Bool.{_&&_};
 ghost use Prim.Native.Nat.{_-_};
 ghost use lib.ListN.{take, drop};
 ghost use Rattle.rules.specs.Records.{known};
-ghost use Rattle.records.specs.Reader.{follows, nextAt};
+ghost use Rattle.records.specs.Reader.{follows, nextAt, bodyAt};
 
 pub mod kinds;
 pub mod little;
+pub mod reader;
 
 // The two sorts of files.
 pub enum Sort {
@@ -81,4 +82,18 @@ pub fn body(s: &[u8], start: usize, end: usize) -> &[u8]
         }
     }
     &s[..0]
+}
+
+// The body of the record at a place; empty where none stands there.
+pub fn body_at(s: &[u8], sort: Sort, previous: u8, at: usize) -> &[u8]
+    ensures { λ r. ⌜ now r ≡ bodyAt sort (now (s .entry)) previous at ⌝ }
+{
+    match next(s, sort, previous, at) {
+        Step::Record {
+            kind,
+            body: start,
+            next: end,
+        } => body(s, start, end),
+        _ => body(s, 0, 0),
+    }
 }
