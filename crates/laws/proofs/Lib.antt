@@ -7,3 +7,4 @@ pub mod Members
 pub mod Orders
 pub mod Table
 pub mod Little
+pub mod Turns
