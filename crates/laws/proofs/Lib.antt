@@ -8,3 +8,4 @@ pub mod Orders
 pub mod Table
 pub mod Little
 pub mod Turns
+pub mod Stores

@@ -7,12 +7,12 @@ use mathlib.Core.Bool.{Bool, true, false, _&&_}
 use mathlib.Core.List.{List}
 use mathlib.Core.Option.{Option, none, some}
 use native.Mathlib.Nat.{le-antisymm}
-use lib.ListN.{set}
+use lib.ListN.{getD, set}
 use Prim.Native.Nat.{ℕ, _+_, _≤_, _<_}
 use Rattle.laws.specs.Lists.{all, firstBad, upTo}
 use Rattle.laws.specs.Loops.{stores}
 use Rattle.laws.proofs.Lists.{all-upTo-more}
-use Rattle.laws.proofs.Loops.{stores-turn, firstBad-upTo-more, firstBad-upTo-hit}
+use Rattle.laws.proofs.Loops.{stores-turn, stores-next, firstBad-upTo-more, firstBad-upTo-hit}
 
 -- ---- a scan without an early exit
 
@@ -61,6 +61,10 @@ module _ {A : Type 0} {old : List A} {f : ℕ → A} where
 
   pub filled-turn : {n : ℕ} {a : List A} {v : A} → Filled old f n a → v ≡ f n → Filled old f (n + 1) (set a n v)
   filled-turn {n} t h = record { says = stores-turn old f n (t .says) h }
+
+  -- the place that comes next is as it was
+  pub filled-next : {n : ℕ} {a : List A} → Filled old f n a → (d : A) → getD a n d ≡ getD old n d
+  filled-next {n} t d = rw (t .says) (stores-next old f n d)
 
   pub filled-end : {n i : ℕ} {a : List A} → Filled old f i a → i ≤ n → n ≤ i → a ≡ stores old f n
   filled-end t h w = t .says ∙ ap (stores old f) (le-antisymm h w)
