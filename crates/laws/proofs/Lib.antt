@@ -14,3 +14,6 @@ pub mod Places
 pub mod Tests
 pub mod Laid
 pub mod Arrays
+pub mod Little
+pub mod Turns
+pub mod Stores

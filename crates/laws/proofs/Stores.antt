@@ -1,0 +1,39 @@
+-- Stores: arrays filled by rules that agree, by a rule that changes nothing, by a rule that changes one place.
+-- Assumes nothing.
+use mathlib.Core.Path.{_≡_, refl, sym, ap, _∙_}
+use mathlib.Core.Bool.{Bool, true, false, cond}
+use mathlib.Core.List.{List}
+use native.Mathlib.Numerals.{add-one}
+use native.Mathlib.Omega.{arith}
+use borrow.Author.Tests.{eqb-true, eqb-false}
+use lib.Dec.{eqb}
+use lib.ListN.{length, getD, set, length-set}
+use lib.Seq.{ext-getD, getD-set-same, getD-set-other}
+use Prim.Native.Nat.{ℕ, zero, suc, _+_, _≤_, _<_}
+use Rattle.laws.specs.Loops.{stores}
+use Rattle.laws.proofs.Loops.{stores-kept, stores-at, length-stores}
+
+module _ {A : Type 0} (old : List A) where
+  pub stores-same : (f g : ℕ → A) (n : ℕ) → ((k : ℕ) → k < n → f k ≡ g k) → stores old f n ≡ stores old g n
+  stores-same f g zero h = refl
+  stores-same f g (suc n) h = rw (stores-same f g n (λ k w. h k (omega arith)), h n (omega arith))
+
+  pub stores-idle : (f : ℕ → A) (n : ℕ) (d : A) → ((k : ℕ) → k < n → f k ≡ getD old k d) → old ≡ stores old f n
+  stores-idle f zero d h = refl
+  stores-idle f (suc n) d h =
+      stores-idle f n d (λ k w. h k (omega arith)) ∙ stores-kept old f n d (h n (omega arith)) ∙ ap (stores old f) (add-one n)
+
+  -- of an array with a place for each number below n
+  pub stores-one : (f : ℕ → A) (n t : ℕ) (v d : A) → length old ≡ n → ((k : ℕ) → k < n → f k ≡ cond (eqb t k) v (getD old k d))
+      → set old t v ≡ stores old f n
+  stores-one f n t v d size h = ext-getD d (set old t v) (stores old f n) (length-set old t v ∙ sym (length-stores old f n)) at-each
+    where
+      changed : (i : ℕ) (b : Bool) → eqb t i ≡ b → i < length old → getD (set old t v) i d ≡ cond b v (getD old i d)
+      changed i true e w = rw (eqb-true t i e) (getD-set-same old i v d w)
+      changed i false e w = getD-set-other old t i v d (λ q. eqb-false t i e (sym q))
+
+      at-each : (i : ℕ) → i < length (set old t v) → getD (set old t v) i d ≡ getD (stores old f n) i d
+      at-each i w =
+          let u : i < length old = rw (length-set old t v) at w in
+          let m : i < n = omega arith in
+          changed i (eqb t i) refl u ∙ sym (h i m) ∙ sym (stores-at old f n i d m (omega arith))

@@ -1,0 +1,37 @@
+-- What a tick is given, and where a scan ends, as the rules have them.
+use mathlib.Core.List.{List}
+use mathlib.Core.Option.{Option, none, some}
+use lib.ListN.{getD}
+use Prim.Native.Nat.{ℕ}
+use Rattle.rules.specs.Playing.{Input}
+use Rattle.stationjudge.specs.declared.Given.{Given}
+use Rattle.stationjudge.specs.declared.Given.the-variants as given
+use Rattle.stationjudge.specs.declared.Change.{Change}
+use Rattle.stationjudge.specs.declared.Change.the-variants as change
+use Rattle.stationjudge.specs.declared.Found.{Found}
+use Rattle.stationjudge.specs.declared.Found.the-variants as found
+
+-- "nothing or one 64-bit unsigned result"
+abbrev pub resultOf : Given → Option ℕ
+resultOf given.Nothing = none
+resultOf (given.Result v) = some v
+
+-- "nothing or a mode number"
+abbrev pub changeOf : Change → Option ℕ
+changeOf change.Nothing = none
+changeOf (change.To μ) = some (μ .0)
+
+-- "for each of 32 task places .. and for each of 16 module places"
+abbrev pub resultAt : List Given → ℕ → Option ℕ
+resultAt results t = resultOf (getD results t given.Nothing)
+
+abbrev pub changeAt : List Change → ℕ → Option ℕ
+changeAt changes m = changeOf (getD changes m change.Nothing)
+
+unfoldable pub inputOf : List Given → List Change → Input
+inputOf results changes = record { result = resultAt results; change = changeAt changes }
+
+-- where a scan stopped
+abbrev pub foundOf : Found → Option ℕ
+foundOf found.Nothing = none
+foundOf (found.At k) = some k

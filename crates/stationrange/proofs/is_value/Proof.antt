@@ -1,0 +1,17 @@
+use mathlib.Core.Path.{sym, _∙_}
+use native.Mathlib.Omega.{arith}
+use borrow.Author.Tests.{le-leb, lt-ltb}
+use Prim.Native.Nat.{_^_}
+use Rattle.rules.specs.StationRange.{isValue}
+use borrow.Author.Needs.{needs}
+use Rattle.stationrange.proofs.is_value.Statement.{statement}
+use Rattle.stationrange.proofs.is_value.Tie as tie
+use Rattle.stationrange.proofs.is_value.Reads as reads
+use Rattle.stationrange.proofs.is_value.Lts as lts
+
+returns : tie.Need-returns
+unfolding isValue
+returns c = let v = c .args .v in le-leb v _ (omega arith) ∙ sym (lt-ltb v (2 ^ 64) (omega arith))
+
+pub is-value-spec : {M : Type 1} → statement M
+is-value-spec = tie.close (tie.spec returns)

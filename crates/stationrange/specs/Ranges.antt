@@ -1,0 +1,63 @@
+-- Refusal 40 of a tick, on arrays: the tests of the rules' `inRange`, each at a place of the arrays that it reads. That they are the
+-- rules' own tests is a law of the crate `station`.
+use mathlib.Core.Bool.{Bool, not, _&&_, _||_}
+use mathlib.Core.List.{List}
+use lib.Dec.{eqb, leb, ltb}
+use lib.ListN.{getD}
+use Prim.Native.Nat.{ℕ, _+_, _*_}
+use Rattle.laws.specs.Lists.{all, upTo}
+use Rattle.rules.specs.StationRange.{isBetween, isValue}
+
+-- how many modules, modes and tasks there are, the bus period, and how many rows of each kind
+abbrev pub countsTest : ℕ → ℕ → ℕ → ℕ → ℕ → ℕ → Bool
+countsTest modules modes tasks period controls datas =
+    (isBetween 1 16 modules && (isBetween 1 32 modes && isBetween 1 32 tasks))
+    && (isBetween 1 1000000 period && (leb controls 8 && leb datas 256))
+
+abbrev pub moduleTest : List ℕ → ℕ → Bool
+moduleTest nodes m = ltb (getD nodes m 0) 8
+
+-- a mode or a task: the module that it is of, and two numbers, at least 1 where it is there
+abbrev pub thingTest : ℕ → ℕ → Bool → ℕ → ℕ → ℕ → Bool
+thingTest modules most there home a b =
+    ltb home modules && ((leb a most && leb b 1000000) && (not there || (ltb 0 a && ltb 0 b)))
+
+abbrev pub modeTest : ℕ → ℕ → List ℕ → List ℕ → List ℕ → ℕ → Bool
+modeTest modules modes homes periods switches μ =
+    thingTest modules 1000000 (ltb μ modes) (getD homes μ 0) (getD periods μ 0) (getD switches μ 0)
+
+abbrev pub taskTest : ℕ → ℕ → List ℕ → List ℕ → List ℕ → ℕ → Bool
+taskTest modules tasks homes sizes worsts t =
+    thingTest modules 8 (ltb t tasks) (getD homes t 0) (getD sizes t 0) (getD worsts t 0)
+
+-- the runs of a mode stand in one array, 32 for each mode
+abbrev pub runTest : List ℕ → ℕ → ℕ → ℕ → Bool
+runTest runs μ period t = leb (getD runs (μ * 32 + t) 0) period
+
+unfoldable pub runsTest : List ℕ → List ℕ → ℕ → Bool
+runsTest runs periods μ = all (runTest runs μ (getD periods μ 0)) (upTo 32)
+
+abbrev pub controlTest : ℕ → List ℕ → List ℕ → List ℕ → ℕ → Bool
+controlTest period nodes starts stops r =
+    ltb (getD nodes r 0) 8 && (leb (getD starts r 0) period && leb (getD stops r 0) period)
+
+abbrev pub dataTest : ℕ → ℕ → List ℕ → List ℕ → List ℕ → List ℕ → ℕ → Bool
+dataTest tasks period rowTasks deadlines starts stops r =
+    (ltb (getD rowTasks r 0) tasks && leb (getD deadlines r 0) period)
+    && (leb (getD starts r 0) period && leb (getD stops r 0) period)
+
+-- the mode that runs, its age and its mode byte
+abbrev pub playTest : ℕ → ℕ → List ℕ → List ℕ → List ℕ → List ℕ → List ℕ → ℕ → Bool
+playTest modules modes homes periods runningModes ages modeBytes m =
+    (ltb (getD runningModes m 0) modes && (not (ltb m modules) || eqb (getD homes (getD runningModes m 0) 0) m))
+    && (leb (getD ages m 0) (getD periods (getD runningModes m 0) 0) && ltb (getD modeBytes m 0) modes)
+
+abbrev pub boxTest : List ℕ → ℕ → Bool
+boxTest out t = isValue (getD out t 0)
+
+abbrev pub placeTest : List ℕ → List ℕ → ℕ → Bool
+placeTest landed shown t = isValue (getD landed t 0) && isValue (getD shown t 0)
+
+-- the mode bytes that the nodes hold stand in one array, 16 for each node
+abbrev pub byteTest : List ℕ → ℕ → ℕ → ℕ → Bool
+byteTest held modes n m = ltb (getD held (n * 16 + m) 0) modes

@@ -1,0 +1,36 @@
+use Rattle.laws.specs.Loops.{stores}
+use mathlib.Core.Path.{sym, ap, _∙_}
+use denote.Ref.{now}
+use Rattle.laws.proofs.Stores.{stores-idle}
+use Rattle.stationjudge.specs.Inputs.{foundOf}
+use Rattle.stationsteps.specs.Steps.{heldAt, heldRule}
+use borrow.Author.Needs.{needs}
+use Rattle.stationsteps.proofs.held_after.Statement.{statement}
+use Rattle.stationsteps.proofs.held_after.Tie as tie
+use Rattle.stationsteps.proofs.held_after.Reads as reads
+use Rattle.stationsteps.proofs.held_after.Lts as lts
+use Rattle.places.proofs.byte_at.Reads as byte-at-reads
+use Rattle.stationsteps.proofs.held_from.Reads as held-from-reads
+
+enum-told : tie.Need-enum-told
+enum-told c = search needs
+
+enum-known-row : tie.Need-enum-known-row
+enum-known-row c = search needs
+
+byte-at-requires : tie.Need-byte-at-requires
+byte-at-requires c κs = search needs
+
+held-from-requires : tie.Need-held-from-requires
+held-from-requires c κs = search needs
+
+returns : tie.Need-returns
+returns c = let a = c .before .before .args in stores-idle (a .held) (heldRule (now (a .sends)) (now (a .nodes)) (now (a .bytes)) (now (a .senders)) (a .held) (foundOf (a .row))) 128 0 (λ k w. rw (c .enum-told .given .1))
+
+returns-2 : tie.Need-returns-2
+returns-2 c = let a = c .before .before .before .before .before .before .args in c .held-from .ensures ∙ ap (λ s. stores (a .held) (heldAt (now (a .sends)) (now (a .nodes)) (now (a .bytes)) s (a .held)) 128) (c .before .byte-at .ensures .0) ∙ ap (λ o. stores (a .held) (heldRule (now (a .sends)) (now (a .nodes)) (now (a .bytes)) (now (a .senders)) (a .held) o) 128) (sym (ap foundOf (c .before .before .before .before .row .given .1)))
+
+pub held-after-spec : {M : Type 1} → statement M
+held-after-spec =
+    tie.close
+    (tie.spec enum-told enum-known-row byte-at-requires held-from-requires returns returns-2)

@@ -1,0 +1,353 @@
+// The steps of a tick, each on the array that it changes; what it reads is lent.
+ghost use mathlib.Core.Path.{_≡_};
+ghost use mathlib.Core.Bool.{cond, false, not, _&&_, _||_};
+ghost use mathlib.Core.Option.{Option·getD};
+ghost use lib.ListN.{replicate};
+ghost use Prim.Native.Nat.{_<_};
+ghost use Rattle.laws.specs.Loops.{stores};
+ghost use Rattle.rules.specs.Playing.{isGiven};
+ghost use Rattle.rules.specs.Station.{oneOn, rowWith};
+ghost use Rattle.stationjudge.specs.Inputs.{changeAt, changeOf, foundOf, resultOf};
+ghost use Rattle.stationsteps.specs.Steps.{ageRule, byteFromRule, endsRule, fullRule, givenRule, heldAt, heldBy, heldRule, isByteAt, loadRule, messageIn, modeByteRule, modeRule, numberAt, outRule};
+use places::both;
+use places::byte_at;
+use places::divides;
+use places::flag_at;
+use places::number_at;
+use places::value_at;
+use stationjudge::Change;
+use stationjudge::Found;
+use stationjudge::Given;
+use stationjudge::is_change;
+use stationjudge::is_result;
+use stationjudge::period_at;
+use stationjudge::run_at;
+
+pub mod nodes;
+
+// The lowest of so many rows that has this time.
+pub fn row_with<'a>(times: &'a [u32], count: usize, time: u32) -> Found
+    ensures { λ r. ⌜ foundOf r ≡ rowWith (numberAt (now (times .entry))) count time ⌝ }
+{
+    let mut row = 0;
+    while row < count {
+        if number_at(times, row) == time {
+            return Found::At(row);
+        }
+        row += 1;
+    }
+    Found::Nothing
+}
+
+fn out_at(given: Given, old: u64) -> u64
+    ensures { λ r. ⌜ r ≡ Option·getD (resultOf given) old ⌝ }
+{
+    match given {
+        Given::Nothing => old,
+        Given::Result(value) => value,
+    }
+}
+
+// (a)
+pub fn out_after(results: [Given; 32], mut out: [u64; 32]) -> [u64; 32]
+    ensures { λ r. ⌜ r ≡ stores out (outRule results out) 32 ⌝ }
+{
+    let mut t = 0;
+    while t < 32 {
+        let given = results[t];
+        out[t] = out_at(given, out[t]);
+        t += 1;
+    }
+    out
+}
+
+// Whether the run of each task ends now.
+pub fn ends_now<'a>(
+    runs: &'a [u32; 1024],
+    modes: &'a [u8; 16],
+    ages: &'a [u32; 16],
+    homes: &'a [u8; 32],
+) -> [bool; 32]
+    ensures { λ r. ⌜ r ≡ stores (replicate 32 false) (endsRule (now (runs .entry)) (now (modes .entry)) (now (ages .entry)) (now (homes .entry))) 32 ⌝ }
+{
+    let mut ends = [false; 32];
+    let mut t = 0;
+    while t < 32 {
+        ends[t] = run_at(runs, modes, ages, homes, t).ends();
+        t += 1;
+    }
+    ends
+}
+
+// Whether a control frame of the node `sender` has a byte for the module.
+fn is_byte_of<'a>(sends: &'a [bool; 16], nodes: &'a [u8; 16], sender: usize, m: usize) -> bool
+    ensures { λ r. ⌜ r ≡ isByteAt (now (sends .entry)) (now (nodes .entry)) sender m ⌝ }
+{
+    both(flag_at(sends, m), byte_at(nodes, m) == sender)
+}
+
+fn held_at<'a>(
+    old: u8,
+    place: usize,
+    sender: usize,
+    sends: &'a [bool; 16],
+    nodes: &'a [u8; 16],
+    bytes: &'a [u8; 16],
+) -> u8
+    ensures { λ r. ⌜ r ≡ heldBy (now (sends .entry)) (now (nodes .entry)) (now (bytes .entry)) sender place old ⌝ }
+{
+    let m = place % 16;
+    if both(
+        is_byte_of(sends, nodes, sender, m),
+        byte_at(nodes, m) != place / 16,
+    ) {
+        bytes[m]
+    } else {
+        old
+    }
+}
+
+fn held_from<'a>(
+    mut held: [u8; 128],
+    sender: usize,
+    sends: &'a [bool; 16],
+    nodes: &'a [u8; 16],
+    bytes: &'a [u8; 16],
+) -> [u8; 128]
+    ensures { λ r. ⌜ r ≡ stores held (heldAt (now (sends .entry)) (now (nodes .entry)) (now (bytes .entry)) sender held) 128 ⌝ }
+{
+    let mut place = 0;
+    while place < 128 {
+        held[place] = held_at(held[place], place, sender, sends, nodes, bytes);
+        place += 1;
+    }
+    held
+}
+
+// (b) A control frame that stops now: `row` is its row, `senders` the rows' nodes.
+pub fn held_after<'a>(
+    held: [u8; 128],
+    row: Found,
+    senders: &'a [u8; 8],
+    sends: &'a [bool; 16],
+    nodes: &'a [u8; 16],
+    bytes: &'a [u8; 16],
+) -> [u8; 128]
+    ensures { λ r. ⌜ r ≡ stores held (heldRule (now (sends .entry)) (now (nodes .entry)) (now (bytes .entry)) (now (senders .entry)) held (foundOf row)) 128 ⌝ }
+{
+    match row {
+        Found::Nothing => held,
+        Found::At(r) => held_from(held, byte_at(senders, r), sends, nodes, bytes),
+    }
+}
+
+fn mode_at(change: Change, old: u8) -> u8
+    ensures { λ r. ⌜ r ≡ Option·getD (changeOf change) old ⌝ }
+{
+    match change {
+        Change::Nothing => old,
+        Change::To(mode) => mode.0,
+    }
+}
+
+// (d)
+pub fn modes_after(changes: [Change; 16], mut modes: [u8; 16]) -> [u8; 16]
+    ensures { λ r. ⌜ r ≡ stores modes (modeRule changes modes) 16 ⌝ }
+{
+    let mut m = 0;
+    while m < 16 {
+        let change = changes[m];
+        modes[m] = mode_at(change, modes[m]);
+        m += 1;
+    }
+    modes
+}
+
+// One tick on, from 1 to a period and again from 1.
+pub fn one_on(time: u32, period: u32) -> u32
+    ensures { λ r. ⌜ r ≡ oneOn time period ⌝ }
+{
+    if time < period { time + 1 } else { 1 }
+}
+
+fn age_at(change: Change, age: u32, period: u32) -> u32
+    ensures { λ r. ⌜ r ≡ cond (isGiven (changeOf change)) 1 (oneOn age period) ⌝ }
+{
+    if is_change(change) {
+        1
+    } else {
+        one_on(age, period)
+    }
+}
+
+pub fn ages_after<'a>(
+    changes: [Change; 16],
+    mut ages: [u32; 16],
+    modes: &'a [u8; 16],
+    periods: &'a [u32; 32],
+) -> [u32; 16]
+    ensures { λ r. ⌜ r ≡ stores ages (ageRule changes (now (modes .entry)) (now (periods .entry)) ages) 16 ⌝ }
+{
+    let mut m = 0;
+    while m < 16 {
+        let change = changes[m];
+        ages[m] = age_at(change, ages[m], number_at(periods, byte_at(modes, m)));
+        m += 1;
+    }
+    ages
+}
+
+fn changed(changes: [Change; 16], m: usize) -> bool
+    ensures { λ r. ⌜ r ≡ isGiven (changeAt changes m) ⌝ }
+{
+    if m < 16 {
+        let change = changes[m];
+        is_change(change)
+    } else {
+        false
+    }
+}
+
+fn given_at(given: Given, ends: bool, change: bool, had: bool) -> bool
+    ensures { λ r. ⌜ r ≡ (not (ends || change) && (had || isGiven (resultOf given))) ⌝ }
+{
+    if ends {
+        false
+    } else if change {
+        false
+    } else if had {
+        true
+    } else {
+        is_result(given)
+    }
+}
+
+pub fn givens_after<'a>(
+    results: [Given; 32],
+    changes: [Change; 16],
+    mut givens: [bool; 32],
+    ends: &'a [bool; 32],
+    homes: &'a [u8; 32],
+) -> [bool; 32]
+    ensures { λ r. ⌜ r ≡ stores givens (givenRule results changes (now (ends .entry)) (now (homes .entry)) givens) 32 ⌝ }
+{
+    let mut t = 0;
+    while t < 32 {
+        let given = results[t];
+        givens[t] = given_at(
+            given,
+            ends[t],
+            changed(changes, byte_at(homes, t)),
+            givens[t],
+        );
+        t += 1;
+    }
+    givens
+}
+
+fn byte_from<'a>(
+    old: u8,
+    m: usize,
+    sender: usize,
+    sends: &'a [bool; 16],
+    nodes: &'a [u8; 16],
+    mode: u8,
+) -> u8
+    ensures { λ r. ⌜ r ≡ cond (isByteAt (now (sends .entry)) (now (nodes .entry)) sender m) mode old ⌝ }
+{
+    if is_byte_of(sends, nodes, sender, m) {
+        mode
+    } else {
+        old
+    }
+}
+
+fn bytes_from<'a>(
+    mut bytes: [u8; 16],
+    sender: usize,
+    sends: &'a [bool; 16],
+    nodes: &'a [u8; 16],
+    modes: &'a [u8; 16],
+) -> [u8; 16]
+    ensures { λ r. ⌜ r ≡ stores bytes (byteFromRule (now (sends .entry)) (now (nodes .entry)) (now (modes .entry)) sender bytes) 16 ⌝ }
+{
+    let mut m = 0;
+    while m < 16 {
+        bytes[m] = byte_from(bytes[m], m, sender, sends, nodes, modes[m]);
+        m += 1;
+    }
+    bytes
+}
+
+// (f) A control frame that starts now takes the mode bytes.
+pub fn bytes_after<'a>(
+    bytes: [u8; 16],
+    row: Found,
+    senders: &'a [u8; 8],
+    sends: &'a [bool; 16],
+    nodes: &'a [u8; 16],
+    modes: &'a [u8; 16],
+) -> [u8; 16]
+    ensures { λ r. ⌜ r ≡ stores bytes (modeByteRule (now (sends .entry)) (now (nodes .entry)) (now (modes .entry)) (now (senders .entry)) bytes (foundOf row)) 16 ⌝ }
+{
+    match row {
+        Found::Nothing => bytes,
+        Found::At(r) => bytes_from(bytes, byte_at(senders, r), sends, nodes, modes),
+    }
+}
+
+// Whether a bus task has a message with this deadline in this mode.
+pub fn has_message<'a>(
+    bus: &'a [bool; 32],
+    runs: &'a [u32; 1024],
+    task: usize,
+    mode: usize,
+    deadline: u32,
+) -> bool
+    requires { ⌜ (mode < 256) × (task < 256) ⌝ }
+    ensures { λ r. ⌜ r ≡ messageIn (now (bus .entry)) (now (runs .entry)) task mode deadline ⌝ }
+{
+    let period = period_at(runs, mode, task);
+    if both(flag_at(bus, task), 0 < period) {
+        divides(period, deadline)
+    } else {
+        false
+    }
+}
+
+// (f) A data frame that starts now is full if the sender's mode has that message, and takes the out-box.
+pub fn full_after<'a>(
+    full: bool,
+    row: Found,
+    tasks: &'a [u8; 256],
+    deadlines: &'a [u32; 256],
+    homes: &'a [u8; 32],
+    modes: &'a [u8; 16],
+    bus: &'a [bool; 32],
+    runs: &'a [u32; 1024],
+) -> bool
+    ensures { λ r. ⌜ r ≡ fullRule (now (bus .entry)) (now (runs .entry)) (now (modes .entry)) (now (homes .entry)) (now (tasks .entry)) (now (deadlines .entry)) full (foundOf row) ⌝ }
+{
+    match row {
+        Found::Nothing => full,
+        Found::At(r) => {
+            let task = byte_at(tasks, r);
+            has_message(
+                bus,
+                runs,
+                task,
+                byte_at(modes, byte_at(homes, task)),
+                number_at(deadlines, r),
+            )
+        }
+    }
+}
+
+pub fn load_after<'a>(load: u64, row: Found, tasks: &'a [u8; 256], out: &'a [u64; 32]) -> u64
+    ensures { λ r. ⌜ r ≡ loadRule (now (out .entry)) (now (tasks .entry)) load (foundOf row) ⌝ }
+{
+    match row {
+        Found::Nothing => load,
+        Found::At(r) => value_at(out, byte_at(tasks, r)),
+    }
+}
