@@ -12,3 +12,4 @@ pub mod Bus
 pub mod Runs
 pub mod Places
 pub mod Tests
+pub mod Laid
