@@ -1,0 +1,11 @@
+-- What is known of an input once it was read. No contract says which bytes came: C's read puts them there.
+use mathlib.Core.List.{List}
+use Prim.Native.Nat.{ℕ}
+use Rattle.io.specs.Counts.{Counts}
+use Rattle.input.specs.declared.Input.{Input}
+use Rattle.input.specs.declared.Input.the-variants.{Bytes, Unreadable}
+
+-- bytes that came stand at the front of the buffer
+abbrev pub Within : Input → List ℕ → Type 0
+Within (Bytes n) buf = Counts n buf
+Within Unreadable buf = Unit

@@ -1,0 +1,41 @@
+// Input as the programs take it: an open file or a named one, read into a lent buffer until that is full or the input ends.
+ghost use Rattle.input.specs.Within.{Within};
+
+pub enum Input {
+    // So many bytes stand at the front of the buffer.
+    Bytes(usize),
+    // It could not be opened, or a read failed. Standard error has been told why.
+    Unreadable,
+}
+
+// `io::read_full` stops alike where the input ends and where a read fails, and only one more read tells the two apart.
+fn failed(fd: i32) -> bool {
+    let mut probe = [0u8; 1];
+    libc::read(fd, &mut probe) < 0
+}
+
+pub fn read_open(fd: i32, name: &[u8], buf: &mut [u8]) -> Input
+    ensures { λ r. ⌜ Within r (now (buf .exit)) ⌝ }
+{
+    let n = io::read_full(fd, buf);
+    if n < buf.len() {
+        if failed(fd) {
+            os::fail(name);
+            return Input::Unreadable;
+        }
+    }
+    Input::Bytes(n)
+}
+
+pub fn read_named(path: &[u8], buf: &mut [u8]) -> Input
+    ensures { λ r. ⌜ Within r (now (buf .exit)) ⌝ }
+{
+    let fd = os::open_read(path);
+    if fd < 0 {
+        os::fail(path);
+        return Input::Unreadable;
+    }
+    let read = read_open(fd, path, buf);
+    libc::close(fd);
+    read
+}

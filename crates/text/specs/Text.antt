@@ -1,0 +1,81 @@
+-- What the programs write and read as text: lists of ASCII codes.
+use mathlib.Core.Bool.{Bool, true, false, _&&_}
+use mathlib.Core.List.{List, [], _∷_, _++_}
+use lib.Dec.{leb, ltb}
+use lib.ListN.{length, drop}
+use Prim.Native.Nat.{ℕ, zero, suc, _+_, _-_, _*_, _/_, _%_, _^_}
+use Rattle.text.specs.declared.Number.{Number}
+use Rattle.text.specs.declared.Number.the-variants.{Digits, None}
+
+-- n's digits, the most significant first, and none for 0; `most` is a bound on their number
+abbrev pub digitsWithin : ℕ → ℕ → List ℕ
+digitsWithin zero n = []
+digitsWithin (suc most) zero = []
+digitsWithin (suc most) (suc n) = digitsWithin most (suc n / 10) ++ ((48 + suc n % 10) ∷ [])
+
+-- the digits without a leading zero: a number has no more digits than its value
+unfoldable pub digits : ℕ → List ℕ
+digits n = digitsWithin n n
+
+-- a number as the programs write it: its digits, and `0` for zero
+unfoldable pub decimal : ℕ → List ℕ
+decimal zero = 48 ∷ []
+decimal (suc n) = digits (suc n)
+
+-- `refused `
+abbrev pub refusedWord : List ℕ
+refusedWord = 114 ∷ 101 ∷ 102 ∷ 117 ∷ 115 ∷ 101 ∷ 100 ∷ 32 ∷ []
+
+-- ` at `
+abbrev pub atWord : List ℕ
+atWord = 32 ∷ 97 ∷ 116 ∷ 32 ∷ []
+
+abbrev pub lineFeed : List ℕ
+lineFeed = 10 ∷ []
+
+-- "one line `refused N at P`"; each line ends with one line feed (reading 5).
+unfoldable pub refusedLine : ℕ → ℕ → List ℕ
+refusedLine number place = refusedWord ++ (decimal number ++ (atWord ++ (decimal place ++ lineFeed)))
+
+-- "for input above 65,536 bytes the line `too long`"
+unfoldable pub tooLongLine : List ℕ
+tooLongLine = 116 ∷ 111 ∷ 111 ∷ 32 ∷ 108 ∷ 111 ∷ 110 ∷ 103 ∷ lineFeed
+
+-- "Else it passes": the line `passed`.
+unfoldable pub passedLine : List ℕ
+passedLine = 112 ∷ 97 ∷ 115 ∷ 115 ∷ 101 ∷ 100 ∷ lineFeed
+
+-- ---- reading
+
+-- `0` to `9`
+abbrev pub isDigit : ℕ → Bool
+isDigit b = leb 48 b && leb b 57
+
+-- one digit more, if it is one
+abbrev pub runOn : Bool → ℕ → List ℕ → List ℕ
+runOn true b run = b ∷ run
+runOn false b run = []
+
+-- the longest run of digits at the front
+abbrev pub digitRun : List ℕ → List ℕ
+digitRun [] = []
+digitRun (b ∷ bs) = runOn (isDigit b) b (digitRun bs)
+
+-- the number that digits stand for, behind digits that stand for v
+abbrev pub valueFrom : ℕ → List ℕ → ℕ
+valueFrom v [] = v
+valueFrom v (b ∷ bs) = valueFrom (10 * v + (b - 48)) bs
+
+-- a value that a 64-bit number holds, with the place behind its digits
+abbrev pub within64 : Bool → ℕ → ℕ → Number
+within64 true value next = Digits value next
+within64 false value next = None
+
+-- what a run of digits at a place says; no digit says nothing
+abbrev pub numberAt : List ℕ → ℕ → Number
+numberAt [] at = None
+numberAt (b ∷ bs) at = within64 (ltb (valueFrom 0 (b ∷ bs)) (2 ^ 64)) (valueFrom 0 (b ∷ bs)) (at + length (b ∷ bs))
+
+-- the number that the longest run of digits from a place on stands for
+unfoldable pub readDecimal : List ℕ → ℕ → Number
+readDecimal s at = numberAt (digitRun (drop at s)) at
