@@ -14,6 +14,5 @@ pub mod Places
 pub mod Tests
 pub mod Laid
 pub mod Arrays
-pub mod Little
 pub mod Turns
 pub mod Stores
