@@ -4,3 +4,4 @@ pub mod Lists
 pub mod Loops
 pub mod Res
 pub mod Tests
+pub mod Gather

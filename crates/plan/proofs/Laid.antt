@@ -40,11 +40,13 @@ module _ {A B : Type 0} (f : A → B) (g : B → A) (back : (x : A) → g (f x) 
 pub seen-laid : (p : rules.Plan) → Placed p → seen (layOut p) ≡ p
 unfolding seen layOut countSeen busSeen busLaid moduleSeen moduleLaid modeSeen modeLaid taskSeen taskLaid invocationSeen invocationLaid connectionSeen connectionLaid
 seen-laid p h =
-    rw (part-back moduleLaid moduleSeen (λ x. refl) 16 (moduleLaid 0) (p .modules) (h .modules),
-    part-back modeLaid modeSeen (λ x. refl) 32 (modeLaid rules.noMode) (p .modes) (h .modes),
-    part-back taskLaid taskSeen (λ x. refl) 32 (taskLaid rules.noTask) (p .tasks) (h .tasks),
-    part-back invocationLaid invocationSeen (λ x. refl) 64 (invocationLaid rules.noInvocation) (p .invocations) (h .invocations),
-    part-back connectionLaid connectionSeen (λ x. refl) 64 (connectionLaid noConnection) (p .connections) (h .connections))
+    rw (
+      part-back moduleLaid moduleSeen (λ x. refl) 16 (moduleLaid 0) (p .modules) (h .modules),
+      part-back modeLaid modeSeen (λ x. refl) 32 (modeLaid rules.noMode) (p .modes) (h .modes),
+      part-back taskLaid taskSeen (λ x. refl) 32 (taskLaid rules.noTask) (p .tasks) (h .tasks),
+      part-back invocationLaid invocationSeen (λ x. refl) 64 (invocationLaid rules.noInvocation) (p .invocations) (h .invocations),
+      part-back connectionLaid connectionSeen (λ x. refl) 64 (connectionLaid noConnection) (p .connections) (h .connections),
+    )
 
 module _ (rs : List Rec) (e : firstBad (rules.countFits rs) (upTo 6) ≡ none) where
   fits : (k : ℕ) → k < 6 → rules.count rs (2 + k) ≤ rules.nth rules.mostCounts k
