@@ -16,3 +16,4 @@ pub mod Laid
 pub mod Arrays
 pub mod Turns
 pub mod Stores
+pub mod Gather

@@ -1,32 +1,28 @@
 -- A plan that is gathered record by record is the plan of the records: over lists, then over a file that the record reader walks.
 -- Assumes nothing.
 use mathlib.Core.Path.{_≡_, refl, sym, ap, _∙_, subst}
-use mathlib.Core.Bool.{Bool, true, false, cond, _&&_, _||_}
+use mathlib.Core.Bool.{Bool, true, false, _&&_, _||_}
 use mathlib.Core.List.{List, [], _∷_, _++_, map, append-assoc}
-use native.Mathlib.Nat.{zero-add, suc-add}
-use native.Mathlib.Numerals.{add-one}
 use native.Mathlib.Omega.{arith}
 use lib.Dec.{eqb, leb, ltb}
-use lib.ListN.{length, getD, set, take, drop, length-map}
-use lib.Seq.{take-take, getD-set-same, getD-set-other, set-out}
+use lib.ListN.{length, getD, set, drop, length-map}
 use borrow.Author.Tests.{ne-eqb, eqb-true, leb-true}
 use Prim.Native.Nat.{ℕ, zero, suc, _+_, _-_, _≤_, _<_}
 use Rattle.laws.specs.Res.{Res, ok, refuse}
 use Rattle.laws.specs.Lists.{keep}
 use Rattle.laws.specs.Loops.{padTo}
-use Rattle.laws.specs.Numbers.{number}
 use Rattle.laws.proofs.Lists.{keep-snoc-yes, keep-snoc-no, map-snoc, length-snoc, padTo-snoc, both-left, both-right, true-false}
 use Rattle.laws.proofs.Res.{refuse≢ok, ok-injective}
-use Rattle.rules.specs.Records.{Rec, Field, width, widths, fields, bodyLength, decoded, recordOf, planFollows, before, records, known}
+use Rattle.rules.specs.Records.{Rec, fields, bodyLength, decoded, recordOf, planFollows, before, records, known}
 use Rattle.rules.specs.Plan as rules
-use Rattle.records.specs.Reader.{nextAt, follows, either}
+use Rattle.records.specs.Reader.{nextAt, either}
 use Rattle.records.specs.declared.Sort.the-variants.{Plan}
 use Rattle.records.specs.declared.Step.{Step}
 use Rattle.records.specs.declared.Step.the-variants.{Record, End, Wrong}
 use Rattle.records.proofs.Steps.{from, onward, one-step, Found, found}
 use Rattle.plan.specs.declared.Plan as memory
-use Rattle.plan.specs.Memory.{layOut, emptyPlan, noPlan, noBus, busLaid, moduleLaid, modeLaid, taskLaid, invocationLaid, connectionLaid, noConnection, countSeen}
-use Rattle.plan.specs.Gather.{oneMore, withBus, withNodes, withModule, withMode, withTask, withInvocation, withConnection, withRecord, withRecords, gatheredOf}
+use Rattle.plan.specs.Memory.{layOut, emptyPlan, noPlan, moduleLaid, modeLaid, taskLaid, invocationLaid, connectionLaid, noConnection, countSeen}
+use Rattle.plan.specs.Gather.{oneMore, withBus, withNodes, withModule, withMode, withTask, withInvocation, withConnection, withRecord, withRecords}
 
 -- ---- over lists
 

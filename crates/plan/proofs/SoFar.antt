@@ -3,14 +3,13 @@
 use mathlib.Core.Path.{_≡_, refl, sym, ap, _∙_}
 use mathlib.Core.Bool.{Bool, true, false, cond}
 use mathlib.Core.List.{List, [], _∷_}
-use native.Mathlib.Nat.{zero-add, suc-add}
 use native.Mathlib.Omega.{arith}
 use lib.Dec.{eqb}
 use lib.ListN.{length, getD, set, take, drop, replicate}
-use lib.Seq.{take-take, take-nil, getD-set-same, getD-set-other, set-out}
+use lib.Seq.{take-take, getD-set-other}
 use Prim.Native.Nat.{ℕ, zero, suc, _+_, _-_, _≤_, _<_}
 use Rattle.laws.specs.Res.{Res, ok, refuse}
-use Rattle.laws.specs.Numbers.{number}
+use Rattle.laws.proofs.Gather.{drop-take}
 use Rattle.laws.proofs.Res.{refuse≢ok, ok-injective, refuse-place}
 use Rattle.rules.specs.Records.{Rec, Field, width, widths, fields, bodyLength, decoded, recordOf, planFollows, before, records}
 use Rattle.records.specs.Reader.{nextAt}
@@ -26,17 +25,12 @@ use Rattle.plan.proofs.Gathering.{gathered-whole, file-planned}
 
 -- ---- a body that is cut out of the file says what the file says there
 
-drop-take : {A : Type 0} (n m : ℕ) (l : List A) → drop n (take (n + m) l) ≡ take m (drop n l)
-drop-take zero m l = rw (zero-add m)
-drop-take {A} (suc n) m [] = rw (take-nil {A = A} (suc n + m), take-nil {A = A} m)
-drop-take (suc n) m (x ∷ l) = rw (suc-add n m) (drop-take n m l)
-
 decoded-take : (fs : List Field) (l : List ℕ) → decoded fs (take (widths fs) l) ≡ decoded fs l
 decoded-take [] l = refl
 decoded-take (f ∷ fs) l =
     rw (take-take (width f) (width f + widths fs) l (omega arith), drop-take (width f) (widths fs) l, decoded-take fs (drop (width f) l))
 
-record-cut : (kind : ℕ) (l : List ℕ) → recordOf kind (take (bodyLength kind) l) ≡ recordOf kind l
+pub record-cut : (kind : ℕ) (l : List ℕ) → recordOf kind (take (bodyLength kind) l) ≡ recordOf kind l
 unfolding recordOf bodyLength
 record-cut kind l = rw (decoded-take (fields kind) l)
 

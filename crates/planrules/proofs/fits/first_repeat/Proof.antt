@@ -1,0 +1,109 @@
+use borrow.Author.Needs.{needs}
+use mathlib.Core.Path.{_≡_, refl}
+use mathlib.Core.Bool.{false}
+use mathlib.Core.List.{map}
+use mathlib.Core.Option.{none}
+use native.Mathlib.Omega.{arith}
+use lib.ListN.{getD, take}
+use Prim.Native.Nat.{_-_, _≤_}
+use Rattle.laws.specs.Lists.{any, firstBad, upTo}
+use Rattle.laws.proofs.Loops.{firstBad-upTo-more}
+use Rattle.rules.specs.Plan.{sameRun, noInvocation}
+use Rattle.plan.specs.Memory.{invocationSeen, invocationLaid}
+use Rattle.planrules.specs.Tests.{isFreshIn}
+use Rattle.planrules.proofs.Places.{met-upTo, none-upTo}
+use Rattle.planrules.proofs.Repeats.{pair-missed, pair-met, none-repeated}
+use Rattle.planrules.proofs.fits.first_repeat.Statement.{statement}
+use Rattle.planrules.proofs.fits.first_repeat.Tie as tie
+
+abbrev Inv-loop : tie.InvT-loop
+Inv-loop count invocations later earlier₀ earlier = (earlier ≤ later) × (any (sameRun (getD (map invocationSeen (take count invocations)) later noInvocation)) (take earlier (map invocationSeen (take count invocations))) ≡ false)
+
+abbrev μ-loop : tie.MeasureT-loop
+μ-loop count invocations later earlier₀ earlier = later - earlier
+
+abbrev Inv-pairs : tie.InvT-pairs
+Inv-pairs count invocations later₀ later = (later ≤ count) × (firstBad (isFreshIn (map invocationSeen (take count invocations))) (upTo later) ≡ none)
+
+abbrev μ-pairs : tie.MeasureT-pairs
+μ-pairs count invocations later₀ later = count - later
+
+pairs-holds : tie.Need-pairs-holds Inv-loop μ-loop Inv-pairs μ-pairs
+pairs-holds c = (search needs, refl)
+
+loop-holds : tie.Need-loop-holds Inv-loop μ-loop Inv-pairs μ-pairs
+loop-holds c = (search needs, refl)
+
+mul-same-run : tie.Need-mul-same-run Inv-loop μ-loop Inv-pairs μ-pairs
+mul-same-run c = search needs
+
+array-copy-out-same-run : tie.Need-array-copy-out-same-run Inv-loop μ-loop Inv-pairs μ-pairs
+array-copy-out-same-run c = search needs
+
+mul-same-run-2 : tie.Need-mul-same-run-2 Inv-loop μ-loop Inv-pairs μ-pairs
+mul-same-run-2 c = search needs
+
+array-copy-out-same-run-2 : tie.Need-array-copy-out-same-run-2 Inv-loop μ-loop Inv-pairs μ-pairs
+array-copy-out-same-run-2 c = search needs
+
+same-run-requires : tie.Need-same-run-requires Inv-loop μ-loop Inv-pairs μ-pairs
+same-run-requires c κs = search needs
+
+add-earlier : tie.Need-add-earlier Inv-loop μ-loop Inv-pairs μ-pairs
+add-earlier c = search needs
+
+loop-less : tie.Need-loop-less Inv-loop μ-loop Inv-pairs μ-pairs
+loop-less c = search needs
+
+loop-again : tie.Need-loop-again Inv-loop μ-loop Inv-pairs μ-pairs
+unfolding invocationLaid
+loop-again c = (
+  search needs,
+  pair-missed _ _ _ (omega (arith, c .before .before .before .before .before .before .before .before .good .0 .1 .0 .1)) (c .before .before .before .before .before .before .pairs-test .taken) _ _ (c .before .before .before .before .loop-test .taken) (c .before .same-run .ensures) (c .before .before .before .before .before .loop .inv .1) (c .if1 .left),
+)
+
+add-later : tie.Need-add-later Inv-loop μ-loop Inv-pairs μ-pairs
+add-later c = search needs
+
+pairs-less : tie.Need-pairs-less Inv-loop μ-loop Inv-pairs μ-pairs
+pairs-less c = search needs
+
+pairs-again : tie.Need-pairs-again Inv-loop μ-loop Inv-pairs μ-pairs
+pairs-again c = (
+  search needs,
+  firstBad-upTo-more (isFreshIn (map invocationSeen (take (c .before .before .before .before .args .count) (c .before .before .before .before .args .t1)))) (c .before .before .before .pairs .later) (c .before .before .before .pairs .inv .1)
+      (none-repeated _ _ _ (omega (arith, c .before .before .before .before .good .0 .1 .0 .1)) (c .before .before .pairs-test .taken) _ (c .before .loop .inv .0) (c .loop-test .left) (c .before .loop .inv .1)),
+)
+
+returns : tie.Need-returns Inv-loop μ-loop Inv-pairs μ-pairs
+returns c = none-upTo _ _ _ (c .before .pairs .inv .0) (c .pairs-test .left) (c .before .pairs .inv .1)
+
+returns-2 : tie.Need-returns-2 Inv-loop μ-loop Inv-pairs μ-pairs
+unfolding invocationLaid
+returns-2 c =
+    met-upTo _ _ _ (c .before .before .before .before .before .before .pairs-test .taken) (c .before .before .before .before .before .before .before .pairs .inv .1)
+    (pair-met _ _ _ (omega (arith, c .before .before .before .before .before .before .before .before .good .0 .1 .0 .1)) (c .before .before .before .before .before .before .pairs-test .taken) _ _ (c .before .before .before .before .loop-test .taken) (c .before .same-run .ensures) (c .if1 .taken))
+
+pub first-repeat-spec : {M : Type 1} → statement M
+first-repeat-spec =
+    tie.close
+    (tie.spec
+    Inv-loop
+    μ-loop
+    Inv-pairs
+    μ-pairs
+    pairs-holds
+    loop-holds
+    mul-same-run
+    array-copy-out-same-run
+    mul-same-run-2
+    array-copy-out-same-run-2
+    same-run-requires
+    add-earlier
+    loop-less
+    loop-again
+    add-later
+    pairs-less
+    pairs-again
+    returns
+    returns-2)

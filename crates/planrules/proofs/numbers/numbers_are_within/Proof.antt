@@ -1,0 +1,47 @@
+use borrow.Author.Needs.{needs}
+use mathlib.Core.Path.{sym}
+use Rattle.planrules.proofs.RecordTests.{no-ranges}
+use Rattle.planrules.proofs.numbers.numbers_are_within.Statement.{statement}
+use Rattle.planrules.proofs.numbers.numbers_are_within.Tie as tie
+
+bus-is-within-requires : tie.Need-bus-is-within-requires
+bus-is-within-requires c κs = search needs
+
+mode-is-within-requires : tie.Need-mode-is-within-requires
+mode-is-within-requires c κs = search needs
+
+task-is-within-requires : tie.Need-task-is-within-requires
+task-is-within-requires c κs = search needs
+
+rate-is-within-requires : tie.Need-rate-is-within-requires
+rate-is-within-requires c κs = search needs
+
+returns : tie.Need-returns
+returns c = rw (c .before .match .keys1) (c .bus-is-within .ensures)
+
+returns-2 : tie.Need-returns-2
+returns-2 c = rw (c .before .match .keys2) (c .mode-is-within .ensures)
+
+returns-3 : tie.Need-returns-3
+returns-3 c = rw (c .before .match .keys3) (c .task-is-within .ensures)
+
+returns-4 : tie.Need-returns-4
+returns-4 c = rw (c .before .match .keys4) (c .rate-is-within .ensures)
+
+returns-5 : tie.Need-returns-5
+returns-5 c =
+    sym (no-ranges _ _ (c .match .rest .0 .0 .0 .1) (c .match .rest .0 .0 .1) (c .match .rest .0 .1) (c .match .rest .1))
+
+pub numbers-are-within-spec : {M : Type 1} → statement M
+numbers-are-within-spec =
+    tie.close
+    (tie.spec
+    bus-is-within-requires
+    mode-is-within-requires
+    task-is-within-requires
+    rate-is-within-requires
+    returns
+    returns-2
+    returns-3
+    returns-4
+    returns-5)

@@ -1,0 +1,39 @@
+use borrow.Author.Needs.{needs}
+use mathlib.Core.Path.{sym, _∙_}
+use Rattle.planrules.proofs.Judging.{with-outcome, way-broken}
+use Rattle.planrules.proofs.read.Statement.{statement}
+use Rattle.planrules.proofs.read.Tie as tie
+
+gather-requires : tie.Need-gather-requires
+gather-requires c κs = search needs
+
+enum-told : tie.Need-enum-told
+enum-told c = search needs
+
+judged-requires : tie.Need-judged-requires
+judged-requires c κs = sym (c .before .before .gather .ensures) ∙ with-outcome _ _ (c .enum-told .given .1)
+
+enum-known-outcome : tie.Need-enum-known-outcome
+enum-known-outcome c = search needs
+
+refused-requires : tie.Need-refused-requires
+refused-requires c κs = search needs
+
+returns : tie.Need-returns
+returns c = c .judged .ensures
+
+returns-2 : tie.Need-returns-2
+returns-2 c =
+    way-broken _ _ _ _ (sym (c .before .before .before .before .gather .ensures) ∙ with-outcome _ _ (c .before .before .outcome .given .1)) (c .refused .ensures)
+
+pub read-spec : {M : Type 1} → statement M
+read-spec =
+    tie.close
+    (tie.spec
+    gather-requires
+    enum-told
+    judged-requires
+    enum-known-outcome
+    refused-requires
+    returns
+    returns-2)
