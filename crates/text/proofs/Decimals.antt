@@ -67,6 +67,18 @@ pub decimal-most : (n : ℕ) → n < 18446744073709551616 → length (decimal n)
 decimal-most zero h = rw decimal-zero (omega arith)
 decimal-most (suc n) h = rw (decimal-digits (suc n) (omega arith)) (digits-most (suc n) h)
 
+-- so the line has at most 53 bytes
+pub refused-line-most : (n p : ℕ) → n < 18446744073709551616 → p < 18446744073709551616 → length (refusedLine n p) ≤ 53
+unfolding refusedLine
+refused-line-most n p h k =
+    let number-few : length (decimal n) ≤ 20 = decimal-most n h in
+    let place-few : length (decimal p) ≤ 20 = decimal-most p k in
+    let place-long : length (decimal p ++ lineFeed) ≡ length (decimal p) + 1 = length-append (decimal p) lineFeed in
+    let long : length (decimal n ++ (atWord ++ (decimal p ++ lineFeed))) ≡ length (decimal n) + length (atWord ++ (decimal p ++ lineFeed)) =
+    length-append (decimal n) (atWord ++ (decimal p ++ lineFeed))
+    in
+    omega arith
+
 -- ---- the digits of a number stand for it again
 
 pub value-snoc : (v : ℕ) (l : List ℕ) (b : ℕ) → valueFrom v (l ++ (b ∷ [])) ≡ 10 * valueFrom v l + (b - 48)
