@@ -1,15 +1,18 @@
 -- What the walk leaves in arrays of zeros is the struct; and the struct stands for the frames that were laid.
 use mathlib.Core.Path.{_≡_, refl, sym, ap, _∙_}
 use mathlib.Core.List.{List, [], _∷_, _++_, map}
-use native.Mathlib.Nat.{zero-add}
+use mathlib.Core.Logic.{_⊎_, inl, inr}
+use native.Mathlib.Nat.{zero-add, eq-or-lt-of-le}
 use native.Mathlib.Omega.{arith}
 use lib.ListN.{length, getD, take, drop, replicate, length-take, length-replicate, List·getD-map}
 use lib.Seq.{sets, sets-eq, ext-getD}
 use Prim.Native.Nat.{ℕ, zero, suc, _+_, _≤_, _<_, min}
 use Rattle.laws.specs.Lists.{tab}
 use Rattle.laws.specs.Loops.{padTo}
+use Rattle.laws.proofs.Members.{pairs-getD}
 use Rattle.laws.proofs.Lists.{length-tab, getD-tab, padTo-none, getD-padTo}
-use Rattle.rules.specs.Frames.{Frame}
+use Rattle.rules.specs.Frames.{Frame, framesOf}
+use Rattle.rules.proofs.FramesOf.{before-case, frames-of}
 use Rattle.rules.proofs.Grid.{frame}
 use Rattle.frames.specs.declared.laid.Frames.{Frames}
 use Rattle.frames.specs.Walk.{most, taskOf, releaseOf, deadlineOf, Derived}
@@ -62,3 +65,20 @@ laid-seen fs h = let e : min (suc most) (length fs) ≡ length fs = omega arith 
     here k w =
         getD-tab at 0 (length fs) k (frame 0 0 0) w
         ∙ rw (zero-add k, column-at taskOf fs k refl h w, column-at releaseOf fs k refl h w, column-at deadlineOf fs k refl h w)
+
+-- ---- the deadlines rise
+
+pub deadlines-rise : (ms : List Frame) → length (framesOf ms) ≤ most → (i j : ℕ) → i ≤ j → j < length (framesOf ms) → getD (framesLaid (framesOf ms) .deadlines) i 0 ≤ getD (framesLaid (framesOf ms) .deadlines) j 0
+unfolding framesLaid
+deadlines-rise ms h i j a b = which (eq-or-lt-of-le a)
+  where
+    fs : List Frame
+    fs = framesOf ms
+
+    which : (i ≡ j) ⊎ (i < j) → getD (column deadlineOf fs) i 0 ≤ getD (column deadlineOf fs) j 0
+    which (inl e) = rw e (omega arith)
+    which (inr l) =
+        let x : Frame = getD fs i (frame 0 0 0) in
+        let y : Frame = getD fs j (frame 0 0 0) in
+        let q : x .deadline ≤ y .deadline = before-case x y (pairs-getD (frame 0 0 0) (frames-of ms .sorted) i j l b) (λ s. omega arith) (λ e s. omega arith) in
+        rw (column-at deadlineOf fs i refl h (omega arith), column-at deadlineOf fs j refl h b) q

@@ -2,3 +2,4 @@ pub mod Meeting
 pub mod Storing
 pub mod Walking
 pub mod Laying
+pub mod FairRuns
