@@ -250,7 +250,7 @@ pub fn plays<'a>(
     good
 }
 
-fn is_value(v: u64) -> bool
+pub fn is_value(v: u64) -> bool
     ensures { λ r. ⌜ r ≡ isValue v ⌝ }
 {
     v <= 18_446_744_073_709_551_615

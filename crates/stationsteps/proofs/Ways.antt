@@ -1,14 +1,19 @@
 -- What a function returns on each of its ways, over plain variables: the tests x, e, o, m of the code are those of the definition.
 -- Assumes nothing.
-use mathlib.Core.Path.{_≡_, refl, sym, _∙_}
+use mathlib.Core.Path.{_≡_, refl, sym, ap, _∙_}
 use mathlib.Core.Bool.{Bool, true, false, cond, not, _&&_}
 use mathlib.Core.List.{List}
 use lib.Dec.{eqb}
-use lib.ListN.{getD}
+use lib.ListN.{length, getD}
 use borrow.Author.Tests.{eq-eqb, ne-eqb}
 use Prim.Native.Nat.{ℕ}
+use native.Mathlib.Omega.{arith}
+use Rattle.laws.specs.Loops.{stores}
 use Rattle.laws.proofs.Lists.{both-left, both-right}
-use Rattle.stationsteps.specs.Nodes.{landedRule}
+use Rattle.laws.proofs.Loops.{stores-at}
+use Rattle.laws.proofs.Stores.{stores-same}
+use Rattle.stationsteps.specs.Steps.{numberAt}
+use Rattle.stationsteps.specs.Nodes.{landedRule, shownRule}
 use Rattle.stationsteps.specs.declared.nodes.Node.{Node}
 use Rattle.stationsteps.specs.declared.nodes.Landing.{Landing}
 use Rattle.stationsteps.specs.declared.nodes.Landing.the-variants.{Value}
@@ -56,6 +61,23 @@ module _ (l : Landing) (task sender v n : ℕ) (landed : List ℕ) (is : l ≡ V
   lands-here e k = rw is (on (eqb task k) (eqb sender n) (getD landed k 0) (ne-eqb sender n e))
 
 -- a node made anew: what it shows is made of what has landed
-pub made : {l x s : List ℕ} (shows : List ℕ → List ℕ) → l ≡ x → s ≡ shows l
-    → _≡_ {A = Node} (record { landed = l; shown = s }) (record { landed = x; shown = shows x })
-made shows e h = rw (h, e)
+pub made : {l x s y : List ℕ} → l ≡ x → s ≡ y → _≡_ {A = Node} (record { landed = l; shown = s }) (record { landed = x; shown = y })
+made e h = rw (h, e)
+
+module _ (ends : List Bool) (homes nodes out held : List ℕ) (isBus : List Bool) (runs : List ℕ) (clock n : ℕ) (old shown : List ℕ) where
+  shows : (ℕ → ℕ) → ℕ → ℕ
+  shows f = shownRule ends homes nodes out held isBus runs clock n f shown
+
+  shows-same : (f g : ℕ → ℕ) (k : ℕ) → f k ≡ g k → shows f k ≡ shows g k
+  unfolding shows
+  shows-same f g k e = rw e
+
+  -- what has landed is read back from the array that was just filled
+  pub shown-of-landed : (f : ℕ → ℕ) {l s : List ℕ} → length old ≡ 32 → l ≡ stores old f 32
+      → s ≡ stores shown (shownRule ends homes nodes out held isBus runs clock n (numberAt l) shown) 32
+      → s ≡ stores shown (shownRule ends homes nodes out held isBus runs clock n f shown) 32
+  unfolding shows
+  shown-of-landed f {l} size e h =
+      h
+      ∙ stores-same shown (shows (numberAt l)) (shows f) 32
+      (λ k w. shows-same (numberAt l) f k (ap (λ x. getD x k 0) e ∙ stores-at old f 32 k 0 w (omega arith)))

@@ -6,6 +6,7 @@ ghost use Prim.Native.Nat.{_<_};
 ghost use Rattle.laws.specs.Loops.{stores};
 ghost use Rattle.laws.specs.Lists.{all, upTo};
 ghost use Rattle.stationjudge.specs.Inputs.{foundOf};
+ghost use Rattle.stationsteps.specs.Steps.{numberAt};
 ghost use Rattle.stationsteps.specs.Nodes.{isLanding, landedRule, landingOf, nodeAt, nodeRule, quietAt, shownAt, shownRule, zeroNode};
 use places::both;
 use places::byte_at;
@@ -110,7 +111,7 @@ fn shown_at<'a>(
     clock: u32,
 ) -> u64
     requires { ⌜ (t < 32) × (n < 8) ⌝ }
-    ensures { λ r. ⌜ r ≡ shownAt (now (ends .entry)) (now (homes .entry)) (now (nodes .entry)) (now (out .entry)) (now (held .entry)) (now (bus .entry)) (now (runs .entry)) clock n (now (landed .entry)) t old ⌝ }
+    ensures { λ r. ⌜ r ≡ shownAt (now (ends .entry)) (now (homes .entry)) (now (nodes .entry)) (now (out .entry)) (now (held .entry)) (now (bus .entry)) (now (runs .entry)) clock n (numberAt (now (landed .entry))) t old ⌝ }
 {
     if flag_at(ends, t) {
         let home = byte_at(homes, t);
@@ -138,7 +139,7 @@ fn shown_after<'a>(
     clock: u32,
 ) -> [u64; 32]
     requires { ⌜ n < 8 ⌝ }
-    ensures { λ r. ⌜ r ≡ stores shown (shownRule (now (ends .entry)) (now (homes .entry)) (now (nodes .entry)) (now (out .entry)) (now (held .entry)) (now (bus .entry)) (now (runs .entry)) clock n (now (landed .entry)) shown) 32 ⌝ }
+    ensures { λ r. ⌜ r ≡ stores shown (shownRule (now (ends .entry)) (now (homes .entry)) (now (nodes .entry)) (now (out .entry)) (now (held .entry)) (now (bus .entry)) (now (runs .entry)) clock n (numberAt (now (landed .entry))) shown) 32 ⌝ }
 {
     let mut t = 0;
     while t < 32 {

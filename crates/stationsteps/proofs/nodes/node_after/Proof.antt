@@ -1,7 +1,8 @@
+use mathlib.Core.Path.{_≡_}
+use lib.ListN.{length}
 use denote.Ref.{now}
-use Rattle.laws.specs.Loops.{stores}
-use Rattle.stationsteps.specs.Nodes.{nodeAt, shownRule}
-use Rattle.stationsteps.proofs.Ways.{made}
+use Rattle.stationsteps.specs.Nodes.{nodeAt, landedRule}
+use Rattle.stationsteps.proofs.Ways.{made, shown-of-landed}
 use borrow.Author.Needs.{needs}
 use Rattle.stationsteps.proofs.nodes.node_after.Statement.{statement}
 use Rattle.stationsteps.proofs.nodes.node_after.Tie as tie
@@ -18,7 +19,7 @@ shown-after-requires c κs = search needs
 
 returns : tie.Need-returns
 unfolding nodeAt
-returns c = let a = c .before .before .before .before .before .args in made (λ x. stores (a .node .shown) (shownRule (now (a .ends)) (now (a .homes)) (now (a .nodes)) (now (a .out)) (now (a .held)) (now (a .bus)) (now (a .runs)) (a .clock) (a .n) x (a .node .shown)) 32) (c .before .before .before .landed-after .ensures) (c .shown-after .ensures)
+returns c = let a = c .before .before .before .before .before .args in let size : length (a .node .landed) ≡ 32 = search needs in made (c .before .before .before .landed-after .ensures) (shown-of-landed (now (a .ends)) (now (a .homes)) (now (a .nodes)) (now (a .out)) (now (a .held)) (now (a .bus)) (now (a .runs)) (a .clock) (a .n) (a .node .landed) (a .node .shown) (landedRule (a .landing) (a .n) (a .node .landed)) size (c .before .before .before .landed-after .ensures) (c .shown-after .ensures))
 
 pub node-after-spec : {M : Type 1} → statement M
 node-after-spec = tie.close (tie.spec landed-after-requires shown-after-requires returns)

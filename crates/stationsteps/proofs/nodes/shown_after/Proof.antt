@@ -1,6 +1,7 @@
 use mathlib.Core.Path.{_∙_}
 use Prim.Native.Nat.{_≤_, _-_}
 use Rattle.laws.proofs.Turns.{Filled, filled-none, filled-turn, filled-next, filled-end}
+use Rattle.stationsteps.specs.Steps.{numberAt}
 use Rattle.stationsteps.specs.Nodes.{shownRule}
 use borrow.Author.Needs.{needs}
 use Rattle.stationsteps.proofs.nodes.shown_after.Statement.{statement}
@@ -10,7 +11,7 @@ use Rattle.stationsteps.proofs.nodes.shown_after.Lts as lts
 use Rattle.stationsteps.proofs.nodes.shown_at.Reads as shown-at-reads
 
 abbrev Inv-loop : tie.InvT-loop
-Inv-loop n ends homes nodes out landed held bus runs clock shown₀ t₀ shown t = (t ≤ 32) × Filled shown₀ (shownRule ends homes nodes out held bus runs clock n landed shown₀) t shown
+Inv-loop n ends homes nodes out landed held bus runs clock shown₀ t₀ shown t = (t ≤ 32) × Filled shown₀ (shownRule ends homes nodes out held bus runs clock n (numberAt landed) shown₀) t shown
 
 abbrev μ-loop : tie.MeasureT-loop
 μ-loop n ends homes nodes out landed held bus runs clock shown₀ t₀ shown t = 32 - t
