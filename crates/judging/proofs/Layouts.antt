@@ -2,50 +2,45 @@
 -- Assumes nothing.
 use mathlib.Core.Path.{_≡_, refl, sym, ap, _∙_, subst}
 use mathlib.Core.Bool.{Bool, true, false, cond, not, _&&_, _||_}
-use mathlib.Core.List.{List, [], _∷_, map}
+use mathlib.Core.List.{List, [], _∷_}
 use mathlib.Core.Option.{Option, none, some}
 use native.Mathlib.Nat.{zero-add}
 use native.Mathlib.Omega.{arith}
 use lib.Dec.{eqb}
-use lib.ListN.{length, getD, take, List·getD-map}
-use lib.Seq.{ext-getD}
-use borrow.Author.Tests.{eqb-true}
+use lib.ListN.{length, getD, take}
+use borrow.Author.Tests.{lt-ltb, eqb-true}
 use Prim.Native.Nat.{ℕ, _+_, _*_, _≤_, _<_}
-use Rattle.laws.specs.Res.{refuse, _>>_, at}
-use Rattle.laws.specs.Lists.{any, firstBad, tab, upTo}
-use Rattle.laws.specs.Loops.{padTo}
-use Rattle.laws.proofs.Lists.{both-left, both-right, true-false, length-tab, getD-tab, getD-padTo}
+use Rattle.laws.specs.Res.{ok, refuse, _>>_, at}
+use Rattle.laws.specs.Lists.{any, firstBad, upTo}
+use Rattle.laws.proofs.Lists.{both-left, both-right, true-false, length-tab, getD-tab}
 use Rattle.laws.proofs.Loops.{firstBad-upTo-passes}
-use Rattle.laws.proofs.Members.{All, also, Pairs, pairs-getD, all-getD}
-use Rattle.rules.proofs.FramesOf.{Before, before-case}
-use Rattle.rules.specs.Plan.{theTask}
-use Rattle.rules.specs.Frames.{Frame, ControlRow, noControlRow, Layout, sendingTime, gapTime, payload}
+use Rattle.laws.proofs.Arrays.{tab-list, getD-laid}
+use Rattle.laws.proofs.Members.{All, also, Pairs, pairs-getD, all-getD, all-weaker}
+use Rattle.rules.proofs.FramesOf.{Before, before-case, plan-frames}
+use Rattle.rules.proofs.PlanKept.{PlanKept, readable-kept}
+use Rattle.rules.proofs.LaidOut.{LaidOut, laid-out, frames-kept, control-count}
+use Rattle.rules.specs.Plan.{Plan, readPlan}
+use Rattle.rules.specs.Frames.{Frame, ControlRow, noControlRow, Layout, layout, layoutOf, payload}
 use Rattle.rules.specs.Table.{DataRow}
 use Rattle.rules.specs.LatestRelease.{noFrame, frameTime}
 use Rattle.rules.specs.Checker.{TableRead, noDataRow, rowAt, isFrameOf, samePair, namedIn, firstRow, rowsKeep, headerRight, controlKept, namesNewFrame, frameOfRow, timeKept, releaseKept, gapKept, judged}
 use Rattle.judging.specs.declared.rows.Bounds.{Bounds}
 use Rattle.judging.specs.declared.judge.Judgement.{Judgement}
-use Rattle.judging.specs.Places.{keyAt, Numbered}
+use Rattle.judging.specs.Places.{lookIn, keyAt, Numbered}
 use Rattle.judging.specs.Memory.{nodeOf, beginOf, endOf, taskOf, deadlineOf, startOf, stopOf, layOut, controlIn, rowSeen, seen}
-use Rattle.judging.specs.Judged.{headerFits, controlFits, namesNew, timeFits, releaseFits, gapFits, timesJudged, rowsJudged, judgedFor, frameIn, framesIn, timeIn, Right}
+use Rattle.line.specs.Line as line
+use Rattle.line.specs.Line.{taskTime, lineOf}
+use Rattle.judging.specs.Judged.{headerFits, controlFits, namesNew, timeFits, releaseFits, gapFits, timesJudged, rowsJudged, judgedFor, frameIn, framesIn, timeIn, controlsOn, framesOn, boundsOn, lineJudged, Right}
 use Rattle.judging.proofs.Places.{same-bad}
 
 -- ---- the parts of a layout
 
--- the numbers of the bus, and the sending time of a task's message
-unfoldable pub boundsOf : Layout → Bounds
-boundsOf l =
-    record {
-      period = record { 0 = l .period };
-      resolution = record { 0 = l .plan .bus .resolution };
-      gap = record { 0 = gapTime (l .plan .bus) };
-    }
+-- the sending time of a task's message
+unfoldable timeFor : Layout → ℕ → ℕ
+timeFor l k = taskTime (l .plan) k
 
-unfoldable taskTime : Layout → ℕ → ℕ
-taskTime l k = sendingTime (l .plan .bus) (theTask (l .plan) k .size)
-
-judged-parts : (l : Layout) (t : TableRead) → judgedFor (l .control) (l .frames) (taskTime l) (boundsOf l) t ≡ judged l t
-unfolding judgedFor rowsJudged timesJudged headerFits controlFits namesNew timeFits releaseFits gapFits boundsOf taskTime judged headerRight controlKept namesNewFrame frameOfRow timeKept releaseKept gapKept frameTime payload
+judged-parts : (l : Layout) (t : TableRead) → judgedFor (l .control) (l .frames) (timeFor l) (boundsOn (lineOf l)) t ≡ judged l t
+unfolding judgedFor rowsJudged timesJudged headerFits controlFits namesNew timeFits releaseFits gapFits boundsOn lineOf timeFor taskTime judged headerRight controlKept namesNewFrame frameOfRow timeKept releaseKept gapKept frameTime payload
 judged-parts l t = refl
 
 -- ---- two times that agree on the frames
@@ -87,33 +82,20 @@ module _ (frames : List Frame) (time other : ℕ → ℕ) where
     unfolding judgedFor
     times-judged control = rw rows-agree
 
--- ---- a list read from arrays
-
--- a rule that reads a list at its places
-tab-list : {A : Type 0} (f : ℕ → A) (l : List A) (d : A) → ((k : ℕ) → k < length l → f k ≡ getD l k d) → tab f 0 (length l) ≡ l
-tab-list f l d h =
-    ext-getD d (tab f 0 (length l)) l (length-tab f 0 (length l))
-    (λ i w. let v : i < length l = rw (length-tab f 0 (length l)) at w in getD-tab f 0 (length l) i d v ∙ ap f (zero-add i) ∙ h i v)
-
--- a column of an array that is filled up
-column-at : {A : Type 0} (room : ℕ) (f : A → ℕ) (d : A) → f d ≡ 0 → (l : List A) (k : ℕ) → k < room → getD (padTo room 0 (map f l)) k 0 ≡ f (getD l k d)
-column-at room f d z l k h =
-    getD-padTo room 0 (map f l) k h ∙ ap (getD (map f l) k) (sym z) ∙ List·getD-map f l k d
-
 -- ---- a table laid out and seen again
 
 module _ (t : TableRead) where
   seen-control : length (t .control) ≤ 8 → seen (layOut t) .control ≡ t .control
   unfolding seen layOut controlIn
   seen-control h =
-      tab-list (controlIn (layOut t .nodes) (layOut t .begins) (layOut t .ends)) (t .control) noControlRow
-      (λ k w. rw (column-at 8 nodeOf noControlRow refl (t .control) k (omega arith), column-at 8 beginOf noControlRow refl (t .control) k (omega arith), column-at 8 endOf noControlRow refl (t .control) k (omega arith)))
+      tab-list (controlIn (layOut t .nodes) (layOut t .begins) (layOut t .ends)) (t .control) noControlRow (length (t .control)) refl
+      (λ k w. rw (getD-laid nodeOf (t .control) noControlRow 8 k refl (omega arith), getD-laid beginOf (t .control) noControlRow 8 k refl (omega arith), getD-laid endOf (t .control) noControlRow 8 k refl (omega arith)))
 
   seen-rows : length (t .rows) ≤ 256 → seen (layOut t) .rows ≡ t .rows
   unfolding seen layOut rowSeen
   seen-rows h =
-      tab-list (rowSeen (layOut t)) (t .rows) noDataRow
-      (λ k w. rw (column-at 256 taskOf noDataRow refl (t .rows) k (omega arith), column-at 256 deadlineOf noDataRow refl (t .rows) k (omega arith), column-at 256 startOf noDataRow refl (t .rows) k (omega arith), column-at 256 stopOf noDataRow refl (t .rows) k (omega arith)))
+      tab-list (rowSeen (layOut t)) (t .rows) noDataRow (length (t .rows)) refl
+      (λ k w. rw (getD-laid taskOf (t .rows) noDataRow 256 k refl (omega arith), getD-laid deadlineOf (t .rows) noDataRow 256 k refl (omega arith), getD-laid startOf (t .rows) noDataRow 256 k refl (omega arith), getD-laid stopOf (t .rows) noDataRow 256 k refl (omega arith)))
 
   pub seen-whole : length (t .control) ≤ 8 → length (t .rows) ≤ 256 → seen (layOut t) ≡ t
   unfolding seen layOut
@@ -147,69 +129,86 @@ module _ (control : List ControlRow) (frames : List Frame) (time : ℕ → ℕ) 
           let too : judgedFor control frames time b t ≡ refuse 21 0 = rw e in
           record { verdict = r .verdict ∙ refused ∙ sym too; starts = rw too (rw refused at (r .starts)) }
 
--- ---- arrays that stand for a layout
+-- ---- the line of a layout
 
--- The frames and the control rows stand in the arrays by their places, times by the tasks of the frames.
-pub record Stands (l : Layout) (tasks releases deadlines : List ℕ) (frames : ℕ) (times nodes begins ends : List ℕ) (controls : ℕ) (b : Bounds) : Type 0 where
-  pub frame-count : frames ≡ length (l .frames)
-  pub frame-room : frames ≤ 256
-  pub frame-at : (k : ℕ) → k < frames → frameIn tasks releases deadlines k ≡ getD (l .frames) k noFrame
+-- What holds of a layout that comes from a plan that was read.
+pub record Drawn (l : Layout) : Type 0 where
+  pub few : length (l .frames) ≤ 256
   pub sorted : Pairs Before (l .frames)
-  pub small : All (λ f. f .task < 256) (l .frames)
-  pub timed : All (λ f. timeIn times (f .task) ≡ frameTime l f) (l .frames)
-  pub control-count : controls ≡ length (l .control)
-  pub control-room : controls ≤ 8
-  pub control-at : (k : ℕ) → k < controls → controlIn nodes begins ends k ≡ getD (l .control) k noControlRow
-  pub bounds : b ≡ boundsOf l
+  pub tasks : All (λ f. f .task < 32) (l .frames)
+  pub controls : length (l .control) ≤ 8
 
-module _ (l : Layout) (tasks releases deadlines : List ℕ) (frames : ℕ) (times nodes begins ends : List ℕ) (controls : ℕ) (b : Bounds)
-    (st : Stands l tasks releases deadlines frames times nodes begins ends controls b) where
-  stand-frames : framesIn tasks releases deadlines frames ≡ l .frames
-  unfolding framesIn
-  stand-frames =
-      ap (tab (frameIn tasks releases deadlines) 0) (st .frame-count)
-      ∙ tab-list (frameIn tasks releases deadlines) (l .frames) noFrame (λ k h. st .frame-at k (omega (arith, st .frame-count)))
+pub drawn : (file : List ℕ) (p : Plan) (l : Layout) → readPlan file ≡ ok p → layout p ≡ ok l → Drawn l
+unfolding layoutOf
+drawn file p l r e =
+    let kept : PlanKept p = readable-kept file p r in
+    let laid : LaidOut p l = laid-out p l e in
+    subst Drawn (laid .is)
+    (record {
+      few = laid .few;
+      sorted = plan-frames p .sorted;
+      tasks = all-weaker (λ f h. omega (arith, h .task, kept .taskCount .most)) (frames-kept p kept);
+      controls = omega (arith, control-count p, kept .nodeCount .most);
+    })
 
-  stand-control : tab (controlIn nodes begins ends) 0 controls ≡ l .control
-  stand-control =
-      ap (tab (controlIn nodes begins ends) 0) (st .control-count)
-      ∙ tab-list (controlIn nodes begins ends) (l .control) noControlRow (λ k h. st .control-at k (omega (arith, st .control-count)))
+module _ (l : Layout) (d : Drawn l) where
+  frame-on : (k : ℕ) → k < length (l .frames) → frameIn (lineOf l .task) (lineOf l .release) (lineOf l .deadline) k ≡ getD (l .frames) k noFrame
+  unfolding frameIn lineOf
+  frame-on k h =
+      let w : k < 256 = omega (arith, d .few) in
+      rw (getD-laid line.taskOf (l .frames) noFrame 256 k refl w, getD-laid line.releaseOf (l .frames) noFrame 256 k refl w, getD-laid line.deadlineOf (l .frames) noFrame 256 k refl w)
+
+  frames-on : framesOn (lineOf l) ≡ l .frames
+  unfolding framesOn framesIn lineOf
+  frames-on = tab-list (frameIn (lineOf l .task) (lineOf l .release) (lineOf l .deadline)) (l .frames) noFrame (length (l .frames)) refl frame-on
+
+  controls-on : controlsOn (lineOf l) ≡ l .control
+  unfolding controlsOn controlIn lineOf
+  controls-on =
+      tab-list (controlIn (lineOf l .nodes) (lineOf l .starts) (lineOf l .stops)) (l .control) noControlRow (length (l .control)) refl
+      (λ k h. let w : k < 8 = omega (arith, d .controls) in
+      rw (getD-laid nodeOf (l .control) noControlRow 8 k refl w, getD-laid beginOf (l .control) noControlRow 8 k refl w, getD-laid endOf (l .control) noControlRow 8 k refl w))
 
   -- The frames of a layout are by number.
-  pub stand-numbered : Numbered tasks deadlines frames
-  unfolding frameIn keyAt
-  stand-numbered =
+  pub line-numbered : Numbered (lineOf l .task) (lineOf l .deadline) (lineOf l .frames)
+  unfolding frameIn keyAt lineOf
+  line-numbered =
       record {
-        room = st .frame-room;
-        small = λ k h. rw (task-at k h) (all-getD noFrame (st .small) k (within k h));
+        room = d .few;
+        small = λ k h. rw (task-at k h) (omega (arith, task-small k h));
         rising = λ j k h w. rw (task-at j (omega arith), deadline-at j (omega arith), task-at k w, deadline-at k w)
-            (lower (getD (l .frames) j noFrame) (getD (l .frames) k noFrame) (all-getD noFrame (st .small) j (within j (omega arith)))
-            (pairs-getD noFrame (st .sorted) j k h (within k w)));
+            (lower (getD (l .frames) j noFrame) (getD (l .frames) k noFrame) (task-small j (omega arith)) (pairs-getD noFrame (d .sorted) j k h w));
       }
     where
-      within : (k : ℕ) → k < frames → k < length (l .frames)
-      within k h = omega (arith, st .frame-count)
+      task-small : (k : ℕ) → k < length (l .frames) → getD (l .frames) k noFrame .task < 32
+      task-small k h = all-getD noFrame (d .tasks) k h
 
-      task-at : (k : ℕ) → k < frames → getD tasks k 0 ≡ getD (l .frames) k noFrame .task
-      task-at k h = ap (λ (f : Frame). f .task) (st .frame-at k h)
+      task-at : (k : ℕ) → k < length (l .frames) → getD (lineOf l .task) k 0 ≡ getD (l .frames) k noFrame .task
+      task-at k h = ap (λ (f : Frame). f .task) (frame-on k h)
 
-      deadline-at : (k : ℕ) → k < frames → getD deadlines k 0 ≡ getD (l .frames) k noFrame .deadline
-      deadline-at k h = ap (λ (f : Frame). f .deadline) (st .frame-at k h)
+      deadline-at : (k : ℕ) → k < length (l .frames) → getD (lineOf l .deadline) k 0 ≡ getD (l .frames) k noFrame .deadline
+      deadline-at k h = ap (λ (f : Frame). f .deadline) (frame-on k h)
 
-      lower : (f g : Frame) → f .task < 256 → Before f g → f .deadline * 256 + f .task < g .deadline * 256 + g .task
+      lower : (f g : Frame) → f .task < 32 → Before f g → f .deadline * 256 + f .task < g .deadline * 256 + g .task
       lower f g h o = before-case f g o (λ d. omega arith) (λ d u. omega arith)
 
-  parts-judged : (t : TableRead) → judgedFor (l .control) (l .frames) (timeIn times) b t ≡ judged l t
-  unfolding taskTime frameTime payload
-  parts-judged t =
-      rw (st .bounds) (times-judged (l .frames) (timeIn times) (taskTime l) t (boundsOf l) (st .timed) (l .control)) ∙ judged-parts l t
+  pub line-controls : lineOf l .controls ≤ 8
+  unfolding lineOf
+  line-controls = d .controls
 
-  -- What is judged right by the arrays of a layout is judged right by the layout.
-  pub stand-right : (t : TableRead) {j : Judgement}
-      → Right (judgedFor (tab (controlIn nodes begins ends) 0 controls) (framesIn tasks releases deadlines frames) (timeIn times) b (seen (layOut t)))
-      (framesIn tasks releases deadlines frames) (seen (layOut t)) j
+  time-on : (f : Frame) → f .task < 32 → timeIn (lineOf l .time) (f .task) ≡ timeFor l (f .task)
+  unfolding timeIn lookIn lineOf timeFor
+  time-on f h = rw (lt-ltb (f .task) 32 h) (getD-tab (taskTime (l .plan)) 0 32 (f .task) 0 h ∙ ap (taskTime (l .plan)) (zero-add (f .task)))
+
+  parts-judged : (t : TableRead) → judgedFor (l .control) (l .frames) (timeIn (lineOf l .time)) (boundsOn (lineOf l)) t ≡ judged l t
+  parts-judged t =
+      times-judged (l .frames) (timeIn (lineOf l .time)) (timeFor l) t (boundsOn (lineOf l)) (all-weaker time-on (d .tasks)) (l .control)
+      ∙ judged-parts l t
+
+  -- What is judged right by the line of a layout is judged right by the layout.
+  pub line-right : (t : TableRead) {j : Judgement} → Right (lineJudged (lineOf l) (seen (layOut t))) (framesOn (lineOf l)) (seen (layOut t)) j
       → Right (judged l t) (l .frames) t j
-  stand-right t {j} r =
+  unfolding lineJudged
+  line-right t {j} r =
       rw (sym (parts-judged t))
-      (seen-right (l .control) (l .frames) (timeIn times) b t (omega (arith, st .control-count, st .control-room)) (omega (arith, st .frame-count, st .frame-room))
-      (rw (stand-control, stand-frames) at r))
+      (seen-right (l .control) (l .frames) (timeIn (lineOf l .time)) (boundsOn (lineOf l)) t (d .controls) (d .few) (rw (controls-on, frames-on) at r))

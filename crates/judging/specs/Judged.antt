@@ -30,7 +30,9 @@ use Rattle.judging.specs.declared.rows.Bounds.{Bounds}
 use Rattle.judging.specs.declared.judge.Verdict.{Verdict}
 use Rattle.judging.specs.declared.judge.Verdict.the-variants.{Passed, Refused}
 use Rattle.judging.specs.declared.judge.Judgement.{Judgement}
+use Rattle.line.specs.declared.Line.{Line}
 use Rattle.judging.specs.Places.{lookIn}
+use Rattle.judging.specs.Memory.{controlIn}
 
 -- Refusal 21: "P, a header count, or the number of rows of a kind isn't what the plan gives".
 unfoldable pub headerFits : List ControlRow → List Frame → Bounds → TableRead → Bool
@@ -102,6 +104,19 @@ framesIn tasks releases deadlines n = tab (frameIn tasks releases deadlines) 0 n
 
 unfoldable pub timeIn : List ℕ → ℕ → ℕ
 timeIn times task = lookIn 32 times task
+
+-- the parts of a line: its control rows, its frames, the numbers of its bus; and a table judged by them
+unfoldable pub controlsOn : Line → List ControlRow
+controlsOn l = tab (controlIn (l .nodes) (l .starts) (l .stops)) 0 (l .controls)
+
+unfoldable pub framesOn : Line → List Frame
+framesOn l = framesIn (l .task) (l .release) (l .deadline) (l .frames)
+
+unfoldable pub boundsOn : Line → Bounds
+boundsOn l = record { period = l .period; resolution = l .resolution; gap = l .gap }
+
+unfoldable pub lineJudged : Line → TableRead → Res (Unit {0})
+lineJudged l t = judgedFor (controlsOn l) (framesOn l) (timeIn (l .time)) (boundsOn l) t
 
 -- what the rules say where the code answers with this verdict
 abbrev pub verdictSays : Verdict → Res (Unit {0})

@@ -4,12 +4,12 @@ ghost use mathlib.Core.Bool.{_&&_};
 ghost use lib.Dec.{eqb};
 ghost use lib.ListN.{replicate};
 ghost use Prim.Native.Nat.{_+_, _≤_, _<_};
-ghost use Rattle.laws.specs.Lists.{firstBad, tab, upTo};
+ghost use Rattle.laws.specs.Lists.{firstBad, upTo};
 ghost use Rattle.answers.specs.Refusals as answers;
 ghost use Rattle.judging.specs.Places.{Numbered, beforeIn, spotOf};
 ghost use Rattle.judging.specs.Memory.{seen, controlIn};
 ghost use Rattle.judging.specs.Rows.{ruleNumber, byRule, byRules};
-ghost use Rattle.judging.specs.Judged.{headerSame, controlsSame, rowsJudged, judgedFor, framesIn, timeIn, verdictSays, Right};
+ghost use Rattle.judging.specs.Judged.{headerSame, controlsSame, rowsJudged, framesIn, framesOn, timeIn, lineJudged, verdictSays, Right};
 use crate::naming::Spot;
 use crate::naming::first_unnamed;
 use crate::naming::numbers;
@@ -22,6 +22,7 @@ use crate::rows::held;
 use crate::table::Header;
 use crate::table::Table;
 use answers::Refusal;
+use line::Line;
 use units::RecordNo;
 
 pub enum Verdict {
@@ -76,13 +77,13 @@ fn same_control(node: u8, begin: u32, end: u32, other: u8, opens: u32, closes: u
 }
 
 // The first control row that is not the fixed one.
-fn first_strange<'a>(
+fn first_strange<'a, 'b>(
     nodes: &'a [u8; 8],
     begins: &'a [u32; 8],
     ends: &'a [u32; 8],
-    senders: &[u8; 8],
-    opens: &[u32; 8],
-    closes: &[u32; 8],
+    senders: &'b [u8; 8],
+    opens: &'b [u32; 8],
+    closes: &'b [u32; 8],
     controls: usize,
 ) -> Spot
     requires { ⌜ controls ≤ 8 ⌝ }
@@ -154,13 +155,13 @@ fn last_stop(ends: &[u32; 8], control: usize) -> u32
 }
 
 // Rules 23 to 27.
-fn by_rows(
+fn by_rows<'a>(
     t: Table,
-    tasks: &[u8; 256],
-    releases: &[u32; 256],
-    deadlines: &[u32; 256],
+    tasks: &'a [u8; 256],
+    releases: &'a [u32; 256],
+    deadlines: &'a [u32; 256],
     frames: usize,
-    times: &[u32; 32],
+    times: &'a [u32; 32],
     bounds: Bounds,
 ) -> Judgement
     requires { ⌜ Numbered (now tasks) (now deadlines) frames ⌝ }
@@ -185,38 +186,42 @@ fn by_rows(
     }
 }
 
-// A table judged by what a plan asks: its frames by number, the sending time of each task's message, the fixed control rows.
-pub fn judge(
-    t: Table,
-    tasks: &[u8; 256],
-    releases: &[u32; 256],
-    deadlines: &[u32; 256],
-    frames: usize,
-    times: &[u32; 32],
-    nodes: &[u8; 8],
-    begins: &[u32; 8],
-    ends: &[u32; 8],
-    controls: usize,
-    bounds: Bounds,
-) -> Judgement
-    requires { ⌜ Numbered (now tasks) (now deadlines) frames ⌝ }
-    requires { ⌜ controls ≤ 8 ⌝ }
-    ensures { λ r. ⌜ Right (judgedFor (tab (controlIn (now (nodes .entry)) (now (begins .entry)) (now (ends .entry))) 0 controls) (framesIn (now (tasks .entry)) (now (releases .entry)) (now (deadlines .entry)) frames) (timeIn (now (times .entry))) bounds (seen t)) (framesIn (now (tasks .entry)) (now (releases .entry)) (now (deadlines .entry)) frames) (seen t) r ⌝ }
+// A table judged by what a plan asks of the bus.
+pub fn judge(t: Table, line: Line) -> Judgement
+    requires { ⌜ Numbered (line .task) (line .deadline) (line .frames) ⌝ }
+    requires { ⌜ line .controls ≤ 8 ⌝ }
+    ensures { λ r. ⌜ Right (lineJudged line (seen t)) (framesOn line) (seen t) r ⌝ }
 {
     let head = t.header;
-    if !header_right(head, t.control, t.rows, bounds, controls, frames) {
+    let period = line.period;
+    let resolution = line.resolution;
+    let gap = line.gap;
+    let bounds = Bounds {
+        period,
+        resolution,
+        gap,
+    };
+    if !header_right(head, t.control, t.rows, bounds, line.controls, line.frames) {
         return refused(Refusal::WrongHeader);
     }
     if let Spot::At(k) = first_strange(
         &t.nodes,
         &t.begins,
         &t.ends,
-        nodes,
-        begins,
-        ends,
-        controls,
+        &line.nodes,
+        &line.starts,
+        &line.stops,
+        line.controls,
     ) {
         return refused(Refusal::WrongControlRow(RecordNo(1 + k)));
     }
-    by_rows(t, tasks, releases, deadlines, frames, times, bounds)
+    by_rows(
+        t,
+        &line.task,
+        &line.release,
+        &line.deadline,
+        line.frames,
+        &line.time,
+        bounds,
+    )
 }

@@ -11,6 +11,7 @@ ghost use Rattle.judging.specs.Places.{lookIn, beforeIn, spotOf};
 ghost use Rattle.judging.specs.Rows.{noRow, rowKeeps, keepsAt, heldRow};
 use crate::naming::Spot;
 use crate::table::Table;
+use bus::numbers::divides;
 use units::Ticks;
 
 pub enum Rule {
@@ -50,16 +51,6 @@ pub struct Bounds {
     pub period: Ticks,
     pub resolution: Ticks,
     pub gap: Ticks,
-}
-
-// a divides b; 0 divides 0 alone.
-fn divides(a: u32, b: u32) -> bool
-    ensures { λ r. ⌜ r ≡ laws.divides a b ⌝ }
-{
-    if a == 0 {
-        return b == 0;
-    }
-    b % a == 0
 }
 
 // Nothing wraps: the sum of two times has 64 bits.
