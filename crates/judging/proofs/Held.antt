@@ -1,0 +1,154 @@
+-- The rules on rows that stand in arrays are the rules on the table that the arrays stand for.
+-- Assumes nothing.
+use mathlib.Core.Path.{_≡_, refl, sym, ap, _∙_}
+use mathlib.Core.Bool.{Bool, false, not}
+use mathlib.Core.List.{List}
+use mathlib.Core.Option.{Option, none, some}
+use native.Mathlib.Nat.{zero-add}
+use native.Mathlib.Omega.{arith}
+use lib.Dec.{ltb}
+use lib.ListN.{length, getD, replicate, length-replicate}
+use borrow.Author.Tests.{lt-ltb, ltb-true}
+use Prim.Native.Nat.{ℕ, zero, suc, _+_, _-_, _≤_, _<_}
+use Rattle.laws.specs.Res.{Res, _>>_, at}
+use Rattle.laws.specs.Lists.{firstBad, tab, upTo, lastD}
+use Rattle.laws.specs.Loops.{stores}
+use Rattle.laws.proofs.Lists.{both-left, length-tab}
+use Rattle.laws.proofs.Loops.{stores-at, firstBad-upTo-passes}
+use Rattle.rules.specs.Frames.{ControlRow, noControlRow}
+use Rattle.rules.specs.Table.{DataRow}
+use Rattle.rules.specs.Checker.{rowAt, deadlineKept, stopBefore, firstRow, rowsKeep}
+use Rattle.judging.specs.declared.table.Table.{Table}
+use Rattle.judging.specs.declared.rows.Row.{Row}
+use Rattle.judging.specs.declared.rows.Rule.the-variants.{Time, Release, Deadline, Gap}
+use Rattle.judging.specs.declared.rows.Bounds.{Bounds}
+use Rattle.judging.specs.Places.{Numbered, lookIn, beforeIn, numberOf, numberAt, marks, isNew}
+use Rattle.judging.specs.Memory.{controlIn, rowSeen, seen}
+use Rattle.judging.specs.Rows.{noRow, rowKeeps, keepsAt, byRule, byRules, heldRow}
+use Rattle.judging.specs.Judged.{namesNew, timeFits, releaseFits, gapFits, timesJudged, rowsJudged, frameIn, framesIn, timeIn}
+use Rattle.judging.proofs.Places.{same-bad, last-tab}
+use Rattle.judging.proofs.Names.{named-frame, named-task, row-at, new-names}
+
+look-within : (room : ℕ) (a : List ℕ) (k : ℕ) → k < room → lookIn room a k ≡ getD a k 0
+unfolding lookIn
+look-within room a k h = rw (lt-ltb k room h)
+
+-- the stop of the last control row
+unfoldable pub lastStop : Table → ℕ
+lastStop t = lastD (tab (controlIn (t .nodes) (t .begins) (t .ends)) 0 (t .control)) noControlRow .stop
+
+pub last-stop : (t : Table) → beforeIn (t .ends) 0 (t .control) ≡ lastStop t
+unfolding lastStop controlIn
+last-stop t = here (t .control)
+  where
+    here : (n : ℕ) → beforeIn (t .ends) 0 n ≡ lastD (tab (controlIn (t .nodes) (t .begins) (t .ends)) 0 n) noControlRow .stop
+    here zero = refl
+    here (suc k) =
+        ap (λ (j : ℕ). getD (t .ends) j 0) (sym (zero-add k))
+        ∙ ap (λ (r : ControlRow). r .stop) (sym (last-tab (controlIn (t .nodes) (t .begins) (t .ends)) 0 k noControlRow))
+
+module _ (tasks releases deadlines times : List ℕ) (frames : ℕ) (n : Numbered tasks deadlines frames) (b : Bounds) (t : Table)
+    (room : t .rows ≤ 256) (last : ℕ) (isLast : last ≡ lastStop t) where
+  -- the number of each row's frame
+  abbrev numbered : List ℕ
+  numbered = stores (replicate 256 0) (numberAt tasks deadlines frames (t .tasks) (t .deadlines)) (t .rows)
+
+  abbrev rows : List Row
+  rows = stores (replicate 256 noRow) (heldRow t numbered releases times last) (t .rows)
+
+  pub number-given : (j : ℕ) → j < t .rows → getD numbered j 0 ≡ numberOf tasks deadlines frames (rowSeen t j .task) (rowSeen t j .deadline)
+  unfolding numberAt rowSeen
+  number-given j h =
+      stores-at (replicate 256 0) (numberAt tasks deadlines frames (t .tasks) (t .deadlines)) (t .rows) j 0 h
+      (rw (length-replicate {A = ℕ} 256 0) room)
+
+  held-at : (k : ℕ) → k < t .rows → getD rows k noRow ≡ heldRow t numbered releases times last k
+  held-at k h =
+      stores-at (replicate 256 noRow) (heldRow t numbered releases times last) (t .rows) k noRow h
+      (rw (length-replicate 256 noRow) room)
+
+  seen-at : (k : ℕ) → k < t .rows → rowAt (seen t) k ≡ rowSeen t k
+  unfolding seen
+  seen-at k h =
+      row-at tasks releases deadlines frames n (rowSeen t) (t .rows) numbered number-given (seen t) refl k h
+
+  module _ (k : ℕ) (h : k < t .rows) (named : getD numbered k 0 < frames) where
+    known : numberOf tasks deadlines frames (rowSeen t k .task) (rowSeen t k .deadline) < frames
+    known = rw (sym (number-given k h)) named
+
+    time-same : keepsAt Time b rows k ≡ timeFits (framesIn tasks releases deadlines frames) (timeIn times) b (seen t) k
+    unfolding keepsAt rowKeeps timeFits heldRow timeIn rowSeen
+    time-same =
+        rw (held-at k h, seen-at k h, named-task tasks releases deadlines frames (rowSeen t k) known)
+
+    release-same : keepsAt Release b rows k ≡ releaseFits (framesIn tasks releases deadlines frames) (seen t) k
+    unfolding keepsAt rowKeeps releaseFits heldRow frameIn rowSeen
+    release-same =
+        rw (
+          held-at k h,
+          seen-at k h,
+          named-frame tasks releases deadlines frames (rowSeen t k) known,
+          look-within 256 releases (getD numbered k 0) (omega (arith, n .room)),
+          number-given k h,
+        )
+
+  deadline-same : (k : ℕ) → k < t .rows → keepsAt Deadline b rows k ≡ deadlineKept (seen t) k
+  unfolding keepsAt rowKeeps deadlineKept heldRow rowSeen
+  deadline-same k h = rw (held-at k h, seen-at k h)
+
+  before-same : (k : ℕ) → k < t .rows → beforeIn (t .stops) last k ≡ stopBefore (seen t) k
+  unfolding seen lastStop rowSeen
+  before-same zero h = isLast
+  before-same (suc k) h = sym (ap (λ (r : DataRow). r .stop) (seen-at k (omega arith)))
+
+  gap-same : (k : ℕ) → k < t .rows → keepsAt Gap b rows k ≡ gapFits b (seen t) k
+  unfolding keepsAt rowKeeps gapFits heldRow rowSeen
+  gap-same k h = rw (held-at k h, seen-at k h, before-same k h)
+
+  first-row : firstRow (seen t) ≡ 1 + t .control
+  unfolding firstRow seen
+  first-row = ap (λ (n : ℕ). 1 + n) (length-tab (controlIn (t .nodes) (t .begins) (t .ends)) 0 (t .control))
+
+  row-count : length (seen t .rows) ≡ t .rows
+  unfolding seen
+  row-count = length-tab (rowSeen t) 0 (t .rows)
+
+  -- a rule by places is the rule by rows
+  rows-keep : (number : ℕ) (here there : ℕ → Bool) → ((k : ℕ) → k < t .rows → here k ≡ there k)
+      → at number (1 + t .control) (firstBad here (upTo (t .rows))) ≡ rowsKeep number (seen t) there
+  unfolding rowsKeep
+  rows-keep number here there same = rw (first-row, row-count, same-bad here there (t .rows) same)
+
+  module _ (e : firstBad (isNew numbered frames) (upTo (t .rows)) ≡ none) where
+    all-named : (k : ℕ) → k < t .rows → getD numbered k 0 < frames
+    unfolding isNew
+    all-named k h =
+        ltb-true (getD numbered k 0) frames
+        (both-left (ltb (getD numbered k 0) frames) (not (getD (marks numbered k) (getD numbered k 0) false))
+        (firstBad-upTo-passes (isNew numbered frames) (t .rows) k e h))
+
+    by-rules : byRules b rows (t .rows) (1 + t .control) ≡ timesJudged (framesIn tasks releases deadlines frames) (timeIn times) b (seen t)
+    unfolding byRules byRule timesJudged
+    by-rules =
+        rw (
+          rows-keep 24 (keepsAt Time b rows) (timeFits (framesIn tasks releases deadlines frames) (timeIn times) b (seen t)) (λ k h. time-same k h (all-named k h)),
+          rows-keep 25 (keepsAt Release b rows) (releaseFits (framesIn tasks releases deadlines frames) (seen t)) (λ k h. release-same k h (all-named k h)),
+          rows-keep 26 (keepsAt Deadline b rows) (deadlineKept (seen t)) deadline-same,
+          rows-keep 27 (keepsAt Gap b rows) (gapFits b (seen t)) gap-same,
+        )
+
+  -- Rules 23 to 27 by places are rules 23 to 27.
+  pub rows-judged : _>>_ (at 23 (1 + t .control) (firstBad (isNew numbered frames) (upTo (t .rows)))) (byRules b rows (t .rows) (1 + t .control))
+      ≡ rowsJudged (framesIn tasks releases deadlines frames) (timeIn times) b (seen t)
+  unfolding rowsJudged seen
+  rows-judged =
+      here (firstBad (isNew numbered frames) (upTo (t .rows))) refl
+      ∙ ap (λ (m : Res (Unit {0})). _>>_ m (timesJudged (framesIn tasks releases deadlines frames) (timeIn times) b (seen t)))
+      (rows-keep 23 (isNew numbered frames) (namesNew (framesIn tasks releases deadlines frames) (seen t))
+      (new-names tasks releases deadlines frames n (rowSeen t) (t .rows) numbered number-given (seen t) refl))
+    where
+      here : (o : Option ℕ) → firstBad (isNew numbered frames) (upTo (t .rows)) ≡ o
+          → _>>_ (at 23 (1 + t .control) o) (byRules b rows (t .rows) (1 + t .control))
+          ≡ _>>_ (at 23 (1 + t .control) o) (timesJudged (framesIn tasks releases deadlines frames) (timeIn times) b (seen t))
+      here none e = by-rules e
+      here (some k) e = refl

@@ -1,0 +1,16 @@
+-- `judging::table::Table::empty` meets its contract: nothing in it.
+-- Assumes nothing.
+use Rattle.judging.specs.Memory.{emptyTable, layOut, noTable}
+use borrow.Author.Needs.{needs}
+use Rattle.judging.proofs.table.Table.empty.Statement.{statement}
+use Rattle.judging.proofs.table.Table.empty.Tie as tie
+
+empty-requires : tie.Need-empty-requires
+empty-requires c κs = search needs
+
+returns : tie.Need-returns
+unfolding emptyTable layOut noTable
+returns c = rw (c .empty .ensures)
+
+pub empty-spec : {M : Type 1} → statement M
+empty-spec = tie.close (tie.spec empty-requires returns)

@@ -1,0 +1,4 @@
+pub mod Places
+pub mod Memory
+pub mod Rows
+pub mod Judged
