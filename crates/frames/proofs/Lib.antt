@@ -1,3 +1,5 @@
 pub mod Meeting
 pub mod Storing
 pub mod Walking
+pub mod Laying
+pub mod FairRuns

@@ -12,53 +12,53 @@ use Rattle.laws.proofs.Laid.{sets-append}
 use Rattle.laws.proofs.Orders.{le-or-lt}
 use Rattle.rules.specs.Frames.{Frame}
 use Rattle.rules.proofs.Grid.{frame, cell, row}
-use Rattle.frames.specs.Walk.{placeOf, frameAt, framesAt, taskOf, releaseOf, deadlineOf, stored, Stored, Derived}
+use Rattle.frames.specs.Walk.{most, placeOf, frameAt, framesAt, taskOf, releaseOf, deadlineOf, stored, Stored, Derived}
 
 -- ---- one number of each frame
 
 module _ (number : Frame → ℕ) where
   none-stored : (old : List ℕ) (n : ℕ) → old ≡ stored number old n []
   unfolding stored
-  none-stored old n = rw (take-nil {A = Frame} (256 - n))
+  none-stored old n = rw (take-nil {A = Frame} (most - n))
 
-  one-stored : (old : List ℕ) (n : ℕ) (f : Frame) → n < 256 → set old n (number f) ≡ stored number old n (f ∷ [])
+  one-stored : (old : List ℕ) (n : ℕ) (f : Frame) → n < most → set old n (number f) ≡ stored number old n (f ∷ [])
   unfolding stored
   one-stored old n f h =
-      let e : 256 - n ≡ suc (255 - n) = omega arith in
-      rw (e, take-nil {A = Frame} (255 - n))
+      let e : most - n ≡ suc (most - suc n) = omega arith in
+      rw (e, take-nil {A = Frame} (most - suc n))
 
-  full-stored : (old : List ℕ) (n : ℕ) (fs : List Frame) → 256 ≤ n → old ≡ stored number old n fs
+  full-stored : (old : List ℕ) (n : ℕ) (fs : List Frame) → most ≤ n → old ≡ stored number old n fs
   unfolding stored
-  full-stored old n fs h = let e : 256 - n ≡ 0 = omega arith in rw e
+  full-stored old n fs h = let e : most - n ≡ 0 = omega arith in rw e
 
   -- what has no place left changes nothing
-  more-stored : (old : List ℕ) (n : ℕ) (fs gs : List Frame) → 256 ≤ n + length fs → stored number old n (fs ++ gs) ≡ stored number old n fs
+  more-stored : (old : List ℕ) (n : ℕ) (fs gs : List Frame) → most ≤ n + length fs → stored number old n (fs ++ gs) ≡ stored number old n fs
   unfolding stored
-  more-stored old n fs gs h = rw (take-append-le (256 - n) fs gs (omega arith))
+  more-stored old n fs gs h = rw (take-append-le (most - n) fs gs (omega arith))
 
-  behind-stored : (old : List ℕ) (n : ℕ) (fs gs : List Frame) → n + length fs < 256 → stored number old n (fs ++ gs) ≡ stored number (stored number old n fs) (n + length fs) gs
+  behind-stored : (old : List ℕ) (n : ℕ) (fs gs : List Frame) → n + length fs < most → stored number old n (fs ++ gs) ≡ stored number (stored number old n fs) (n + length fs) gs
   unfolding stored
   behind-stored old n fs gs h =
-      let k : 256 - n ≡ length fs + (256 - (n + length fs)) = omega arith in
+      let k : most - n ≡ length fs + (most - (n + length fs)) = omega arith in
       ap (λ (j : ℕ). sets old n (map number (take j (fs ++ gs)))) k
-      ∙ ap (λ (l : List Frame). sets old n (map number l)) (take-append-add fs gs (256 - (n + length fs)))
-      ∙ ap (sets old n) (map-append number fs (take (256 - (n + length fs)) gs))
-      ∙ sets-append old n (map number fs) (map number (take (256 - (n + length fs)) gs))
-      ∙ ap₂ (λ (l : List ℕ) (j : ℕ). sets l j (map number (take (256 - (n + length fs)) gs)))
-      (ap (λ (l : List Frame). sets old n (map number l)) (sym (take-all (256 - n) fs (omega arith))))
+      ∙ ap (λ (l : List Frame). sets old n (map number l)) (take-append-add fs gs (most - (n + length fs)))
+      ∙ ap (sets old n) (map-append number fs (take (most - (n + length fs)) gs))
+      ∙ sets-append old n (map number fs) (map number (take (most - (n + length fs)) gs))
+      ∙ ap₂ (λ (l : List ℕ) (j : ℕ). sets l j (map number (take (most - (n + length fs)) gs)))
+      (ap (λ (l : List Frame). sets old n (map number l)) (sym (take-all (most - n) fs (omega arith))))
       (ap (λ (j : ℕ). n + j) (length-map fs number))
 
-  then-stored : (old : List ℕ) (n : ℕ) (fs gs : List Frame) → stored number old n (fs ++ gs) ≡ stored number (stored number old n fs) (min 257 (n + length fs)) gs
-  then-stored old n fs gs = which (le-or-lt 256 (n + length fs))
+  then-stored : (old : List ℕ) (n : ℕ) (fs gs : List Frame) → stored number old n (fs ++ gs) ≡ stored number (stored number old n fs) (min (suc most) (n + length fs)) gs
+  then-stored old n fs gs = which (le-or-lt most (n + length fs))
     where
-      which : (256 ≤ n + length fs) ⊎ (n + length fs < 256) → stored number old n (fs ++ gs) ≡ stored number (stored number old n fs) (min 257 (n + length fs)) gs
-      which (inl h) = more-stored old n fs gs h ∙ full-stored (stored number old n fs) (min 257 (n + length fs)) gs (omega arith)
-      which (inr h) = let e : min 257 (n + length fs) ≡ n + length fs = omega arith in rw e (behind-stored old n fs gs h)
+      which : (most ≤ n + length fs) ⊎ (n + length fs < most) → stored number old n (fs ++ gs) ≡ stored number (stored number old n fs) (min (suc most) (n + length fs)) gs
+      which (inl h) = more-stored old n fs gs h ∙ full-stored (stored number old n fs) (min (suc most) (n + length fs)) gs (omega arith)
+      which (inr h) = let e : min (suc most) (n + length fs) ≡ n + length fs = omega arith in rw e (behind-stored old n fs gs h)
 
 -- ---- three numbers of each frame, and the count
 
 module _ (task release deadline : List ℕ) (n : ℕ) where
-  pub stored-nothing : n ≤ 257 → Stored task release deadline n [] task release deadline n
+  pub stored-nothing : n ≤ suc most → Stored task release deadline n [] task release deadline n
   stored-nothing h =
       record {
         tasks = none-stored taskOf task n;
@@ -67,7 +67,7 @@ module _ (task release deadline : List ℕ) (n : ℕ) where
         count = omega arith;
       }
 
-  pub stored-one : (f : Frame) → n < 256 → Stored task release deadline n (f ∷ []) (set task n (f .task)) (set release n (f .release)) (set deadline n (f .deadline)) (n + 1)
+  pub stored-one : (f : Frame) → n < most → Stored task release deadline n (f ∷ []) (set task n (f .task)) (set release n (f .release)) (set deadline n (f .deadline)) (n + 1)
   stored-one f h =
       record {
         tasks = one-stored taskOf task n f h;
@@ -76,7 +76,7 @@ module _ (task release deadline : List ℕ) (n : ℕ) where
         count = omega arith;
       }
 
-  pub stored-full : (f : Frame) → n ≡ 256 → Stored task release deadline n (f ∷ []) task release deadline 257
+  pub stored-full : (f : Frame) → n ≡ most → Stored task release deadline n (f ∷ []) task release deadline (n + 1)
   stored-full f h =
       record {
         tasks = full-stored taskOf task n (f ∷ []) (omega arith);
@@ -94,14 +94,14 @@ stored-then {task₀} {release₀} {deadline₀} {n₀ = n₀} {n} {n′} {fs} {
       tasks = b .tasks ∙ ap₂ (λ (l : List ℕ) (k : ℕ). stored taskOf l k gs) (a .tasks) (a .count) ∙ sym (then-stored taskOf task₀ n₀ fs gs);
       releases = b .releases ∙ ap₂ (λ (l : List ℕ) (k : ℕ). stored releaseOf l k gs) (a .releases) (a .count) ∙ sym (then-stored releaseOf release₀ n₀ fs gs);
       deadlines = b .deadlines ∙ ap₂ (λ (l : List ℕ) (k : ℕ). stored deadlineOf l k gs) (a .deadlines) (a .count) ∙ sym (then-stored deadlineOf deadline₀ n₀ fs gs);
-      count = let e : n ≡ min 257 (n₀ + length fs) = a .count in let f : n′ ≡ min 257 (n + length gs) = b .count in rw (length-append fs gs) (omega arith);
+      count = let e : n ≡ min (suc most) (n₀ + length fs) = a .count in let f : n′ ≡ min (suc most) (n + length gs) = b .count in rw (length-append fs gs) (omega arith);
     }
 
--- behind the 257th nothing is stored and nothing counted
+-- behind the one that has no place left nothing is stored and nothing counted
 pub stored-stop : {task₀ release₀ deadline₀ task release deadline : List ℕ} {n₀ n : ℕ} {fs : List Frame} (gs : List Frame)
-    → Stored task₀ release₀ deadline₀ n₀ fs task release deadline n → 256 < n → Stored task₀ release₀ deadline₀ n₀ (fs ++ gs) task release deadline n
+    → Stored task₀ release₀ deadline₀ n₀ fs task release deadline n → most < n → Stored task₀ release₀ deadline₀ n₀ (fs ++ gs) task release deadline n
 stored-stop {task₀} {release₀} {deadline₀} {n₀ = n₀} {n} {fs} gs a h =
-    let e : n ≡ min 257 (n₀ + length fs) = a .count in
+    let e : n ≡ min (suc most) (n₀ + length fs) = a .count in
     record {
       tasks = a .tasks ∙ sym (more-stored taskOf task₀ n₀ fs gs (omega arith));
       releases = a .releases ∙ sym (more-stored releaseOf release₀ n₀ fs gs (omega arith));
@@ -117,7 +117,7 @@ derived {n = n} {fs} a =
       tasks = a .tasks;
       releases = a .releases;
       deadlines = a .deadlines;
-      count = let e : n ≡ min 257 (0 + length fs) = a .count in omega arith;
+      count = let e : n ≡ min (suc most) (0 + length fs) = a .count in omega arith;
     }
 
 -- ---- rows
@@ -139,19 +139,19 @@ row-rest f d t h = let e : 32 ≡ t + (32 - t) = omega arith in ap (row f d 0) e
 -- ---- the ways of a place
 
 module _ (tasks releases deadlines : List ℕ) (t d b n : ℕ) where
-  pub put-nothing : b ≡ 0 → n ≤ 256 → Stored tasks releases deadlines n (frameAt t d b) tasks releases deadlines n
+  pub put-nothing : b ≡ 0 → n ≤ most → Stored tasks releases deadlines n (frameAt t d b) tasks releases deadlines n
   unfolding frameAt
   put-nothing e h = rw e (stored-nothing tasks releases deadlines n (omega arith))
 
-  pub put-full : (b ≡ 0 → ⊥) → n ≡ 256 → Stored tasks releases deadlines n (frameAt t d b) tasks releases deadlines 257
+  pub put-full : (b ≡ 0 → ⊥) → n ≡ most → Stored tasks releases deadlines n (frameAt t d b) tasks releases deadlines (n + 1)
   unfolding frameAt
   put-full h e = go b h
     where
-      go : (b : ℕ) → (b ≡ 0 → ⊥) → Stored tasks releases deadlines n (cell t d b) tasks releases deadlines 257
+      go : (b : ℕ) → (b ≡ 0 → ⊥) → Stored tasks releases deadlines n (cell t d b) tasks releases deadlines (n + 1)
       go zero h = absurd (h refl)
       go (suc r) h = stored-full tasks releases deadlines n (frame t r d) e
 
-  pub put-one : (b ≡ 0 → ⊥) → (n ≡ 256 → ⊥) → n ≤ 256 → {u : ℕ} → u ≡ t
+  pub put-one : (b ≡ 0 → ⊥) → (n ≡ most → ⊥) → n ≤ most → {u : ℕ} → u ≡ t
       → Stored tasks releases deadlines n (frameAt t d b) (set tasks n u) (set releases n (b - 1)) (set deadlines n d) (n + 1)
   unfolding frameAt
   put-one h e w {u} q = go b h
@@ -166,10 +166,10 @@ module _ (tasks₀ releases₀ deadlines₀ best : List ℕ) (d count : ℕ) whe
   -- the places below t are stored
   pub record Emitted (tasks releases deadlines : List ℕ) (n t : ℕ) : Type 0 where
     pub within : t ≤ 32
-    pub room : n ≤ 256
+    pub room : n ≤ most
     pub so-far : Stored tasks₀ releases₀ deadlines₀ count (row (placeOf best) d 0 t) tasks releases deadlines n
 
-  pub emitted-none : count ≤ 256 → Emitted tasks₀ releases₀ deadlines₀ count 0
+  pub emitted-none : count ≤ most → Emitted tasks₀ releases₀ deadlines₀ count 0
   emitted-none h =
       record { within = omega arith; room = h; so-far = stored-nothing tasks₀ releases₀ deadlines₀ count (omega arith) }
 
@@ -180,11 +180,11 @@ module _ (tasks₀ releases₀ deadlines₀ best : List ℕ) (d count : ℕ) whe
   emitted-turn {t = t} e s = rw (row-more (placeOf best) d t) (stored-then (e .so-far) s)
 
   pub emitted-more : {tasks releases deadlines tasks′ releases′ deadlines′ : List ℕ} {n n′ t : ℕ} → Emitted tasks releases deadlines n t
-      → Stored tasks releases deadlines n (frameAt t d (getD best t 0)) tasks′ releases′ deadlines′ n′ → t < 32 → n′ ≤ 256 → Emitted tasks′ releases′ deadlines′ n′ (t + 1)
+      → Stored tasks releases deadlines n (frameAt t d (getD best t 0)) tasks′ releases′ deadlines′ n′ → t < 32 → n′ ≤ most → Emitted tasks′ releases′ deadlines′ n′ (t + 1)
   emitted-more e s h w = record { within = omega arith; room = w; so-far = emitted-turn e s }
 
   pub emitted-stop : {tasks releases deadlines tasks′ releases′ deadlines′ : List ℕ} {n n′ t : ℕ} → Emitted tasks releases deadlines n t
-      → Stored tasks releases deadlines n (frameAt t d (getD best t 0)) tasks′ releases′ deadlines′ n′ → t < 32 → 256 < n′ → Stored tasks₀ releases₀ deadlines₀ count (framesAt best d) tasks′ releases′ deadlines′ n′
+      → Stored tasks releases deadlines n (frameAt t d (getD best t 0)) tasks′ releases′ deadlines′ n′ → t < 32 → most < n′ → Stored tasks₀ releases₀ deadlines₀ count (framesAt best d) tasks′ releases′ deadlines′ n′
   unfolding framesAt
   emitted-stop {t = t} e s h w =
       rw (row-rest (placeOf best) d (t + 1) (omega arith)) (stored-stop (row (placeOf best) d (0 + (t + 1)) (32 - (t + 1))) (emitted-turn e s) w)

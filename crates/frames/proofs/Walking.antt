@@ -13,7 +13,7 @@ use Rattle.laws.specs.Numbers.{divides}
 use Rattle.laws.proofs.Lists.{both-left, both-right, getD-tab}
 use Rattle.rules.specs.Frames.{Run, Frame, messages, framesOf}
 use Rattle.rules.proofs.Grid.{row, row-same, grid, grid-nothing, grid-append, latest, below, frames-grid, next-start, next-on, next-divides}
-use Rattle.frames.specs.Walk.{runAt, runsIn, isFair, Due, leastOf, latestOf, placeOf, framesAt, Stored, Derived}
+use Rattle.frames.specs.Walk.{most, runAt, runsIn, isFair, Due, leastOf, latestOf, placeOf, framesAt, Stored, Derived}
 use Rattle.frames.proofs.Meeting.{fair-run, fair-at}
 use Rattle.frames.proofs.Storing.{stored-nothing, stored-then, stored-stop, derived}
 
@@ -104,7 +104,7 @@ module _ (task period worst : List ℕ) where
       -- the frames at the deadlines before d are stored, and d is the least of the next deadlines
       pub record Walked (tasks releases deadlines next : List ℕ) (count d : ℕ) : Type 0 where
         pub begun : 0 < d
-        pub room : count ≤ 256
+        pub room : count ≤ most
         pub within : d ≤ suc cycle
         pub places : length next ≡ 64
         pub due : Due period next runs d
@@ -114,7 +114,7 @@ module _ (task period worst : List ℕ) where
       all-frames fair = frames-grid cycle 32 (runsIn task period worst runs) (fair-below cycle (runsIn task period worst runs) fair)
 
       -- the walk goes on at the least of the next deadlines
-      goes-on : (tasks releases deadlines next : List ℕ) (count d e : ℕ) → 0 < d → d ≤ suc cycle → count ≤ 256 → length next ≡ 64 → Due period next runs d
+      goes-on : (tasks releases deadlines next : List ℕ) (count d e : ℕ) → 0 < d → d ≤ suc cycle → count ≤ most → length next ≡ 64 → Due period next runs d
           → Stored tasks₀ releases₀ deadlines₀ 0 (framesTo (d - 1)) tasks releases deadlines count → e ≡ leastOf next (cycle + 1) runs
           → Walked tasks releases deadlines next count e
       goes-on tasks releases deadlines next count d e p w r l due s q =
@@ -144,7 +144,7 @@ module _ (task period worst : List ℕ) where
 
       pub walked-turn : {tasks releases deadlines next tasks′ releases′ deadlines′ next′ best : List ℕ} {count count′ d e : ℕ} → Walked tasks releases deadlines next count d
           → best ≡ latestOf (runsIn task period worst runs) d → Stored tasks releases deadlines count (framesAt best d) tasks′ releases′ deadlines′ count′
-          → d ≤ cycle → count′ ≤ 256 → length next′ ≡ 64 → Due period next′ runs (suc d) → e ≡ leastOf next′ (cycle + 1) runs
+          → d ≤ cycle → count′ ≤ most → length next′ ≡ 64 → Due period next′ runs (suc d) → e ≡ leastOf next′ (cycle + 1) runs
           → Walked tasks′ releases′ deadlines′ next′ count′ e
       walked-turn {tasks′ = tasks′} {releases′} {deadlines′} {next′} {best} {count′ = count′} {d} {e} w b s h r l due q =
           let o : suc d - 1 ≡ d = omega arith in
@@ -153,7 +153,7 @@ module _ (task period worst : List ℕ) where
       pub walked-stop : {tasks releases deadlines next tasks′ releases′ deadlines′ best : List ℕ} {count count′ d : ℕ} → all (isFair cycle) (runsIn task period worst runs) ≡ true
           → Walked tasks releases deadlines next count d
           → best ≡ latestOf (runsIn task period worst runs) d → Stored tasks releases deadlines count (framesAt best d) tasks′ releases′ deadlines′ count′
-          → d ≤ cycle → 256 < count′ → Derived tasks₀ releases₀ deadlines₀ (framesOf (messages cycle (runsIn task period worst runs))) tasks′ releases′ deadlines′ count′
+          → d ≤ cycle → most < count′ → Derived tasks₀ releases₀ deadlines₀ (framesOf (messages cycle (runsIn task period worst runs))) tasks′ releases′ deadlines′ count′
       walked-stop {d = d} fair w b s h full =
           let j : cycle ≡ d + (cycle - d) = omega arith in
           derived

@@ -62,6 +62,10 @@ frameAt t d b = cell t d b
 unfoldable pub framesAt : List ℕ → ℕ → List Frame
 framesAt best d = row (placeOf best) d 0 32
 
+-- the places for frames
+abbrev pub most : ℕ
+most = 256
+
 -- a frame's numbers
 abbrev pub taskOf : Frame → ℕ
 taskOf f = f .task
@@ -72,20 +76,20 @@ releaseOf f = f .release
 abbrev pub deadlineOf : Frame → ℕ
 deadlineOf f = f .deadline
 
--- One number of each frame, stored from place n on, as far as 256 places reach.
+-- One number of each frame, stored from place n on, as far as the places reach.
 unfoldable pub stored : (Frame → ℕ) → List ℕ → ℕ → List Frame → List ℕ
-stored number old n fs = sets old n (map number (take (256 - n) fs))
+stored number old n fs = sets old n (map number (take (most - n) fs))
 
--- What is left of three arrays and a count when frames are stored from place n₀ on. The count stops at 257.
+-- What is left of three arrays and a count when frames are stored from place n₀ on. The count stops one behind the last place.
 pub record Stored (task₀ release₀ deadline₀ : List ℕ) (n₀ : ℕ) (fs : List Frame) (task release deadline : List ℕ) (n : ℕ) : Type 0 where
   pub tasks : task ≡ stored taskOf task₀ n₀ fs
   pub releases : release ≡ stored releaseOf release₀ n₀ fs
   pub deadlines : deadline ≡ stored deadlineOf deadline₀ n₀ fs
-  pub count : n ≡ min 257 (n₀ + length fs)
+  pub count : n ≡ min (suc most) (n₀ + length fs)
 
--- The first 256 frames stand in front; the count is that of all, or 257 for more than 256.
+-- The first frames stand in front, as many as there are places; the count is that of all, or one more than there are places.
 pub record Derived (task₀ release₀ deadline₀ : List ℕ) (fs : List Frame) (task release deadline : List ℕ) (n : ℕ) : Type 0 where
-  pub tasks : task ≡ sets task₀ 0 (map taskOf (take 256 fs))
-  pub releases : release ≡ sets release₀ 0 (map releaseOf (take 256 fs))
-  pub deadlines : deadline ≡ sets deadline₀ 0 (map deadlineOf (take 256 fs))
-  pub count : n ≡ min 257 (length fs)
+  pub tasks : task ≡ sets task₀ 0 (map taskOf (take most fs))
+  pub releases : release ≡ sets release₀ 0 (map releaseOf (take most fs))
+  pub deadlines : deadline ≡ sets deadline₀ 0 (map deadlineOf (take most fs))
+  pub count : n ≡ min (suc most) (length fs)

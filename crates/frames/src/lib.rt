@@ -6,7 +6,11 @@ ghost use lib.ListN.{length};
 ghost use Prim.Native.Nat.{suc, _+_, _-_, _≤_, _<_, min, max};
 ghost use Rattle.laws.specs.Lists.{all};
 ghost use Rattle.rules.specs.Frames.{messages, framesOf};
-ghost use Rattle.frames.specs.Walk.{runsIn, isFair, Ready, Due, Met, leastOf, latestOf, frameAt, framesAt, Stored, Derived};
+ghost use Rattle.frames.specs.Walk.{most, runsIn, isFair, Ready, Due, Met, leastOf, latestOf, frameAt, framesAt, Stored, Derived};
+
+pub mod laid;
+
+use laid::Frames;
 
 fn larger(a: u32, b: u32) -> u32
     ensures { λ r. ⌜ r ≡ max a b ⌝ }
@@ -122,19 +126,19 @@ fn put(
     d: u32,
     b: u32,
     n: usize,
-    tasks: &mut [u8; 256],
-    releases: &mut [u32; 256],
-    deadlines: &mut [u32; 256],
+    tasks: &mut [u8; Frames::MOST],
+    releases: &mut [u32; Frames::MOST],
+    deadlines: &mut [u32; Frames::MOST],
 ) -> usize
     requires { ⌜ t < 32 ⌝ }
-    requires { ⌜ n ≤ 256 ⌝ }
+    requires { ⌜ n ≤ most ⌝ }
     ensures { λ r. ⌜ Stored (now (tasks .entry)) (now (releases .entry)) (now (deadlines .entry)) n (frameAt t d b) (now (tasks .exit)) (now (releases .exit)) (now (deadlines .exit)) r ⌝ }
 {
     if b == 0 {
         return n;
     }
-    if n == 256 {
-        return 257;
+    if n == Frames::MOST {
+        return n + 1;
     }
     tasks[n] = narrow(t);
     releases[n] = b - 1;
@@ -147,18 +151,18 @@ fn emit(
     best: &[u32; 32],
     d: u32,
     count: usize,
-    tasks: &mut [u8; 256],
-    releases: &mut [u32; 256],
-    deadlines: &mut [u32; 256],
+    tasks: &mut [u8; Frames::MOST],
+    releases: &mut [u32; Frames::MOST],
+    deadlines: &mut [u32; Frames::MOST],
 ) -> usize
-    requires { ⌜ count ≤ 256 ⌝ }
+    requires { ⌜ count ≤ most ⌝ }
     ensures { λ r. ⌜ Stored (now (tasks .entry)) (now (releases .entry)) (now (deadlines .entry)) count (framesAt (now (best .entry)) d) (now (tasks .exit)) (now (releases .exit)) (now (deadlines .exit)) r ⌝ }
 {
     let mut n = count;
     let mut t = 0;
     while t < 32 {
         n = put(t, d, best[t], n, tasks, releases, deadlines);
-        if n > 256 {
+        if n > Frames::MOST {
             return n;
         }
         t += 1;
@@ -167,15 +171,15 @@ fn emit(
 }
 
 // The frames by number. More than 256 are not stored: the count then is 257.
-pub fn derive(
-    task: &[u8; 64],
-    period: &[u32; 64],
-    worst: &[u32; 64],
+pub fn derive<'a>(
+    task: &'a [u8; 64],
+    period: &'a [u32; 64],
+    worst: &'a [u32; 64],
     runs: usize,
     cycle: u32,
-    tasks: &mut [u8; 256],
-    releases: &mut [u32; 256],
-    deadlines: &mut [u32; 256],
+    tasks: &mut [u8; Frames::MOST],
+    releases: &mut [u32; Frames::MOST],
+    deadlines: &mut [u32; Frames::MOST],
 ) -> usize
     requires { ⌜ runs ≤ 64 ⌝ }
     requires { ⌜ cycle ≤ 1000000 ⌝ }
@@ -188,7 +192,7 @@ pub fn derive(
     while d <= cycle {
         let best = meet(task, period, worst, runs, cycle, d, &mut next);
         count = emit(&best, d, count, tasks, releases, deadlines);
-        if count > 256 {
+        if count > Frames::MOST {
             return count;
         }
         d = least(&next, runs, cycle + 1);

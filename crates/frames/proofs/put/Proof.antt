@@ -7,6 +7,9 @@ use Rattle.frames.proofs.put.Tie as tie
 returns : tie.Need-returns
 returns c = put-nothing _ _ _ _ _ _ _ (c .if1 .taken) (omega arith)
 
+add-result : tie.Need-add-result
+add-result c = search needs
+
 returns-2 : tie.Need-returns-2
 returns-2 c = put-full _ _ _ _ _ _ _ (c .before .if1 .left) (c .if2 .taken)
 
@@ -31,8 +34,8 @@ mul-deadlines c = search needs
 element-write-deadlines : tie.Need-element-write-deadlines
 element-write-deadlines c = search needs
 
-add-result : tie.Need-add-result
-add-result c = search needs
+add-result-2 : tie.Need-add-result-2
+add-result-2 c = search needs
 
 returns-3 : tie.Need-returns-3
 returns-3 c = put-one _ _ _ _ _ _ _ (c .before .before .if1 .left) (c .before .if2 .left) (omega arith) (c .narrow .ensures)
@@ -42,6 +45,7 @@ put-spec =
     tie.close
     (tie.spec
     returns
+    add-result
     returns-2
     narrow-requires
     element-write-tasks
@@ -50,5 +54,5 @@ put-spec =
     element-write-releases
     mul-deadlines
     element-write-deadlines
-    add-result
+    add-result-2
     returns-3)

@@ -1,0 +1,84 @@
+-- What the walk leaves in arrays of zeros is the struct; and the struct stands for the frames that were laid.
+use mathlib.Core.Path.{_≡_, refl, sym, ap, _∙_}
+use mathlib.Core.List.{List, [], _∷_, _++_, map}
+use mathlib.Core.Logic.{_⊎_, inl, inr}
+use native.Mathlib.Nat.{zero-add, eq-or-lt-of-le}
+use native.Mathlib.Omega.{arith}
+use lib.ListN.{length, getD, take, drop, replicate, length-take, length-replicate, List·getD-map}
+use lib.Seq.{sets, sets-eq, ext-getD}
+use Prim.Native.Nat.{ℕ, zero, suc, _+_, _≤_, _<_, min}
+use Rattle.laws.specs.Lists.{tab}
+use Rattle.laws.specs.Loops.{padTo}
+use Rattle.laws.proofs.Members.{pairs-getD}
+use Rattle.laws.proofs.Lists.{length-tab, getD-tab, padTo-none, getD-padTo}
+use Rattle.rules.specs.Frames.{Frame, framesOf}
+use Rattle.rules.proofs.FramesOf.{before-case, frames-of}
+use Rattle.rules.proofs.Grid.{frame}
+use Rattle.frames.specs.declared.laid.Frames.{Frames}
+use Rattle.frames.specs.Walk.{most, taskOf, releaseOf, deadlineOf, Derived}
+use Rattle.frames.specs.Laid.{column, framesLaid, frameIn, framesSeen}
+
+-- ---- laid into zeros
+
+map-take : (number : Frame → ℕ) (n : ℕ) (fs : List Frame) → map number (take n fs) ≡ take n (map number fs)
+map-take number zero fs = refl
+map-take number (suc n) [] = refl
+map-take number (suc n) (f ∷ fs) = ap (λ (l : List ℕ). number f ∷ l) (map-take number n fs)
+
+padded : (n : ℕ) (l : List ℕ) → padTo n 0 l ≡ take n l ++ drop (length (take n l)) (replicate n 0)
+padded zero l = refl
+padded (suc n) [] = padTo-none (suc n) 0
+padded (suc n) (x ∷ l) = ap (λ (r : List ℕ). x ∷ r) (padded n l)
+
+laid-in-zeros : (n : ℕ) (l : List ℕ) → sets (replicate n 0) 0 (take n l) ≡ padTo n 0 l
+laid-in-zeros n l =
+    let h : length (take n l) ≤ n = rw (length-take n l) (omega arith) in
+    let z : 0 + length (take n l) ≡ length (take n l) = zero-add (length (take n l)) in
+    sets-eq (take n l) (replicate n 0) 0 (rw (length-replicate {A = ℕ} n 0, z) h)
+    ∙ ap (λ (k : ℕ). take n l ++ drop k (replicate n 0)) z ∙ sym (padded n l)
+
+column-is : (number : Frame → ℕ) (fs : List Frame) → sets (replicate most 0) 0 (map number (take most fs)) ≡ column number fs
+unfolding column
+column-is number fs = ap (sets (replicate most 0) 0) (map-take number most fs) ∙ laid-in-zeros most (map number fs)
+
+pub laid-is : {tasks releases deadlines : List ℕ} {n : ℕ} {fs : List Frame} → Derived (replicate most 0) (replicate most 0) (replicate most 0) fs tasks releases deadlines n
+    → _≡_ {A = Frames} (record { count = n; tasks = tasks; releases = releases; deadlines = deadlines }) (framesLaid fs)
+unfolding framesLaid
+laid-is {fs = fs} d =
+    rw (d .count, d .tasks ∙ column-is taskOf fs, d .releases ∙ column-is releaseOf fs, d .deadlines ∙ column-is deadlineOf fs)
+
+-- ---- the struct stands for what was laid
+
+column-at : (number : Frame → ℕ) (fs : List Frame) (k : ℕ) → number (frame 0 0 0) ≡ 0 → length fs ≤ most → k < length fs → getD (column number fs) k 0 ≡ number (getD fs k (frame 0 0 0))
+unfolding column
+column-at number fs k z h w =
+    getD-padTo most 0 (map number fs) k (omega arith) ∙ ap (getD (map number fs) k) (sym z) ∙ List·getD-map number fs k (frame 0 0 0)
+
+pub laid-seen : (fs : List Frame) → length fs ≤ most → framesSeen (framesLaid fs) ≡ fs
+unfolding framesSeen framesLaid frameIn
+laid-seen fs h = let e : min (suc most) (length fs) ≡ length fs = omega arith in ap (tab (frameIn (framesLaid fs)) 0) e ∙ ext-getD (frame 0 0 0) (tab at 0 (length fs)) fs (length-tab at 0 (length fs)) (λ k w. here k (rw (length-tab at 0 (length fs)) at w))
+  where
+    at : ℕ → Frame
+    at = frameIn (framesLaid fs)
+
+    here : (k : ℕ) → k < length fs → getD (tab at 0 (length fs)) k (frame 0 0 0) ≡ getD fs k (frame 0 0 0)
+    here k w =
+        getD-tab at 0 (length fs) k (frame 0 0 0) w
+        ∙ rw (zero-add k, column-at taskOf fs k refl h w, column-at releaseOf fs k refl h w, column-at deadlineOf fs k refl h w)
+
+-- ---- the deadlines rise
+
+pub deadlines-rise : (ms : List Frame) → length (framesOf ms) ≤ most → (i j : ℕ) → i ≤ j → j < length (framesOf ms) → getD (framesLaid (framesOf ms) .deadlines) i 0 ≤ getD (framesLaid (framesOf ms) .deadlines) j 0
+unfolding framesLaid
+deadlines-rise ms h i j a b = which (eq-or-lt-of-le a)
+  where
+    fs : List Frame
+    fs = framesOf ms
+
+    which : (i ≡ j) ⊎ (i < j) → getD (column deadlineOf fs) i 0 ≤ getD (column deadlineOf fs) j 0
+    which (inl e) = rw e (omega arith)
+    which (inr l) =
+        let x : Frame = getD fs i (frame 0 0 0) in
+        let y : Frame = getD fs j (frame 0 0 0) in
+        let q : x .deadline ≤ y .deadline = before-case x y (pairs-getD (frame 0 0 0) (frames-of ms .sorted) i j l b) (λ s. omega arith) (λ e s. omega arith) in
+        rw (column-at deadlineOf fs i refl h (omega arith), column-at deadlineOf fs j refl h b) q

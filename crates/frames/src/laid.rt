@@ -1,0 +1,52 @@
+// The frames by number in memory.
+ghost use mathlib.Core.Path.{_≡_};
+ghost use mathlib.Core.Bool.{true};
+ghost use Prim.Native.Nat.{_≤_};
+ghost use Rattle.laws.specs.Lists.{all};
+ghost use Rattle.rules.specs.Frames.{messages, framesOf};
+ghost use Rattle.cycle.specs.Runs.{runsSeen};
+ghost use Rattle.frames.specs.Walk.{isFair};
+ghost use Rattle.frames.specs.Laid.{framesLaid};
+use crate::derive;
+use cycle::runs::Runs;
+use units::Ticks;
+
+// An array for each number of a frame, zeros behind. The count is one more than there are places where there are too many frames.
+pub struct Frames {
+    pub count: usize,
+    pub tasks: [u8; Frames::MOST],
+    pub releases: [u32; Frames::MOST],
+    pub deadlines: [u32; Frames::MOST],
+}
+
+impl Frames {
+    pub const MOST: usize = 256;
+
+    pub fn of(runs: Runs, period: Ticks) -> Frames
+        requires { ⌜ runs .count ≤ 64 ⌝ }
+        requires { ⌜ period .0 ≤ 1000000 ⌝ }
+        requires { ⌜ all (isFair (period .0)) (runsSeen runs) ≡ true ⌝ }
+        ensures { λ r. ⌜ r ≡ framesLaid (framesOf (messages (period .0) (runsSeen runs))) ⌝ }
+    {
+        let n = runs.count;
+        let mut tasks = [0; Frames::MOST];
+        let mut releases = [0; Frames::MOST];
+        let mut deadlines = [0; Frames::MOST];
+        let count = derive(
+            &runs.tasks,
+            &runs.periods,
+            &runs.worsts,
+            n,
+            period.0,
+            &mut tasks,
+            &mut releases,
+            &mut deadlines,
+        );
+        Frames {
+            count: count,
+            tasks: tasks,
+            releases: releases,
+            deadlines: deadlines,
+        }
+    }
+}
