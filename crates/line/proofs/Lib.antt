@@ -1,3 +1,4 @@
 pub mod Scans
 pub mod Small
 pub mod Built
+pub mod Ways

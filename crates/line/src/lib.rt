@@ -239,3 +239,32 @@ fn line_of(p: Plan, period: u32, end: Span, control: Control, frames: Frames) ->
         deadline: deadline,
     }
 }
+
+// Refusals 10 and 11 of a plan to which 6 to 9 do not apply, and its line.
+fn closed(p: Plan, senders: Senders, period: u32, frames: Frames) -> Laid
+    requires { ⌜ PlanKept (seen p) ⌝ }
+    requires { ⌜ senders ≡ sendersOf (seen p) ⌝ }
+    requires { ⌜ (period ≡ busPeriod (seen p)) × (period ≤ 1000000) ⌝ }
+    requires { ⌜ (frames ≡ framesLaid (rules.frames (seen p))) × (length (rules.frames (seen p)) ≤ 256) ⌝ }
+    requires { ⌜ layout (seen p) ≡ closing (seen p) ⌝ }
+    ensures { λ r. ⌜ Lays r (layout (seen p)) ⌝ }
+{
+    let tasks = senders.tasks;
+    let payloads = senders.payloads;
+    if !messages_fit(p, tasks) {
+        return refused(Refusal::PayloadTooLarge);
+    }
+    if !controls_fit(payloads, p.counts[2], p.bus.most.0) {
+        return refused(Refusal::PayloadTooLarge);
+    }
+    let end = control_end(p, payloads);
+    if (period as u64) < end.0 {
+        return refused(Refusal::ControlTooLong);
+    }
+    let control = control_rows(p, payloads);
+    let line = line_of(p, period, end, control, frames);
+    Laid {
+        answer: Answer::Sound,
+        line: line,
+    }
+}
