@@ -2,3 +2,4 @@ pub mod Scans
 pub mod Small
 pub mod Built
 pub mod Ways
+pub mod Framing

@@ -31,3 +31,9 @@ closing p = do
   unless 10 0 (payloadsFit p)
   unless 11 0 (leb (controlEnd p) (busPeriod p))
   ok (layoutOf p)
+
+-- refusals 9 to 11, where 6 to 8 do not apply
+unfoldable pub framing : Plan → Res Layout
+framing p = do
+  unless 9 0 (leb (length (frames p)) mostFrames)
+  closing p

@@ -9,13 +9,15 @@ ghost use Rattle.rules.specs.Plan.{theTask};
 ghost use Rattle.rules.proofs.PlanKept.{PlanKept};
 ghost use Rattle.plan.specs.Memory.{seen};
 ghost use Rattle.bus.specs.Senders.{byNumber};
-ghost use Rattle.rules.specs.Frames.{busPeriod, controlEnd, controlRows, layout, layoutOf};
+ghost use Rattle.rules.specs.Frames.{someBusTask, busPeriod, switchGrid, busRuns, controlEnd, controlRows, layout, layoutOf};
+ghost use Prim.Native.Nat.{_∣_};
+ghost use Rattle.cycle.specs.Runs.{runsLaid};
 ghost use Rattle.rules.specs.Frames as rules;
 ghost use Rattle.bus.specs.Senders.{sendersOf};
 ghost use Rattle.cycle.specs.Control.{controlLaid};
 ghost use Rattle.frames.specs.Laid.{framesLaid};
 ghost use Rattle.line.specs.Line.{noLine, taskTime, lineOf};
-ghost use Rattle.line.specs.Laying.{Lays, closing};
+ghost use Rattle.line.specs.Laying.{Lays, framing, closing};
 ghost use Rattle.line.specs.declared.Answer.the-variants.{Refused};
 ghost use Rattle.line.specs.Tests.{flagAt, messageKeeps, payloadKeeps, nodeIn, startIn, stopIn};
 use answers::Refusal;
@@ -26,6 +28,7 @@ use bus::times::sending_time;
 use cycle::control::Control;
 use cycle::control::control_end;
 use cycle::control::control_rows;
+use cycle::runs::Runs;
 use frames::laid::Frames;
 use plan::Plan;
 use plan::look::task_at;
@@ -267,4 +270,19 @@ fn closed(p: Plan, senders: Senders, period: u32, frames: Frames) -> Laid
         answer: Answer::Sound,
         line: line,
     }
+}
+
+// Refusals 9 to 11 of a plan to which 6 to 8 do not apply, and its line.
+fn framed(p: Plan, senders: Senders, runs: Runs, period: u32) -> Laid
+    requires { ⌜ PlanKept (seen p) ⌝ }
+    requires { ⌜ (someBusTask (seen p) ≡ true) × (busPeriod (seen p) ∣ switchGrid (seen p)) ⌝ }
+    requires { ⌜ (senders ≡ sendersOf (seen p)) × (runs ≡ runsLaid (busRuns (seen p))) × (period ≡ busPeriod (seen p)) ⌝ }
+    requires { ⌜ layout (seen p) ≡ framing (seen p) ⌝ }
+    ensures { λ r. ⌜ Lays r (layout (seen p)) ⌝ }
+{
+    let frames = Frames::of(runs, Ticks(period));
+    if Frames::MOST < frames.count {
+        return refused(Refusal::TooManyFrames);
+    }
+    closed(p, senders, period, frames)
 }
