@@ -27,10 +27,10 @@ module _ (f : rules.ControlRow → ℕ) (g : ControlRow → ℕ) (same : (r : ru
   unfolding rowsLaid
   rows-read rs h e =
       ext-getD 0 (tab h 0 8) (padTo 8 0 (map f rs)) (length-tab h 0 8 ∙ sym (length-padTo 8 0 (map f rs))) λ k w.
-        let w′ : k < 8 = rw (length-tab h 0 8) at w in
-        getD-tab h 0 8 k 0 w′ ∙ ap h (zero-add k) ∙ e k
-        ∙ ap g (getD-padTo 8 (rowLaid noControlRow) (map rowLaid rs) k w′ ∙ List·getD-map rowLaid rs k noControlRow)
-        ∙ same (getD rs k noControlRow) ∙ sym (List·getD-map f rs k noControlRow) ∙ ap (getD (map f rs) k) none ∙ sym (getD-padTo 8 0 (map f rs) k w′)
+      let w′ : k < 8 = rw (length-tab h 0 8) at w in
+      getD-tab h 0 8 k 0 w′ ∙ ap h (zero-add k) ∙ e k
+      ∙ ap g (getD-padTo 8 (rowLaid noControlRow) (map rowLaid rs) k w′ ∙ List·getD-map rowLaid rs k noControlRow)
+      ∙ same (getD rs k noControlRow) ∙ sym (List·getD-map f rs k noControlRow) ∙ ap (getD (map f rs) k) none ∙ sym (getD-padTo 8 0 (map f rs) k w′)
 
 module _ (rs : List rules.ControlRow) (control : Control) (is : control ≡ controlLaid rs) where
   nodes-are : tab (nodeIn control) 0 8 ≡ padTo 8 0 (map nodeOf rs)
@@ -50,14 +50,24 @@ module _ (rs : List rules.ControlRow) (control : Control) (is : control ≡ cont
   count-is = rw is
 
 pub line-is : (p : Plan) (period gap floor : ℕ) (time nodes starts stops : List ℕ) (control : Control) (f : Frames)
-  → period ≡ busPeriod p → gap ≡ gapTime (p .bus) → floor ≡ controlEnd p → time ≡ tab (taskTime p) 0 32
-  → control ≡ controlLaid (controlRows p) → nodes ≡ tab (nodeIn control) 0 8 → starts ≡ tab (startIn control) 0 8 → stops ≡ tab (stopIn control) 0 8
-  → f ≡ framesLaid (rules.frames p) → length (rules.frames p) ≤ 256
-  → _≡_ {A = Line}
+    → period ≡ busPeriod p → gap ≡ gapTime (p .bus) → floor ≡ controlEnd p → time ≡ tab (taskTime p) 0 32
+    → control ≡ controlLaid (controlRows p) → nodes ≡ tab (nodeIn control) 0 8 → starts ≡ tab (startIn control) 0 8 → stops ≡ tab (stopIn control) 0 8
+    → f ≡ framesLaid (rules.frames p) → length (rules.frames p) ≤ 256
+    → _≡_ {A = Line}
     (record {
-      period = record { 0 = period }; resolution = record { 0 = p .bus .resolution }; gap = record { 0 = gap }; floor = record { 0 = floor };
-      time = time; controls = control .count; nodes = nodes; starts = starts; stops = stops;
-      frames = f .count; task = f .tasks; release = f .releases; deadline = f .deadlines
+      period = record { 0 = period };
+      resolution = record { 0 = p .bus .resolution };
+      gap = record { 0 = gap };
+      floor = record { 0 = floor };
+      time = time;
+      controls = control .count;
+      nodes = nodes;
+      starts = starts;
+      stops = stops;
+      frames = f .count;
+      task = f .tasks;
+      release = f .releases;
+      deadline = f .deadlines;
     })
     (lineOf (layoutOf p))
 unfolding lineOf layoutOf framesLaid column

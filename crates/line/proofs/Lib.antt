@@ -3,3 +3,4 @@ pub mod Small
 pub mod Built
 pub mod Ways
 pub mod Framing
+pub mod Cycle

@@ -42,7 +42,7 @@ module _ (p : Plan) where
   messages-are few =
       all-keep (isBusTask p) (messageFits p) (upTo (length (p .tasks)))
       ∙ all-same (λ t. cond (isBusTask p t) (messageFits p t) true) (messageKeeps (byNumber (isBusTask p)) p) (length (p .tasks))
-        (λ t w. let h : t < 256 = omega arith in sym (rw (getD-tab (isBusTask p) 0 256 t false h, zero-add)))
+      (λ t w. let h : t < 256 = omega arith in sym (rw (getD-tab (isBusTask p) 0 256 t false h, zero-add)))
 
   sender-or-none : (most n : ℕ) → cond (ltb 0 n) (leb n most) true ≡ leb n most
   sender-or-none most n = go (ltb 0 n) refl
@@ -56,31 +56,31 @@ module _ (p : Plan) where
   controls-are few =
       all-keep (isSendingNode p) (controlFits p) (upTo (p .nodes))
       ∙ all-same (λ n. cond (isSendingNode p n) (controlFits p n) true) (payloadKeeps (byNumber (controlPayload p)) (p .bus .most)) (p .nodes)
-        (λ n w.
-          let h : n < 256 = omega arith in
-          sender-or-none (p .bus .most) (controlPayload p n)
-          ∙ sym (rw (getD-tab (controlPayload p) 0 256 n 0 h, zero-add)))
+      (λ n w.
+      let h : n < 256 = omega arith in
+      sender-or-none (p .bus .most) (controlPayload p n)
+      ∙ sym (rw (getD-tab (controlPayload p) 0 256 n 0 h, zero-add)))
 
   module _ (tasks : List Bool) (payloads : List ℕ) (few : length (p .tasks) ≤ 256) (nodes : p .nodes ≤ 256)
-    (t : tasks ≡ byNumber (isBusTask p)) (c : payloads ≡ byNumber (controlPayload p)) (rest : layout p ≡ closing p)
+      (t : tasks ≡ byNumber (isBusTask p)) (c : payloads ≡ byNumber (controlPayload p)) (rest : layout p ≡ closing p)
     where
-    fit-is : payloadsFit p ≡ (all (messageKeeps tasks p) (upTo (length (p .tasks))) && all (payloadKeeps payloads (p .bus .most)) (upTo (p .nodes)))
-    unfolding payloadsFit
-    fit-is = rw (t, c) (ap₂ _&&_ (messages-are few) (controls-are nodes))
+      fit-is : payloadsFit p ≡ (all (messageKeeps tasks p) (upTo (length (p .tasks))) && all (payloadKeeps payloads (p .bus .most)) (upTo (p .nodes)))
+      unfolding payloadsFit
+      fit-is = rw (t, c) (ap₂ _&&_ (messages-are few) (controls-are nodes))
 
-    pub ten-message : all (messageKeeps tasks p) (upTo (length (p .tasks))) ≡ false → layout p ≡ refuse 10 0
-    unfolding closing
-    ten-message e = rest ∙ rw (fit-is, e)
-
-    pub ten-control : all (messageKeeps tasks p) (upTo (length (p .tasks))) ≡ true → all (payloadKeeps payloads (p .bus .most)) (upTo (p .nodes)) ≡ false → layout p ≡ refuse 10 0
-    unfolding closing
-    ten-control e f = rest ∙ rw (fit-is, e, f)
-
-    module _ (m : all (messageKeeps tasks p) (upTo (length (p .tasks))) ≡ true) (k : all (payloadKeeps payloads (p .bus .most)) (upTo (p .nodes)) ≡ true) where
-      pub eleven : busPeriod p < controlEnd p → layout p ≡ refuse 11 0
+      pub ten-message : all (messageKeeps tasks p) (upTo (length (p .tasks))) ≡ false → layout p ≡ refuse 10 0
       unfolding closing
-      eleven h = rest ∙ rw (fit-is, m, k, lt-leb (controlEnd p) (busPeriod p) h)
+      ten-message e = rest ∙ rw (fit-is, e)
 
-      pub sound : controlEnd p ≤ busPeriod p → layout p ≡ ok (layoutOf p)
+      pub ten-control : all (messageKeeps tasks p) (upTo (length (p .tasks))) ≡ true → all (payloadKeeps payloads (p .bus .most)) (upTo (p .nodes)) ≡ false → layout p ≡ refuse 10 0
       unfolding closing
-      sound h = rest ∙ rw (fit-is, m, k, le-leb (controlEnd p) (busPeriod p) h)
+      ten-control e f = rest ∙ rw (fit-is, e, f)
+
+      module _ (m : all (messageKeeps tasks p) (upTo (length (p .tasks))) ≡ true) (k : all (payloadKeeps payloads (p .bus .most)) (upTo (p .nodes)) ≡ true) where
+        pub eleven : busPeriod p < controlEnd p → layout p ≡ refuse 11 0
+        unfolding closing
+        eleven h = rest ∙ rw (fit-is, m, k, lt-leb (controlEnd p) (busPeriod p) h)
+
+        pub sound : controlEnd p ≤ busPeriod p → layout p ≡ ok (layoutOf p)
+        unfolding closing
+        sound h = rest ∙ rw (fit-is, m, k, le-leb (controlEnd p) (busPeriod p) h)

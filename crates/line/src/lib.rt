@@ -21,6 +21,7 @@ ghost use Rattle.line.specs.Laying.{Lays, framing, closing};
 ghost use Rattle.line.specs.declared.Answer.the-variants.{Refused};
 ghost use Rattle.line.specs.Tests.{flagAt, messageKeeps, payloadKeeps, nodeIn, startIn, stopIn};
 use answers::Refusal;
+use bus::numbers::divides;
 use bus::senders::Senders;
 use bus::times::Span;
 use bus::times::gap_time;
@@ -28,6 +29,9 @@ use bus::times::sending_time;
 use cycle::control::Control;
 use cycle::control::control_end;
 use cycle::control::control_rows;
+use cycle::period::bus_period;
+use cycle::period::period_divides;
+use cycle::period::switch_grid;
 use cycle::runs::Runs;
 use frames::laid::Frames;
 use plan::Plan;
@@ -285,4 +289,27 @@ fn framed(p: Plan, senders: Senders, runs: Runs, period: u32) -> Laid
         return refused(Refusal::TooManyFrames);
     }
     closed(p, senders, period, frames)
+}
+
+// Refusals 6 to 11 of a plan that was read, and its line. P is not computed before each period was tried against the grid.
+fn cycled(p: Plan) -> Laid
+    requires { ⌜ PlanKept (seen p) ⌝ }
+    ensures { λ r. ⌜ Lays r (layout (seen p)) ⌝ }
+{
+    let senders = Senders::of(p);
+    let tasks = senders.tasks;
+    let modules = senders.modules;
+    if !some_bus_task(tasks, task_count(p)) {
+        return refused(Refusal::NoBusTask);
+    }
+    let runs = Runs::of(p, tasks);
+    let grid = switch_grid(p, modules);
+    if !period_divides(runs, grid) {
+        return refused(Refusal::PeriodDoesNotDivide);
+    }
+    let period = bus_period(runs, grid);
+    if !divides(p.bus.resolution.0, period) {
+        return refused(Refusal::PeriodOffResolution);
+    }
+    framed(p, senders, runs, period)
 }
