@@ -1,6 +1,42 @@
 // What a plan asks of the bus, in arrays that can be lent: the cycle, the sending times by task, the control rows, the frames by number.
 ghost use mathlib.Core.Path.{_≡_};
-ghost use Rattle.line.specs.Line.{noLine};
+ghost use mathlib.Core.Bool.{true, cond};
+ghost use lib.Dec.{leb};
+ghost use lib.ListN.{length};
+ghost use Prim.Native.Nat.{_≤_, _<_, _^_};
+ghost use Rattle.laws.specs.Lists.{any, all, tab, upTo};
+ghost use Rattle.rules.specs.Plan.{theTask};
+ghost use Rattle.rules.proofs.PlanKept.{PlanKept};
+ghost use Rattle.plan.specs.Memory.{seen};
+ghost use Rattle.bus.specs.Senders.{byNumber};
+ghost use Rattle.rules.specs.Frames.{someBusTask, busPeriod, switchGrid, busRuns, controlEnd, controlRows, layout, layoutOf};
+ghost use Prim.Native.Nat.{_∣_};
+ghost use Rattle.cycle.specs.Runs.{runsLaid};
+ghost use Rattle.rules.specs.Frames as rules;
+ghost use Rattle.bus.specs.Senders.{sendersOf};
+ghost use Rattle.cycle.specs.Control.{controlLaid};
+ghost use Rattle.frames.specs.Laid.{framesLaid};
+ghost use Rattle.line.specs.Line.{noLine, taskTime, lineOf};
+ghost use Rattle.line.specs.Laying.{Lays, framing, closing};
+ghost use Rattle.line.specs.declared.Answer.the-variants.{Refused};
+ghost use Rattle.line.specs.Tests.{flagAt, messageKeeps, payloadKeeps, nodeIn, startIn, stopIn};
+use answers::Refusal;
+use bus::numbers::divides;
+use bus::senders::Senders;
+use bus::times::Span;
+use bus::times::gap_time;
+use bus::times::sending_time;
+use cycle::control::Control;
+use cycle::control::control_end;
+use cycle::control::control_rows;
+use cycle::period::bus_period;
+use cycle::period::period_divides;
+use cycle::period::switch_grid;
+use cycle::runs::Runs;
+use frames::laid::Frames;
+use plan::Plan;
+use plan::look::task_at;
+use plan::look::task_count;
 use units::Ticks;
 
 // `floor` is C; `time` is by task; `nodes`, `starts` and `stops` are the control rows, `controls` of them; `task`, `release` and
@@ -41,4 +77,239 @@ impl Line {
             deadline: [0; 256],
         }
     }
+}
+
+// Whether one of the first tasks is a bus task.
+fn some_bus_task(tasks: [bool; 256], count: usize) -> bool
+    requires { ⌜ count ≤ 256 ⌝ }
+    ensures { λ r. ⌜ r ≡ any (flagAt tasks) (upTo count) ⌝ }
+{
+    let mut t = 0;
+    while t < count {
+        if tasks[t] {
+            return true;
+        }
+        t += 1;
+    }
+    false
+}
+
+// Whether the message of a bus task fits the largest payload; other tasks send none.
+fn message_keeps(p: Plan, sends: bool, t: usize) -> bool
+    ensures { λ r. ⌜ r ≡ cond sends (leb (theTask (seen p) t .size) (seen p .bus .most)) true ⌝ }
+{
+    if sends {
+        let task = task_at(p, t);
+        return task.size.0 <= p.bus.most.0;
+    }
+    true
+}
+
+fn messages_fit(p: Plan, tasks: [bool; 256]) -> bool
+    ensures { λ r. ⌜ r ≡ all (messageKeeps tasks (seen p)) (upTo (length (seen p .tasks))) ⌝ }
+{
+    let count = task_count(p);
+    let mut t = 0;
+    while t < count {
+        if !message_keeps(p, tasks[t], t) {
+            return false;
+        }
+        t += 1;
+    }
+    true
+}
+
+fn wide(x: u8) -> u32
+    ensures { λ r. ⌜ r ≡ x ⌝ }
+{
+    x as u32
+}
+
+// Whether the control payloads of the first nodes fit the largest payload.
+fn controls_fit(payloads: [u8; 256], nodes: usize, most: u32) -> bool
+    requires { ⌜ nodes ≤ 256 ⌝ }
+    ensures { λ r. ⌜ r ≡ all (payloadKeeps payloads most) (upTo nodes) ⌝ }
+{
+    let mut n = 0;
+    while n < nodes {
+        if most < wide(payloads[n]) {
+            return false;
+        }
+        n += 1;
+    }
+    true
+}
+
+// The control rows, a number each.
+fn control_nodes(control: Control) -> [u8; 8]
+    ensures { λ r. ⌜ r ≡ tab (nodeIn control) 0 8 ⌝ }
+{
+    let mut nodes = [0; 8];
+    let mut k = 0;
+    while k < 8 {
+        nodes[k] = control.rows[k].node.0;
+        k += 1;
+    }
+    nodes
+}
+
+fn control_starts(control: Control) -> [u32; 8]
+    ensures { λ r. ⌜ r ≡ tab (startIn control) 0 8 ⌝ }
+{
+    let mut starts = [0; 8];
+    let mut k = 0;
+    while k < 8 {
+        starts[k] = control.rows[k].start.0;
+        k += 1;
+    }
+    starts
+}
+
+fn control_stops(control: Control) -> [u32; 8]
+    ensures { λ r. ⌜ r ≡ tab (stopIn control) 0 8 ⌝ }
+{
+    let mut stops = [0; 8];
+    let mut k = 0;
+    while k < 8 {
+        stops[k] = control.rows[k].stop.0;
+        k += 1;
+    }
+    stops
+}
+
+// The sending time of each task's message, by task.
+fn times(p: Plan) -> [u32; 32]
+    requires { ⌜ PlanKept (seen p) ⌝ }
+    ensures { λ r. ⌜ r ≡ tab (taskTime (seen p)) 0 32 ⌝ }
+{
+    let bus = p.bus;
+    let mut time = [0; 32];
+    let mut t = 0;
+    while t < 32 {
+        let task = task_at(p, t);
+        time[t] = sending_time(bus, task.size).0 as u32;
+        t += 1;
+    }
+    time
+}
+
+pub enum Answer {
+    Sound,
+    Refused(Refusal),
+}
+
+// What laying a plan out comes to, and the line beside it: none where the plan is refused.
+pub struct Laid {
+    pub answer: Answer,
+    pub line: Line,
+}
+
+fn refused(why: Refusal) -> Laid
+    ensures { λ r. ⌜ r ≡ record { answer = Refused why; line = noLine } ⌝ }
+{
+    Laid {
+        answer: Answer::Refused(why),
+        line: Line::none(),
+    }
+}
+
+// The line of a plan that passed refusals 1 to 11.
+fn line_of(p: Plan, period: u32, end: Span, control: Control, frames: Frames) -> Line
+    requires { ⌜ PlanKept (seen p) ⌝ }
+    requires { ⌜ (period ≡ busPeriod (seen p)) × (end .0 ≡ controlEnd (seen p)) × (end .0 < 2 ^ 32) ⌝ }
+    requires { ⌜ control ≡ controlLaid (controlRows (seen p)) ⌝ }
+    requires { ⌜ (frames ≡ framesLaid (rules.frames (seen p))) × (length (rules.frames (seen p)) ≤ 256) ⌝ }
+    ensures { λ r. ⌜ r ≡ lineOf (layoutOf (seen p)) ⌝ }
+{
+    let bus = p.bus;
+    let gap = gap_time(bus).0 as u32;
+    let time = times(p);
+    let nodes = control_nodes(control);
+    let starts = control_starts(control);
+    let stops = control_stops(control);
+    let task = frames.tasks;
+    let release = frames.releases;
+    let deadline = frames.deadlines;
+    Line {
+        period: Ticks(period),
+        resolution: Ticks(bus.resolution.0),
+        gap: Ticks(gap),
+        floor: Ticks(end.0 as u32),
+        time: time,
+        controls: control.count,
+        nodes: nodes,
+        starts: starts,
+        stops: stops,
+        frames: frames.count,
+        task: task,
+        release: release,
+        deadline: deadline,
+    }
+}
+
+// Refusals 10 and 11 of a plan to which 6 to 9 do not apply, and its line.
+fn closed(p: Plan, senders: Senders, period: u32, frames: Frames) -> Laid
+    requires { ⌜ PlanKept (seen p) ⌝ }
+    requires { ⌜ senders ≡ sendersOf (seen p) ⌝ }
+    requires { ⌜ (period ≡ busPeriod (seen p)) × (period ≤ 1000000) ⌝ }
+    requires { ⌜ (frames ≡ framesLaid (rules.frames (seen p))) × (length (rules.frames (seen p)) ≤ 256) ⌝ }
+    requires { ⌜ layout (seen p) ≡ closing (seen p) ⌝ }
+    ensures { λ r. ⌜ Lays r (layout (seen p)) ⌝ }
+{
+    let tasks = senders.tasks;
+    let payloads = senders.payloads;
+    if !messages_fit(p, tasks) {
+        return refused(Refusal::PayloadTooLarge);
+    }
+    if !controls_fit(payloads, p.counts[2], p.bus.most.0) {
+        return refused(Refusal::PayloadTooLarge);
+    }
+    let end = control_end(p, payloads);
+    if (period as u64) < end.0 {
+        return refused(Refusal::ControlTooLong);
+    }
+    let control = control_rows(p, payloads);
+    let line = line_of(p, period, end, control, frames);
+    Laid {
+        answer: Answer::Sound,
+        line: line,
+    }
+}
+
+// Refusals 9 to 11 of a plan to which 6 to 8 do not apply, and its line.
+fn framed(p: Plan, senders: Senders, runs: Runs, period: u32) -> Laid
+    requires { ⌜ PlanKept (seen p) ⌝ }
+    requires { ⌜ (someBusTask (seen p) ≡ true) × (busPeriod (seen p) ∣ switchGrid (seen p)) ⌝ }
+    requires { ⌜ (senders ≡ sendersOf (seen p)) × (runs ≡ runsLaid (busRuns (seen p))) × (period ≡ busPeriod (seen p)) ⌝ }
+    requires { ⌜ layout (seen p) ≡ framing (seen p) ⌝ }
+    ensures { λ r. ⌜ Lays r (layout (seen p)) ⌝ }
+{
+    let frames = Frames::of(runs, Ticks(period));
+    if Frames::MOST < frames.count {
+        return refused(Refusal::TooManyFrames);
+    }
+    closed(p, senders, period, frames)
+}
+
+// Refusals 6 to 11 of a plan that was read, and its line. P is not computed before each period was tried against the grid.
+fn cycled(p: Plan) -> Laid
+    requires { ⌜ PlanKept (seen p) ⌝ }
+    ensures { λ r. ⌜ Lays r (layout (seen p)) ⌝ }
+{
+    let senders = Senders::of(p);
+    let tasks = senders.tasks;
+    let modules = senders.modules;
+    if !some_bus_task(tasks, task_count(p)) {
+        return refused(Refusal::NoBusTask);
+    }
+    let runs = Runs::of(p, tasks);
+    let grid = switch_grid(p, modules);
+    if !period_divides(runs, grid) {
+        return refused(Refusal::PeriodDoesNotDivide);
+    }
+    let period = bus_period(runs, grid);
+    if !divides(p.bus.resolution.0, period) {
+        return refused(Refusal::PeriodOffResolution);
+    }
+    framed(p, senders, runs, period)
 }

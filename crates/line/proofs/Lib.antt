@@ -1,0 +1,6 @@
+pub mod Scans
+pub mod Small
+pub mod Built
+pub mod Ways
+pub mod Framing
+pub mod Cycle

@@ -1,0 +1,53 @@
+-- Scans over numbers from 0 on, and arrays of eight places filled.
+use mathlib.Core.Path.{_≡_, refl, sym, ap, _∙_}
+use mathlib.Core.Bool.{Bool, true, false, cond, _&&_, _||_}
+use mathlib.Core.List.{List}
+use native.Mathlib.Omega.{arith}
+use lib.Dec.{leb}
+use lib.ListN.{length, getD, replicate}
+use borrow.Author.Tests.{le-leb, lt-leb}
+use Prim.Native.Nat.{ℕ, _+_, _≤_, _<_}
+use Rattle.laws.specs.Lists.{any, all, tab, upTo}
+use Rattle.laws.specs.Loops.{stores}
+use Rattle.laws.proofs.Loops.{stores-all}
+use Rattle.laws.proofs.Lists.{any-upTo-more, any-upTo-hit, all-upTo-more, all-upTo-failed}
+use Rattle.line.specs.Tests.{flagAt, messageKeeps, payloadKeeps}
+use Rattle.rules.specs.Plan.{Plan, theTask}
+
+module _ (p : ℕ → Bool) where
+  pub any-on : (n : ℕ) → any p (upTo n) ≡ false → p n ≡ false → any p (upTo (n + 1)) ≡ false
+  any-on n e f = any-upTo-more p n ∙ rw (e, f)
+
+  pub any-here : (n k : ℕ) → k < n → p k ≡ true → true ≡ any p (upTo n)
+  any-here n k h e = sym (any-upTo-hit p n k h e)
+
+  pub any-end : (n k : ℕ) → any p (upTo k) ≡ false → k ≤ n → n ≤ k → false ≡ any p (upTo n)
+  any-end n k e h w = let q : k ≡ n = omega arith in sym (ap (λ (x : ℕ). any p (upTo x)) (sym q) ∙ e)
+
+  pub all-on : (n : ℕ) → all p (upTo n) ≡ true → p n ≡ true → all p (upTo (n + 1)) ≡ true
+  all-on n e f = all-upTo-more p n ∙ rw (e, f)
+
+  pub all-here : (n k : ℕ) → k < n → p k ≡ false → false ≡ all p (upTo n)
+  all-here n k h e = sym (all-upTo-failed p n k h e)
+
+  pub all-end : (n k : ℕ) → all p (upTo k) ≡ true → k ≤ n → n ≤ k → true ≡ all p (upTo n)
+  all-end n k e h w = let q : k ≡ n = omega arith in sym (ap (λ (x : ℕ). all p (upTo x)) (sym q) ∙ e)
+
+module _ (payloads : List ℕ) (most n wide : ℕ) (e : wide ≡ getD payloads n 0) where
+  pub payload-too-large : most < wide → payloadKeeps payloads most n ≡ false
+  unfolding payloadKeeps
+  payload-too-large h = let q : most < getD payloads n 0 = omega arith in lt-leb _ _ q
+
+  pub payload-fits : wide ≤ most → payloadKeeps payloads most n ≡ true
+  unfolding payloadKeeps
+  payload-fits h = let q : getD payloads n 0 ≤ most = omega arith in le-leb _ _ q
+
+pub eight-stored : (a : List ℕ) (f : ℕ → ℕ) (k : ℕ) → a ≡ stores (replicate 8 0) f k → k ≤ 8 → 8 ≤ k → a ≡ tab f 0 8
+eight-stored a f k e h w =
+    let q : k ≡ 8 = omega arith in
+    e ∙ ap (stores (replicate 8 0) f) q ∙ stores-all (replicate 8 0) f
+
+pub message-test : (tasks : List Bool) (p : Plan) (t : ℕ) (r : Bool) → r ≡ cond (getD tasks t false) (leb (theTask p t .size) (p .bus .most)) true
+    → messageKeeps tasks p t ≡ r
+unfolding messageKeeps flagAt
+message-test tasks p t r e = sym e

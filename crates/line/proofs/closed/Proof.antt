@@ -1,0 +1,87 @@
+use mathlib.Core.Path.{_≡_, refl, sym, ap, _∙_}
+use native.Mathlib.Omega.{arith}
+use borrow.Author.Tests.{not-true, not-false}
+use Rattle.rules.specs.Frames.{layoutOf}
+use Rattle.plan.specs.Memory.{seen, countSeen, busSeen}
+use Rattle.answers.specs.declared.Refusal.the-variants.{PayloadTooLarge, ControlTooLong}
+use Rattle.bus.specs.declared.senders.Senders.{Senders}
+use Rattle.bus.specs.Senders.{sendersOf}
+use Rattle.line.specs.declared.Line.{Line}
+use Rattle.line.specs.declared.Answer.the-variants.{Sound}
+use Rattle.line.proofs.Ways.{lays-refused, lays-sound, ten-message, ten-control, eleven, sound}
+use borrow.Author.Needs.{needs}
+use Rattle.line.proofs.closed.Statement.{statement}
+use Rattle.line.proofs.closed.Tie as tie
+use Rattle.line.proofs.closed.Reads as reads
+use Rattle.line.proofs.closed.Lts as lts
+use Rattle.cycle.proofs.control.control_end.Reads as control-end-reads
+use Rattle.cycle.proofs.control.control_rows.Reads as control-rows-reads
+use Rattle.line.proofs.controls_fit.Reads as controls-fit-reads
+use Rattle.line.proofs.line_of.Reads as line-of-reads
+use Rattle.line.proofs.messages_fit.Reads as messages-fit-reads
+use Rattle.line.proofs.refused.Reads as refused-reads
+
+messages-fit-requires : tie.Need-messages-fit-requires
+messages-fit-requires c κs = search needs
+
+refused-requires : tie.Need-refused-requires
+refused-requires c κs = search needs
+
+returns : tie.Need-returns
+unfolding seen sendersOf countSeen busSeen
+returns c = lays-refused PayloadTooLarge _ _ (c .refused .ensures) (ten-message (seen (c .before .before .before .before .before .args .t1)) _ _ (omega (arith, c .before .before .before .before .before .pre .0 .taskCount .most)) (omega (arith, c .before .before .before .before .before .pre .0 .nodeCount .most)) (ap (λ (x : Senders). x .tasks) (c .before .before .before .before .before .pre .1 .0)) (ap (λ (x : Senders). x .payloads) (c .before .before .before .before .before .pre .1 .0)) (c .before .before .before .before .before .pre .1 .1 .1 .1) (sym (c .before .before .messages-fit .ensures) ∙ not-true _ (c .before .if1 .taken)))
+
+element-copy-out-controls-fit : tie.Need-element-copy-out-controls-fit
+element-copy-out-controls-fit c = search needs
+
+controls-fit-requires : tie.Need-controls-fit-requires
+unfolding seen sendersOf countSeen busSeen
+controls-fit-requires c κs = (omega (arith, c .before .before .before .before .before .pre .0 .nodeCount .most))
+
+refused-requires-2 : tie.Need-refused-requires-2
+refused-requires-2 c κs = search needs
+
+returns-2 : tie.Need-returns-2
+unfolding seen sendersOf countSeen busSeen
+returns-2 c = lays-refused PayloadTooLarge _ _ (c .refused2 .ensures) (ten-control (seen (c .before .before .before .before .before .before .before .before .args .t1)) _ _ (omega (arith, c .before .before .before .before .before .before .before .before .pre .0 .taskCount .most)) (omega (arith, c .before .before .before .before .before .before .before .before .pre .0 .nodeCount .most)) (ap (λ (x : Senders). x .tasks) (c .before .before .before .before .before .before .before .before .pre .1 .0)) (ap (λ (x : Senders). x .payloads) (c .before .before .before .before .before .before .before .before .pre .1 .0)) (c .before .before .before .before .before .before .before .before .pre .1 .1 .1 .1) (sym (c .before .before .before .before .before .messages-fit .ensures) ∙ not-false _ (c .before .before .before .before .if1 .left)) (sym (c .before .before .controls-fit .ensures) ∙ not-true _ (c .before .if2 .taken)))
+
+control-end-requires : tie.Need-control-end-requires
+unfolding seen sendersOf countSeen busSeen
+control-end-requires c κs = (c .before .before .before .before .before .before .before .pre .0 .nodeCount .most, (ap (λ (x : Senders). x .payloads) (c .before .before .before .before .before .before .before .pre .1 .0)))
+
+refused-requires-3 : tie.Need-refused-requires-3
+refused-requires-3 c κs = search needs
+
+returns-3 : tie.Need-returns-3
+unfolding seen sendersOf countSeen busSeen
+returns-3 c = lays-refused ControlTooLong _ _ (c .refused3 .ensures) (eleven (seen (c .before .before .before .before .before .before .before .before .before .before .before .args .t1)) _ _ (omega (arith, c .before .before .before .before .before .before .before .before .before .before .before .pre .0 .taskCount .most)) (omega (arith, c .before .before .before .before .before .before .before .before .before .before .before .pre .0 .nodeCount .most)) (ap (λ (x : Senders). x .tasks) (c .before .before .before .before .before .before .before .before .before .before .before .pre .1 .0)) (ap (λ (x : Senders). x .payloads) (c .before .before .before .before .before .before .before .before .before .before .before .pre .1 .0)) (c .before .before .before .before .before .before .before .before .before .before .before .pre .1 .1 .1 .1) (sym (c .before .before .before .before .before .before .before .before .messages-fit .ensures) ∙ not-false _ (c .before .before .before .before .before .before .before .if1 .left)) (sym (c .before .before .before .before .before .controls-fit .ensures) ∙ not-false _ (c .before .before .before .before .if2 .left)) (omega (arith, c .before .if3 .taken, c .before .before .before .control-end .ensures, c .before .before .before .before .before .before .before .before .before .before .before .pre .1 .1 .0 .0)))
+
+control-rows-requires : tie.Need-control-rows-requires
+unfolding seen sendersOf countSeen busSeen
+control-rows-requires c κs = (c .before .before .before .before .before .before .before .before .before .before .pre .0 .nodeCount .most, ((ap (λ (x : Senders). x .payloads) (c .before .before .before .before .before .before .before .before .before .before .pre .1 .0)), omega (arith, c .if3 .left, c .before .before .control-end .ensures, c .before .before .before .before .before .before .before .before .before .before .pre .1 .1 .0 .1)))
+
+line-of-requires : tie.Need-line-of-requires
+unfolding seen sendersOf countSeen busSeen
+line-of-requires c κs = (c .before .before .before .before .before .before .before .before .before .before .before .pre .0, ((c .before .before .before .before .before .before .before .before .before .before .before .pre .1 .1 .0 .0, c .before .before .before .control-end .ensures, omega (arith, c .before .if3 .left, c .before .before .before .before .before .before .before .before .before .before .before .pre .1 .1 .0 .1)), (c .control-rows .ensures, c .before .before .before .before .before .before .before .before .before .before .before .pre .1 .1 .1 .0)))
+
+returns-4 : tie.Need-returns-4
+unfolding seen sendersOf countSeen busSeen
+returns-4 c = lays-sound (layoutOf (seen (c .before .before .before .before .before .before .before .before .before .before .before .before .args .t1))) _ _ (ap (λ (x : Line). record { answer = Sound; line = x }) (c .line-of .ensures)) (sound (seen (c .before .before .before .before .before .before .before .before .before .before .before .before .args .t1)) _ _ (omega (arith, c .before .before .before .before .before .before .before .before .before .before .before .before .pre .0 .taskCount .most)) (omega (arith, c .before .before .before .before .before .before .before .before .before .before .before .before .pre .0 .nodeCount .most)) (ap (λ (x : Senders). x .tasks) (c .before .before .before .before .before .before .before .before .before .before .before .before .pre .1 .0)) (ap (λ (x : Senders). x .payloads) (c .before .before .before .before .before .before .before .before .before .before .before .before .pre .1 .0)) (c .before .before .before .before .before .before .before .before .before .before .before .before .pre .1 .1 .1 .1) (sym (c .before .before .before .before .before .before .before .before .before .messages-fit .ensures) ∙ not-false _ (c .before .before .before .before .before .before .before .before .if1 .left)) (sym (c .before .before .before .before .before .before .controls-fit .ensures) ∙ not-false _ (c .before .before .before .before .before .if2 .left)) (omega (arith, c .before .before .if3 .left, c .before .before .before .before .control-end .ensures, c .before .before .before .before .before .before .before .before .before .before .before .before .pre .1 .1 .0 .0)))
+
+pub closed-spec : {M : Type 1} → statement M
+closed-spec =
+    tie.close
+    (tie.spec
+    messages-fit-requires
+    refused-requires
+    returns
+    element-copy-out-controls-fit
+    controls-fit-requires
+    refused-requires-2
+    returns-2
+    control-end-requires
+    refused-requires-3
+    returns-3
+    control-rows-requires
+    line-of-requires
+    returns-4)

@@ -1,0 +1,62 @@
+use mathlib.Core.Path.{_≡_, refl, sym, ap, _∙_}
+use mathlib.Core.Bool.{true, false}
+use Prim.Native.Nat.{_-_, _≤_}
+use native.Mathlib.Omega.{arith}
+use lib.ListN.{length, replicate}
+use Rattle.laws.specs.Lists.{any, all, tab, upTo}
+use Rattle.laws.specs.Loops.{stores}
+use Rattle.laws.proofs.Loops.{stores-none, stores-turn, stores-all}
+use Rattle.cycle.specs.Control.{rowLaid}
+use Rattle.line.specs.Tests.{flagAt, messageKeeps, payloadKeeps, nodeIn, startIn, stopIn}
+use Rattle.line.proofs.Scans.{any-on, any-here, any-end, all-on, all-here, all-end, payload-too-large, payload-fits, eight-stored}
+use borrow.Author.Needs.{needs}
+use Rattle.line.proofs.control_nodes.Statement.{statement}
+use Rattle.line.proofs.control_nodes.Tie as tie
+use Rattle.line.proofs.control_nodes.Reads as reads
+use Rattle.line.proofs.control_nodes.Lts as lts
+
+abbrev Inv-loop : tie.InvT-loop
+Inv-loop control nodes₀ k₀ nodes k = (k ≤ 8) × (nodes ≡ stores (replicate 8 0) (nodeIn control) k)
+
+abbrev μ-loop : tie.MeasureT-loop
+μ-loop control nodes₀ k₀ nodes k = 8 - k
+
+loop-holds : tie.Need-loop-holds Inv-loop μ-loop
+loop-holds c = (search needs, stores-none _ (nodeIn (c .args .t1)))
+
+mul-nodes : tie.Need-mul-nodes Inv-loop μ-loop
+mul-nodes c = search needs
+
+element-copy-out-nodes : tie.Need-element-copy-out-nodes Inv-loop μ-loop
+element-copy-out-nodes c = search needs
+
+array-write-nodes : tie.Need-array-write-nodes Inv-loop μ-loop
+array-write-nodes c = search needs
+
+add-k : tie.Need-add-k Inv-loop μ-loop
+add-k c = search needs
+
+loop-less : tie.Need-loop-less Inv-loop μ-loop
+loop-less c = search needs
+
+loop-again : tie.Need-loop-again Inv-loop μ-loop
+unfolding nodeIn rowLaid
+loop-again c = (search needs, stores-turn _ (nodeIn (c .before .before .args .t1)) _ (c .before .loop .inv .1) refl)
+
+returns : tie.Need-returns Inv-loop μ-loop
+returns c = eight-stored _ (nodeIn (c .before .before .args .t1)) _ (c .before .loop .inv .1) (c .before .loop .inv .0) (c .loop-test .left)
+
+pub control-nodes-spec : {M : Type 1} → statement M
+control-nodes-spec =
+    tie.close
+    (tie.spec
+    Inv-loop
+    μ-loop
+    loop-holds
+    mul-nodes
+    element-copy-out-nodes
+    array-write-nodes
+    add-k
+    loop-less
+    loop-again
+    returns)

@@ -1,0 +1,61 @@
+use mathlib.Core.Path.{_≡_, refl, sym, ap, _∙_}
+use mathlib.Core.Bool.{true, false}
+use Prim.Native.Nat.{_-_, _≤_}
+use native.Mathlib.Omega.{arith}
+use lib.ListN.{length, replicate}
+use Rattle.laws.specs.Lists.{any, all, tab, upTo}
+use Rattle.laws.specs.Loops.{stores}
+use Rattle.laws.proofs.Loops.{stores-none, stores-turn, stores-all}
+use Rattle.line.specs.Tests.{flagAt, messageKeeps, payloadKeeps, nodeIn, startIn, stopIn}
+use Rattle.line.proofs.Scans.{any-on, any-here, any-end, all-on, all-here, all-end, payload-too-large, payload-fits, eight-stored}
+use borrow.Author.Needs.{needs}
+use Rattle.line.proofs.controls_fit.Statement.{statement}
+use Rattle.line.proofs.controls_fit.Tie as tie
+use Rattle.line.proofs.controls_fit.Reads as reads
+use Rattle.line.proofs.controls_fit.Lts as lts
+use Rattle.line.proofs.wide.Reads as wide-reads
+
+abbrev Inv-loop : tie.InvT-loop
+Inv-loop nodes most payloads n₀ n = (n ≤ nodes) × (all (payloadKeeps payloads most) (upTo n) ≡ true)
+
+abbrev μ-loop : tie.MeasureT-loop
+μ-loop nodes most payloads n₀ n = nodes - n
+
+loop-holds : tie.Need-loop-holds Inv-loop μ-loop
+loop-holds c = (search needs, refl)
+
+array-read-wide : tie.Need-array-read-wide Inv-loop μ-loop
+array-read-wide c = search needs
+
+wide-requires : tie.Need-wide-requires Inv-loop μ-loop
+wide-requires c κs = search needs
+
+returns : tie.Need-returns Inv-loop μ-loop
+returns c = all-here (payloadKeeps (c .before .before .before .before .args .t1) (c .before .before .before .before .args .most)) _ _ (c .before .before .loop-test .taken) (payload-too-large (c .before .before .before .before .args .t1) _ _ _ (c .before .wide .ensures) (c .if1 .taken))
+
+add-n : tie.Need-add-n Inv-loop μ-loop
+add-n c = search needs
+
+loop-less : tie.Need-loop-less Inv-loop μ-loop
+loop-less c = search needs
+
+loop-again : tie.Need-loop-again Inv-loop μ-loop
+loop-again c = (search needs, all-on (payloadKeeps (c .before .before .before .before .args .t1) (c .before .before .before .before .args .most)) _ (c .before .before .before .loop .inv .1) (payload-fits (c .before .before .before .before .args .t1) _ _ _ (c .before .wide .ensures) (c .if1 .left)))
+
+returns-2 : tie.Need-returns-2 Inv-loop μ-loop
+returns-2 c = all-end (payloadKeeps (c .before .before .args .t1) (c .before .before .args .most)) _ _ (c .before .loop .inv .1) (c .before .loop .inv .0) (c .loop-test .left)
+
+pub controls-fit-spec : {M : Type 1} → statement M
+controls-fit-spec =
+    tie.close
+    (tie.spec
+    Inv-loop
+    μ-loop
+    loop-holds
+    array-read-wide
+    wide-requires
+    returns
+    add-n
+    loop-less
+    loop-again
+    returns-2)

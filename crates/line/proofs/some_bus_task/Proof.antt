@@ -1,0 +1,58 @@
+use mathlib.Core.Path.{_≡_, refl, sym, ap, _∙_}
+use mathlib.Core.Bool.{true, false}
+use Prim.Native.Nat.{_-_, _≤_}
+use native.Mathlib.Omega.{arith}
+use lib.ListN.{length, replicate}
+use Rattle.laws.specs.Lists.{any, all, tab, upTo}
+use Rattle.laws.specs.Loops.{stores}
+use Rattle.laws.proofs.Loops.{stores-none, stores-turn, stores-all}
+use Rattle.line.specs.Tests.{flagAt, messageKeeps, payloadKeeps, nodeIn, startIn, stopIn}
+use Rattle.line.proofs.Scans.{any-on, any-here, any-end, all-on, all-here, all-end, payload-too-large, payload-fits, eight-stored}
+use borrow.Author.Needs.{needs}
+use Rattle.line.proofs.some_bus_task.Statement.{statement}
+use Rattle.line.proofs.some_bus_task.Tie as tie
+use Rattle.line.proofs.some_bus_task.Reads as reads
+use Rattle.line.proofs.some_bus_task.Lts as lts
+
+abbrev Inv-loop : tie.InvT-loop
+Inv-loop count tasks t₀ t = (t ≤ count) × (any (flagAt tasks) (upTo t) ≡ false)
+
+abbrev μ-loop : tie.MeasureT-loop
+μ-loop count tasks t₀ t = count - t
+
+loop-holds : tie.Need-loop-holds Inv-loop μ-loop
+loop-holds c = (search needs, refl)
+
+array-read-if1 : tie.Need-array-read-if1 Inv-loop μ-loop
+array-read-if1 c = search needs
+
+returns : tie.Need-returns Inv-loop μ-loop
+unfolding flagAt
+returns c = any-here (flagAt (c .before .before .before .args .t1)) _ _ (c .before .loop-test .taken) (c .if1 .taken)
+
+add-t : tie.Need-add-t Inv-loop μ-loop
+add-t c = search needs
+
+loop-less : tie.Need-loop-less Inv-loop μ-loop
+loop-less c = search needs
+
+loop-again : tie.Need-loop-again Inv-loop μ-loop
+unfolding flagAt
+loop-again c = (search needs, any-on (flagAt (c .before .before .before .args .t1)) _ (c .before .before .loop .inv .1) (c .if1 .left))
+
+returns-2 : tie.Need-returns-2 Inv-loop μ-loop
+returns-2 c = any-end (flagAt (c .before .before .args .t1)) _ _ (c .before .loop .inv .1) (c .before .loop .inv .0) (c .loop-test .left)
+
+pub some-bus-task-spec : {M : Type 1} → statement M
+some-bus-task-spec =
+    tie.close
+    (tie.spec
+    Inv-loop
+    μ-loop
+    loop-holds
+    array-read-if1
+    returns
+    add-t
+    loop-less
+    loop-again
+    returns-2)

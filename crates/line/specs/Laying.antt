@@ -1,0 +1,39 @@
+-- What laying a plan out answers, and the line that it leaves.
+use mathlib.Core.Path.{_≡_}
+use lib.Dec.{leb}
+use lib.ListN.{length}
+use Rattle.laws.specs.Res.{Res, ok, refuse, _>>=_, _>>_, unless}
+use Rattle.rules.specs.Plan.{Plan}
+use Rattle.rules.specs.Frames.{Layout, layoutOf, frames, mostFrames, payloadsFit, controlEnd, busPeriod}
+use Rattle.answers.specs.Refusals.{said}
+use Rattle.line.specs.declared.Answer.{Answer}
+use Rattle.line.specs.declared.Answer.the-variants.{Sound, Refused}
+use Rattle.line.specs.declared.Laid.{Laid}
+use Rattle.line.specs.Line.{lineFor}
+
+-- the answer in the rules' words, and the rules' answer without its layout
+abbrev pub heard : Answer → Res (Unit {0})
+heard Sound = ok tt
+heard (Refused x) = said x
+
+abbrev pub verdict : Res Layout → Res (Unit {0})
+verdict (ok l) = ok tt
+verdict (refuse n p) = refuse n p
+
+-- Laying out says what the rules say: the same number and place, or the line.
+pub record Lays (r : Laid) (rule : Res Layout) : Type 0 where
+  pub answered : heard (r .answer) ≡ verdict rule
+  pub left : r .line ≡ lineFor rule
+
+-- refusals 10 and 11, where 6 to 9 do not apply
+unfoldable pub closing : Plan → Res Layout
+closing p = do
+  unless 10 0 (payloadsFit p)
+  unless 11 0 (leb (controlEnd p) (busPeriod p))
+  ok (layoutOf p)
+
+-- refusals 9 to 11, where 6 to 8 do not apply
+unfoldable pub framing : Plan → Res Layout
+framing p = do
+  unless 9 0 (leb (length (frames p)) mostFrames)
+  closing p
