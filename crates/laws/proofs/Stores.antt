@@ -5,13 +5,13 @@ use mathlib.Core.Bool.{Bool, true, false, cond}
 use mathlib.Core.List.{List}
 use native.Mathlib.Numerals.{add-one}
 use native.Mathlib.Omega.{arith}
-use borrow.Author.Tests.{eqb-true, eqb-false}
-use lib.Dec.{eqb}
-use lib.ListN.{length, getD, set, length-set}
+use borrow.Author.Tests.{eqb-true, eqb-false, ltb-true, ltb-false}
+use lib.Dec.{eqb, ltb}
+use lib.ListN.{length, getD, set, length-set, List·getD-eq-default}
 use lib.Seq.{ext-getD, getD-set-same, getD-set-other}
 use Prim.Native.Nat.{ℕ, zero, suc, _+_, _≤_, _<_}
 use Rattle.laws.specs.Loops.{stores}
-use Rattle.laws.proofs.Loops.{stores-kept, stores-at, length-stores}
+use Rattle.laws.proofs.Loops.{stores-kept, stores-at, stores-beyond, length-stores}
 
 module _ {A : Type 0} (old : List A) where
   pub stores-same : (f g : ℕ → A) (n : ℕ) → ((k : ℕ) → k < n → f k ≡ g k) → stores old f n ≡ stores old g n
@@ -22,6 +22,19 @@ module _ {A : Type 0} (old : List A) where
   stores-idle f zero d h = refl
   stores-idle f (suc n) d h =
       stores-idle f n d (λ k w. h k (omega arith)) ∙ stores-kept old f n d (h n (omega arith)) ∙ ap (stores old f) (add-one n)
+
+  pub stores-within : (f : ℕ → A) (n : ℕ) (d : A) {r : List A} → length old ≡ n → r ≡ stores old f n → (k : ℕ) → k < n → getD r k d ≡ f k
+  stores-within f n d size e k w = ap (λ l. getD l k d) e ∙ stores-at old f n k d w (omega arith)
+
+  -- read at any place, where the rule gives behind the array what a read there gives
+  pub stores-read : (f : ℕ → A) (n k : ℕ) (d : A) → length old ≡ n → (n ≤ k → f k ≡ d) → getD (stores old f n) k d ≡ f k
+  stores-read f n k d size h = split (ltb k n) refl
+    where
+      split : (b : Bool) → ltb k n ≡ b → getD (stores old f n) k d ≡ f k
+      split true e = let w : k < n = ltb-true k n e in stores-at old f n k d w (omega arith)
+      split false e =
+          let w : n ≤ k = ltb-false k n e in
+          stores-beyond old f n k d w ∙ List·getD-eq-default old d (rw size w) ∙ sym (h w)
 
   -- of an array with a place for each number below n
   pub stores-one : (f : ℕ → A) (n t : ℕ) (v d : A) → length old ≡ n → ((k : ℕ) → k < n → f k ≡ cond (eqb t k) v (getD old k d))

@@ -53,21 +53,21 @@ givenRule results changes ends homes givens t =
     not (getD ends t false || isGiven (changeAt changes (getD homes t 0))) && (getD givens t false || isGiven (resultAt results t))
 
 -- (f) of the modes and out-boxes after (d)
-abbrev pub byteFromRule : List Bool → List ℕ → List ℕ → ℕ → List ℕ → ℕ → ℕ
-byteFromRule sends nodes modes sender bytes m = cond (isByteAt sends nodes sender m) (getD modes m 0) (getD bytes m 0)
+abbrev pub byteFromRule : List Bool → List ℕ → (ℕ → ℕ) → ℕ → List ℕ → ℕ → ℕ
+byteFromRule sends nodes modes sender bytes m = cond (isByteAt sends nodes sender m) (modes m) (getD bytes m 0)
 
-abbrev pub modeByteRule : List Bool → List ℕ → List ℕ → List ℕ → List ℕ → Option ℕ → ℕ → ℕ
+abbrev pub modeByteRule : List Bool → List ℕ → (ℕ → ℕ) → List ℕ → List ℕ → Option ℕ → ℕ → ℕ
 modeByteRule sends nodes modes senders bytes none m = getD bytes m 0
 modeByteRule sends nodes modes senders bytes (some r) m = byteFromRule sends nodes modes (getD senders r 0) bytes m
 
 abbrev pub messageIn : List Bool → List ℕ → ℕ → ℕ → ℕ → Bool
 messageIn isBus runs t μ deadline = getD isBus t false && (ltb 0 (periodAt runs μ t) && divides (periodAt runs μ t) deadline)
 
-abbrev pub fullRule : List Bool → List ℕ → List ℕ → List ℕ → List ℕ → List ℕ → Bool → Option ℕ → Bool
+abbrev pub fullRule : List Bool → List ℕ → (ℕ → ℕ) → List ℕ → List ℕ → List ℕ → Bool → Option ℕ → Bool
 fullRule isBus runs modes homes tasks deadlines full none = full
 fullRule isBus runs modes homes tasks deadlines full (some r) =
-    messageIn isBus runs (getD tasks r 0) (getD modes (getD homes (getD tasks r 0) 0) 0) (getD deadlines r 0)
+    messageIn isBus runs (getD tasks r 0) (modes (getD homes (getD tasks r 0) 0)) (getD deadlines r 0)
 
-abbrev pub loadRule : List ℕ → List ℕ → ℕ → Option ℕ → ℕ
+abbrev pub loadRule : (ℕ → ℕ) → List ℕ → ℕ → Option ℕ → ℕ
 loadRule out tasks load none = load
-loadRule out tasks load (some r) = getD out (getD tasks r 0) 0
+loadRule out tasks load (some r) = out (getD tasks r 0)

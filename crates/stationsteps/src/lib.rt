@@ -2,8 +2,8 @@
 ghost use mathlib.Core.Path.{_≡_};
 ghost use mathlib.Core.Bool.{cond, false, not, _&&_, _||_};
 ghost use mathlib.Core.Option.{Option·getD};
-ghost use lib.ListN.{replicate};
-ghost use Prim.Native.Nat.{_<_};
+ghost use lib.ListN.{getD, replicate};
+ghost use Prim.Native.Nat.{ℕ, _<_};
 ghost use Rattle.laws.specs.Loops.{stores};
 ghost use Rattle.rules.specs.Playing.{isGiven};
 ghost use Rattle.rules.specs.Station.{oneOn, rowWith};
@@ -51,6 +51,7 @@ fn out_at(given: Given, old: u64) -> u64
 // (a)
 pub fn out_after(results: [Given; 32], mut out: [u64; 32]) -> [u64; 32]
     ensures { λ r. ⌜ r ≡ stores out (outRule results out) 32 ⌝ }
+    ensures reads { λ r. ⌜ ((t : ℕ) → getD r t 0 ≡ outRule results out t) ⌝ }
 {
     let mut t = 0;
     while t < 32 {
@@ -134,6 +135,7 @@ pub fn held_after<'a>(
     bytes: &'a [u8; 16],
 ) -> [u8; 128]
     ensures { λ r. ⌜ r ≡ stores held (heldRule (now (sends .entry)) (now (nodes .entry)) (now (bytes .entry)) (now (senders .entry)) held (foundOf row)) 128 ⌝ }
+    ensures reads { λ r. ⌜ ((j : ℕ) → j < 128 → getD r j 0 ≡ heldRule (now (sends .entry)) (now (nodes .entry)) (now (bytes .entry)) (now (senders .entry)) held (foundOf row) j) ⌝ }
 {
     match row {
         Found::Nothing => held,
@@ -153,6 +155,7 @@ fn mode_at(change: Change, old: u8) -> u8
 // (d)
 pub fn modes_after(changes: [Change; 16], mut modes: [u8; 16]) -> [u8; 16]
     ensures { λ r. ⌜ r ≡ stores modes (modeRule changes modes) 16 ⌝ }
+    ensures reads { λ r. ⌜ ((m : ℕ) → getD r m 0 ≡ modeRule changes modes m) ⌝ }
 {
     let mut m = 0;
     while m < 16 {
@@ -269,7 +272,7 @@ fn bytes_from<'a>(
     nodes: &'a [u8; 16],
     modes: &'a [u8; 16],
 ) -> [u8; 16]
-    ensures { λ r. ⌜ r ≡ stores bytes (byteFromRule (now (sends .entry)) (now (nodes .entry)) (now (modes .entry)) sender bytes) 16 ⌝ }
+    ensures { λ r. ⌜ r ≡ stores bytes (byteFromRule (now (sends .entry)) (now (nodes .entry)) (numberAt (now (modes .entry))) sender bytes) 16 ⌝ }
 {
     let mut m = 0;
     while m < 16 {
@@ -288,7 +291,7 @@ pub fn bytes_after<'a>(
     nodes: &'a [u8; 16],
     modes: &'a [u8; 16],
 ) -> [u8; 16]
-    ensures { λ r. ⌜ r ≡ stores bytes (modeByteRule (now (sends .entry)) (now (nodes .entry)) (now (modes .entry)) (now (senders .entry)) bytes (foundOf row)) 16 ⌝ }
+    ensures { λ r. ⌜ r ≡ stores bytes (modeByteRule (now (sends .entry)) (now (nodes .entry)) (numberAt (now (modes .entry))) (now (senders .entry)) bytes (foundOf row)) 16 ⌝ }
 {
     match row {
         Found::Nothing => bytes,
@@ -326,7 +329,7 @@ pub fn full_after<'a>(
     bus: &'a [bool; 32],
     runs: &'a [u32; 1024],
 ) -> bool
-    ensures { λ r. ⌜ r ≡ fullRule (now (bus .entry)) (now (runs .entry)) (now (modes .entry)) (now (homes .entry)) (now (tasks .entry)) (now (deadlines .entry)) full (foundOf row) ⌝ }
+    ensures { λ r. ⌜ r ≡ fullRule (now (bus .entry)) (now (runs .entry)) (numberAt (now (modes .entry))) (now (homes .entry)) (now (tasks .entry)) (now (deadlines .entry)) full (foundOf row) ⌝ }
 {
     match row {
         Found::Nothing => full,
@@ -344,7 +347,7 @@ pub fn full_after<'a>(
 }
 
 pub fn load_after<'a>(load: u64, row: Found, tasks: &'a [u8; 256], out: &'a [u64; 32]) -> u64
-    ensures { λ r. ⌜ r ≡ loadRule (now (out .entry)) (now (tasks .entry)) load (foundOf row) ⌝ }
+    ensures { λ r. ⌜ r ≡ loadRule (numberAt (now (out .entry))) (now (tasks .entry)) load (foundOf row) ⌝ }
 {
     match row {
         Found::Nothing => load,

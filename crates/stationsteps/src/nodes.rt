@@ -1,13 +1,13 @@
 // Steps (b) and (c) on the eight nodes, by value, each with its places; one place changes at a time.
 ghost use mathlib.Core.Path.{_≡_};
 ghost use mathlib.Core.Bool.{not, _&&_};
-ghost use lib.ListN.{set};
+ghost use lib.ListN.{getD, set};
 ghost use Prim.Native.Nat.{_<_};
 ghost use Rattle.laws.specs.Loops.{stores};
 ghost use Rattle.laws.specs.Lists.{all, upTo};
 ghost use Rattle.stationjudge.specs.Inputs.{foundOf};
 ghost use Rattle.stationsteps.specs.Steps.{numberAt};
-ghost use Rattle.stationsteps.specs.Nodes.{isLanding, landedRule, landingOf, nodeAt, nodeRule, quietAt, shownAt, shownRule, zeroNode};
+ghost use Rattle.stationsteps.specs.Nodes.{isLanding, landedRule, landingOf, noNode, nodeAt, nodeRule, quietAt, shownAt, shownRule, zeroNode};
 use places::both;
 use places::byte_at;
 use places::flag_at;
@@ -256,5 +256,17 @@ pub fn is_idle<'a>(landing: Landing, ends: &'a [bool; 32]) -> bool
             sender: _,
             value: _,
         } => false,
+    }
+}
+
+// What a node shows of a task; 0 where there is no such place.
+pub fn shown_on(nodes: [Node; 8], n: usize, task: usize) -> u64
+    ensures { λ r. ⌜ r ≡ getD (getD nodes n noNode .shown) task 0 ⌝ }
+{
+    if n < 8 {
+        let node = nodes[n];
+        value_at(&node.shown, task)
+    } else {
+        0
     }
 }

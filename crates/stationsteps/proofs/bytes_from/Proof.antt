@@ -1,7 +1,7 @@
 use mathlib.Core.Path.{_∙_}
 use Prim.Native.Nat.{_≤_, _-_}
 use Rattle.laws.proofs.Turns.{Filled, filled-none, filled-turn, filled-next, filled-end}
-use Rattle.stationsteps.specs.Steps.{byteFromRule}
+use Rattle.stationsteps.specs.Steps.{byteFromRule, numberAt}
 use borrow.Author.Needs.{needs}
 use Rattle.stationsteps.proofs.bytes_from.Statement.{statement}
 use Rattle.stationsteps.proofs.bytes_from.Tie as tie
@@ -10,7 +10,7 @@ use Rattle.stationsteps.proofs.bytes_from.Lts as lts
 use Rattle.stationsteps.proofs.byte_from.Reads as byte-from-reads
 
 abbrev Inv-loop : tie.InvT-loop
-Inv-loop sender sends nodes modes bytes₀ m₀ bytes m = (m ≤ 16) × Filled bytes₀ (byteFromRule sends nodes modes sender bytes₀) m bytes
+Inv-loop sender sends nodes modes bytes₀ m₀ bytes m = (m ≤ 16) × Filled bytes₀ (byteFromRule sends nodes (numberAt modes) sender bytes₀) m bytes
 
 abbrev μ-loop : tie.MeasureT-loop
 μ-loop sender sends nodes modes bytes₀ m₀ bytes m = 16 - m

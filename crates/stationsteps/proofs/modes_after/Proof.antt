@@ -1,3 +1,4 @@
+use Rattle.stationsteps.proofs.Ways.{mode-read}
 use mathlib.Core.Path.{_∙_}
 use Prim.Native.Nat.{_≤_, _-_}
 use Rattle.laws.proofs.Turns.{Filled, filled-none, filled-turn, filled-next, filled-end}
@@ -43,7 +44,9 @@ loop-again : tie.Need-loop-again Inv-loop μ-loop
 loop-again c = (search needs, filled-turn (c .before .before .before .loop .inv .1) (c .mode-at .ensures ∙ rw (filled-next (c .before .before .before .loop .inv .1) 0)))
 
 returns : tie.Need-returns Inv-loop μ-loop
-returns c = filled-end (c .before .loop .inv .1) (c .before .loop .inv .0) (c .loop-test .left)
+returns c = let a = c .before .before .args in
+    let e = filled-end (c .before .loop .inv .1) (c .before .loop .inv .0) (c .loop-test .left) in
+    (e, mode-read (a .t1) (a .t2) (search needs) (search needs) e)
 
 pub modes-after-spec : {M : Type 1} → statement M
 modes-after-spec =
