@@ -21,3 +21,4 @@ pub mod TransparentPlan
 pub mod Transparent
 pub mod TransparentTold
 pub mod TransparentPlays
+pub mod StationPlaces

@@ -443,7 +443,7 @@ module _ (p : Plan) (kept : PlanKept p) where
   unfolding theTask
   task-there t w = let h = all-getD noTask (kept .tasks) t w in (h .size .least, h .worst .least)
 
-  node-begins : (m : ℕ) → moduleNode p m < nodePlaces
+  pub node-begins : (m : ℕ) → moduleNode p m < nodePlaces
   unfolding moduleNode
   node-begins =
       all-getD-or {P = λ n. n < nodePlaces} 0 (all-weaker (λ n h. omega (arith, h, kept .nodeCount .most)) (kept .modules)) (lit< tt)
