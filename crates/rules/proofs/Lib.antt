@@ -11,6 +11,7 @@ pub mod RefusalNumbers
 pub mod MadePasses
 pub mod Grid
 pub mod StationExact
+pub mod StationRanges
 pub mod StationStays
 pub mod TransparentTick
 pub mod TransparentOwn

@@ -62,7 +62,8 @@ use Rattle.rules.specs.Station.{
 use Rattle.rules.specs.StationRange.{inRange, ticked}
 use Rattle.rules.specs.History.{played, boardValue, consumes}
 use Rattle.rules.proofs.PlanKept.{PlanKept, readable-kept}
-use Rattle.rules.proofs.StationStays.{KeptIn, PlayIn, StateIn, range-tests, node-begins}
+use Rattle.rules.proofs.StationRanges.{KeptIn, PlayIn, StateIn, range-tests}
+use Rattle.rules.proofs.StationStays.{node-begins}
 use Rattle.rules.proofs.TransparentTick.{row-is}
 use Rattle.rules.proofs.Transparent.{consumed-on, consumed-there, transparent, transparent-own}
 
