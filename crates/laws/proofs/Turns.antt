@@ -4,7 +4,7 @@
 -- Assumes nothing.
 use mathlib.Core.Path.{_≡_, refl, sym, ap, _∙_}
 use mathlib.Core.Bool.{Bool, true, false, _&&_}
-use mathlib.Core.List.{List}
+use mathlib.Core.List.{List, [], _∷_}
 use mathlib.Core.Option.{Option, none, some}
 use native.Mathlib.Nat.{le-antisymm}
 use lib.ListN.{getD, set}
@@ -68,3 +68,9 @@ module _ {A : Type 0} {old : List A} {f : ℕ → A} where
 
   pub filled-end : {n i : ℕ} {a : List A} → Filled old f i a → i ≤ n → n ≤ i → a ≡ stores old f n
   filled-end t h w = t .says ∙ ap (stores old f) (le-antisymm h w)
+
+-- ---- tests that agree
+
+pub firstBad-same : {A : Type 0} (p q : A → Bool) → ((x : A) → p x ≡ q x) → (l : List A) → firstBad p l ≡ firstBad q l
+firstBad-same p q h [] = refl
+firstBad-same p q h (x ∷ l) = rw (h x, firstBad-same p q h l)
