@@ -1,0 +1,6 @@
+pub mod Ways
+pub mod Ranges
+pub mod Steps
+pub mod Nodes
+pub mod Ticking
+pub mod Unique
