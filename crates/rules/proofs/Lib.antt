@@ -23,3 +23,4 @@ pub mod Transparent
 pub mod TransparentTold
 pub mod TransparentPlays
 pub mod StationPlaces
+pub mod StationKept

@@ -175,7 +175,7 @@ module _ (p q : ℕ → Bool) where
       rw (h low (omega arith) (omega arith), tab-agree (suc low) n (λ k v w. h k (omega arith) (omega arith)))
 
   -- tests that agree below n first fail at the same number below n
-  bad-agree : (n : ℕ) → ((k : ℕ) → k < n → p k ≡ q k) → firstBad p (upTo n) ≡ firstBad q (upTo n)
+  pub bad-agree : (n : ℕ) → ((k : ℕ) → k < n → p k ≡ q k) → firstBad p (upTo n) ≡ firstBad q (upTo n)
   bad-agree n h = tab-agree 0 n (λ k v w. h k (omega arith))
 
 module _ {k : Kept} {s s′ : State} {i i′ : Input} (kept : KeptIn k) (a : Agree s s′) (b : SameInput i i′) where
