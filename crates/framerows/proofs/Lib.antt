@@ -1,0 +1,4 @@
+pub mod Filled
+pub mod Lent
+pub mod Two
+pub mod Calls
