@@ -1,19 +1,19 @@
 -- Frame rows that were laid into arrays and filled into a lent list are the rows that document 01 asks for, and a frame struct says no more than its row.
 -- Assumes nothing.
 use mathlib.Core.Path.{_≡_, refl, sym, ap, _∙_}
-use mathlib.Core.Bool.{Bool, true, false, cond}
+use mathlib.Core.Bool.{true, false, cond}
 use mathlib.Core.List.{List, [], _∷_, _++_, map}
 use mathlib.Core.Logic.{_⊎_, inl, inr}
 use native.Mathlib.Nat.{eq-or-lt-of-le}
 use native.Mathlib.Omega.{arith}
-use lib.Dec.{leb, ltb}
-use lib.ListN.{length, getD, replicate, length-replicate, length-append, length-map, List·getD-eq-default, List·getD-append}
-use borrow.Author.Tests.{lt-ltb, le-ltb, le-leb, lt-leb, ltb-true, ltb-false}
+use lib.Dec.{ltb}
+use lib.ListN.{length, getD, replicate, length-replicate, length-append, List·getD-eq-default}
+use borrow.Author.Tests.{le-leb, lt-leb, ltb-true, ltb-false}
 use Prim.Native.Nat.{ℕ, zero, suc, _+_, _-_, _≤_, _<_}
 use Rattle.laws.specs.Lists.{tab}
-use Rattle.laws.specs.Loops.{padTo}
-use Rattle.laws.proofs.Lists.{tested, map-tab, length-tab}
+use Rattle.laws.proofs.Lists.{tested, map-tab}
 use Rattle.laws.proofs.Arrays.{tab-list, getD-laid}
+use Rattle.laws.proofs.Orders.{le-or-lt}
 use Rattle.rules.specs.Table.{FrameRow, zeroRow, rowsThenZero}
 use Rattle.rows.specs.declared.Rows.{Rows}
 use Rattle.rows.specs.Rows.{rowTask, rowRelease, rowDeadline, rowStart, rowsLaid}
@@ -90,3 +90,12 @@ module _ (rs : List FrameRow) (few : length rs ≤ 256) where
           let f : length (replicate rest zeroRow) ≡ rest = length-replicate rest zeroRow in
           let g : rest ≡ length ys - length rs = refl in
           omega arith
+
+  -- so the lent rows are whatever rows are these where enough are lent, and the old ones where not
+  pub filled-is : (ys zs : List Frame) (r : Rows) (rows : List FrameRow) → r ≡ rowsLaid rs → zs ≡ filled r ys
+      → (256 ≤ length ys → rows ≡ rowsThenZero rs (length ys)) → (length ys < 256 → rows ≡ map rowOf ys) → map rowOf zs ≡ rows
+  filled-is ys zs r rows laid e enough short = by-length (le-or-lt 256 (length ys))
+    where
+      by-length : (256 ≤ length ys) ⊎ (length ys < 256) → map rowOf zs ≡ rows
+      by-length (inl h) = rw (e, laid, enough h) (filled-laid ys h)
+      by-length (inr h) = rw (e, short h) (ap (map rowOf) (filled-few r ys h))
