@@ -1,0 +1,128 @@
+-- Refusals 40 to 44: the tests on the station's arrays are the rules' own.
+-- Assumes nothing.
+use mathlib.Core.Path.{_≡_, refl, ap, _∙_}
+use mathlib.Core.List.{List}
+use mathlib.Core.Option.{Option, none, some}
+use mathlib.Core.Bool.{Bool}
+use lib.ListN.{getD}
+use Prim.Native.Nat.{ℕ}
+use Rattle.laws.specs.Lists.{firstBad, upTo}
+use Rattle.laws.specs.Res.{Res, _>>_, at}
+use Rattle.laws.proofs.Res.{then-assoc}
+use Rattle.laws.proofs.Turns.{firstBad-same}
+use Rattle.rules.specs.Frames.{mostFrames}
+use Rattle.rules.specs.Station.{
+  judgedTick,
+  resultAwaited,
+  isAwaited,
+  isRunning,
+  runPeriod,
+  taskAge,
+  runAge,
+  resultFits,
+  resultInTime,
+  isLastChance,
+  mayTake,
+  changeAllowed,
+  isModeOf,
+  maySwitch,
+}
+use Rattle.rules.specs.StationRange.{
+  isBetween,
+  mostTime,
+  countsInRange,
+  moduleInRange,
+  modeInRange,
+  taskInRange,
+  runInRange,
+  runsInRange,
+  controlInRange,
+  dataInRange,
+  keptInRange,
+  playInRange,
+  isValue,
+  boxInRange,
+  placeInRange,
+  byteInRange,
+  nodeInRange,
+  stateInRange,
+}
+use Rattle.stationrange.specs.Ranges.{runsTest}
+use Rattle.stationjudge.specs.Inputs.{inputOf, changeAt}
+use Rattle.stationjudge.specs.Judging.{awaitedTest, fitsTest, inTimeTest, allows, allowedTest}
+use Rattle.stationjudge.specs.declared.Given.{Given}
+use Rattle.stationjudge.specs.declared.Change.{Change}
+use Rattle.station.specs.Memory.{keptBy, keptOf, stateBy, stateOf}
+use Rattle.station.specs.Parts.{keptTest, nodesTest, stateTest, judgedBy}
+use Rattle.station.specs.declared.Station.{Station}
+
+-- the refusals one after the other, whichever two are taken together
+joined : {a b c d a′ b′ c′ d′ : Option ℕ} → a ≡ a′ → b ≡ b′ → c ≡ c′ → d ≡ d′
+    → _>>_ (_>>_ (at 41 0 a) (_>>_ (at 42 0 b) (at 43 0 c))) (at 44 0 d)
+    ≡ _>>_ (at 41 0 a′) (_>>_ (at 42 0 b′) (_>>_ (at 43 0 c′) (at 44 0 d′)))
+joined {a} {b} {c} {d} e f g h =
+    then-assoc (at 41 0 a) (_>>_ (at 42 0 b) (at 43 0 c)) (at 44 0 d)
+    ∙ ap (_>>_ (at 41 0 a)) (then-assoc (at 42 0 b) (at 43 0 c) (at 44 0 d)) ∙ rw (e, f, g, h)
+
+module _ (st : Station) where
+  pub kept-range : keptTest (st .modules) (st .modes) (st .tasks) (st .controls) (st .datas) (st .period) (st .runs) (st .carries)
+      (st .deadlines) (st .starts) (st .stops) ≡ keptInRange (keptOf st)
+  unfolding keptTest keptInRange keptOf keptBy mostTime countsInRange moduleInRange modeInRange taskInRange runInRange runsInRange controlInRange dataInRange runsTest mostFrames
+  kept-range = refl
+
+  pub state-range : stateTest (st .modules) (st .modes) (st .period) (st .play) (st .nodes) ≡ stateInRange (keptOf st) (stateOf st)
+  unfolding stateTest stateInRange keptOf keptBy stateOf stateBy playInRange boxInRange placeInRange byteInRange nodeInRange nodesTest
+  state-range = refl
+
+  module _ (results : List Given) (changes : List Change) where
+    abbrev awaited : ℕ → Bool
+    awaited =
+        awaitedTest results (st .tasks .count) (st .runs) (st .play .running) (st .play .ages) (st .tasks .homes) (st .play .givens)
+        (st .tasks .worsts)
+
+    abbrev fits : ℕ → Bool
+    fits = fitsTest results (st .tasks .sizes)
+
+    abbrev inTime : ℕ → Bool
+    inTime =
+        inTimeTest results (st .tasks .count) (st .runs) (st .play .running) (st .play .ages) (st .tasks .homes) (st .play .givens)
+        (st .tasks .worsts)
+
+    abbrev allowed : ℕ → Bool
+    allowed =
+        allowedTest changes (st .modules .count) (st .modes .count) (st .modes .homes) (st .modes .switches) (st .play .running)
+        (st .play .ages)
+
+    awaited-at : (t : ℕ) → awaited t ≡ resultAwaited (keptOf st) (stateOf st) (inputOf results changes) t
+    unfolding keptOf keptBy stateOf stateBy inputOf resultAwaited isAwaited isRunning runPeriod taskAge runAge
+    awaited-at t = refl
+
+    fits-at : (t : ℕ) → fits t ≡ resultFits (keptOf st) (inputOf results changes) t
+    unfolding keptOf keptBy inputOf resultFits
+    fits-at t = refl
+
+    in-time-at : (t : ℕ) → inTime t ≡ resultInTime (keptOf st) (stateOf st) (inputOf results changes) t
+    unfolding keptOf keptBy stateOf stateBy inputOf resultInTime isLastChance isRunning runPeriod taskAge runAge
+    in-time-at t = refl
+
+    allowed-by : (m : ℕ) (o : Option ℕ)
+        → allows (st .modules .count) (st .modes .count) (st .modes .homes) (getD (st .modes .switches) (getD (st .play .running) m 0) 0)
+        (getD (st .play .ages) m 0) m o
+        ≡ mayTake (keptOf st) (stateOf st) m o
+    unfolding keptOf keptBy stateOf stateBy isModeOf maySwitch
+    allowed-by m none = refl
+    allowed-by m (some μ) = refl
+
+    allowed-at : (m : ℕ) → allowed m ≡ changeAllowed (keptOf st) (stateOf st) (inputOf results changes) m
+    unfolding inputOf changeAllowed
+    allowed-at m = allowed-by m (changeAt changes m)
+
+    pub judged-same : judgedBy results changes (st .modules) (st .modes) (st .tasks) (st .play) (st .runs)
+        ≡ judgedTick (keptOf st) (stateOf st) (inputOf results changes)
+    unfolding judgedBy judgedTick
+    judged-same =
+        let k = keptOf st in
+        let s = stateOf st in
+        let i = inputOf results changes in
+        joined (firstBad-same awaited (resultAwaited k s i) awaited-at (upTo 32)) (firstBad-same fits (resultFits k i) fits-at (upTo 32))
+        (firstBad-same inTime (resultInTime k s i) in-time-at (upTo 32)) (firstBad-same allowed (changeAllowed k s i) allowed-at (upTo 16))

@@ -1,0 +1,674 @@
+// The played station: its tick, total on any station value, and what a node shows.
+ghost use mathlib.Core.Path.{_≡_};
+ghost use Prim.Native.Nat.{_<_};
+ghost use Rattle.laws.specs.Lists.{all, upTo};
+ghost use Rattle.rules.specs.StationRange.{ticked};
+ghost use Rattle.stationjudge.specs.Inputs.{foundOf, inputOf};
+ghost use Rattle.stationjudge.specs.Judging.{judgedOf};
+ghost use Rattle.station.specs.Memory.{keptOf, notBegun, stateOf};
+ghost use Rattle.station.specs.Parts.{Reads, controlAt, dataAt, judgedBy, keptTest, landingBy, movedBy, nodeTest, nodesBy, nodesTest, playBy, refusedBy, saidBy, stateTest};
+ghost use Rattle.station.specs.Answers.{Answers};
+use answers::Refusal;
+use places::both;
+use places::byte_at;
+use places::number_at;
+use places::rest;
+use stationjudge::Change;
+use stationjudge::Found;
+use stationjudge::Given;
+use stationjudge::Judged;
+use stationjudge::judged_changes;
+use stationjudge::judged_results;
+use stationsteps::ages_after;
+use stationsteps::bytes_after;
+use stationsteps::ends_now;
+use stationsteps::full_after;
+use stationsteps::givens_after;
+use stationsteps::held_after;
+use stationsteps::load_after;
+use stationsteps::modes_after;
+use stationsteps::nodes::Landing;
+use stationsteps::nodes::Node;
+use stationsteps::nodes::is_idle;
+use stationsteps::nodes::lands;
+use stationsteps::nodes::nodes_after;
+use stationsteps::nodes::shown_on;
+use stationsteps::one_on;
+use stationsteps::out_after;
+use stationsteps::row_with;
+use units::ModuleNo;
+use units::NodeNo;
+use units::TaskNo;
+use units::Ticks;
+
+// Of each module: the node that it is on, and whether it is sending.
+pub struct Modules {
+    pub count: u8,
+    pub sites: [u8; 16],
+    pub sending: [bool; 16],
+}
+
+// Of each mode: its module, its period and its switch period.
+pub struct Modes {
+    pub count: u8,
+    pub homes: [u8; 32],
+    pub periods: [u32; 32],
+    pub switches: [u32; 32],
+}
+
+// Of each task: its module, the bytes of its message, its worst time, and whether it is a bus task.
+pub struct Tasks {
+    pub count: u8,
+    pub homes: [u8; 32],
+    pub sizes: [u8; 32],
+    pub worsts: [u32; 32],
+    pub bus: [bool; 32],
+}
+
+// The control rows: node, start and stop.
+pub struct Controls {
+    pub count: u8,
+    pub nodes: [u8; 8],
+    pub starts: [u32; 8],
+    pub stops: [u32; 8],
+}
+
+// What a tick changes beside the nodes. `running` is each module's mode, `ages` the time since it began, `bytes` its mode byte on the
+// bus; `givens` whether a task's run has had its result; `held` the mode bytes that the nodes hold, 16 for each node; `full` and `load`
+// the data frame on the bus.
+pub struct Play {
+    pub clock: Ticks,
+    pub running: [u8; 16],
+    pub ages: [u32; 16],
+    pub bytes: [u8; 16],
+    pub givens: [bool; 32],
+    pub out: [u64; 32],
+    pub held: [u8; 128],
+    pub full: bool,
+    pub load: u64,
+}
+
+// `runs` has the period of each task in each mode, 32 places for each mode; `carries`, `deadlines`, `starts` and `stops` are the data
+// rows. The arrays of numbers are lent to the steps.
+pub struct Station {
+    pub modules: Modules,
+    pub modes: Modes,
+    pub tasks: Tasks,
+    pub controls: Controls,
+    pub period: Ticks,
+    pub datas: u16,
+    pub runs: [u32; 1024],
+    pub carries: [u8; 256],
+    pub deadlines: [u32; 256],
+    pub starts: [u32; 256],
+    pub stops: [u32; 256],
+    pub play: Play,
+    pub nodes: [Node; 8],
+}
+
+pub struct ControlRow {
+    pub node: NodeNo,
+    pub start: Ticks,
+    pub stop: Ticks,
+}
+
+pub struct DataRow {
+    pub task: TaskNo,
+    pub deadline: Ticks,
+    pub start: Ticks,
+    pub stop: Ticks,
+}
+
+pub enum Said {
+    Control(ControlRow),
+    Data(DataRow),
+    Quiet,
+    Refused(Refusal),
+}
+
+pub struct Ticked {
+    pub said: Said,
+    pub station: Station,
+}
+
+// What the rows that start, and the steps but for the nodes, give.
+pub struct Moved {
+    pub said: Said,
+    pub play: Play,
+}
+
+fn kept_in_range<'a>(
+    modules: Modules,
+    modes: Modes,
+    tasks: Tasks,
+    controls: Controls,
+    datas: u16,
+    period: Ticks,
+    runs: &'a [u32; 1024],
+    carries: &'a [u8; 256],
+    deadlines: &'a [u32; 256],
+    starts: &'a [u32; 256],
+    stops: &'a [u32; 256],
+) -> bool
+    ensures { λ r. ⌜ r ≡ keptTest modules modes tasks controls datas period (now (runs .entry)) (now (carries .entry)) (now (deadlines .entry)) (now (starts .entry)) (now (stops .entry)) ⌝ }
+{
+    let counted = stationrange::counts(
+        modules.count,
+        modes.count,
+        tasks.count,
+        period.0,
+        controls.count,
+        datas,
+    );
+    let moded = both(
+        stationrange::modules(&modules.sites),
+        stationrange::modes(
+            modules.count,
+            modes.count,
+            &modes.homes,
+            &modes.periods,
+            &modes.switches,
+        ),
+    );
+    let tasked = both(
+        stationrange::tasks(
+            modules.count,
+            tasks.count,
+            &tasks.homes,
+            &tasks.sizes,
+            &tasks.worsts,
+        ),
+        stationrange::runs(runs, &modes.periods),
+    );
+    let rowed = both(
+        stationrange::controls(period.0, &controls.nodes, &controls.starts, &controls.stops),
+        stationrange::datas(tasks.count, period.0, carries, deadlines, starts, stops),
+    );
+    both(both(counted, moded), both(tasked, rowed))
+}
+
+fn node_in_range<'a>(node: Node, held: &'a [u8; 128], modes: u8, n: usize) -> bool
+    requires { ⌜ n < 8 ⌝ }
+    ensures { λ r. ⌜ r ≡ nodeTest (now (held .entry)) modes node n ⌝ }
+{
+    both(
+        stationrange::places(&node.landed, &node.shown),
+        stationrange::bytes(held, modes, n),
+    )
+}
+
+fn nodes_in_range<'a>(nodes: [Node; 8], held: &'a [u8; 128], modes: u8) -> bool
+    ensures { λ r. ⌜ r ≡ all (nodesTest (now (held .entry)) modes nodes) (upTo 8) ⌝ }
+{
+    let mut good = true;
+    let mut n = 0;
+    while n < 8 {
+        let node = nodes[n];
+        good = both(good, node_in_range(node, held, modes, n));
+        n += 1;
+    }
+    good
+}
+
+fn state_in_range(
+    modules: Modules,
+    modes: Modes,
+    period: Ticks,
+    play: Play,
+    nodes: [Node; 8],
+) -> bool
+    ensures { λ r. ⌜ r ≡ stateTest modules modes period play nodes ⌝ }
+{
+    let timed = both(play.clock.0 <= period.0, stationrange::is_value(play.load));
+    let played = stationrange::plays(
+        modules.count,
+        modes.count,
+        &modes.homes,
+        &modes.periods,
+        &play.running,
+        &play.ages,
+        &play.bytes,
+    );
+    let placed = both(
+        stationrange::boxes(&play.out),
+        nodes_in_range(nodes, &play.held, modes.count),
+    );
+    both(timed, both(played, placed))
+}
+
+fn judged<'a>(
+    results: [Given; 32],
+    changes: [Change; 16],
+    modules: Modules,
+    modes: Modes,
+    tasks: Tasks,
+    play: Play,
+    runs: &'a [u32; 1024],
+) -> Judged
+    ensures { λ r. ⌜ judgedOf r ≡ judgedBy results changes modules modes tasks play (now (runs .entry)) ⌝ }
+{
+    let before = judged_results(
+        results,
+        tasks.count,
+        runs,
+        &play.running,
+        &play.ages,
+        &tasks.homes,
+        &play.givens,
+        &tasks.sizes,
+        &tasks.worsts,
+    );
+    judged_changes(
+        before,
+        changes,
+        modules.count,
+        modes.count,
+        &modes.homes,
+        &modes.switches,
+        &play.running,
+        &play.ages,
+    )
+}
+
+// Refusals 40 to 44.
+fn refused<'a>(
+    results: [Given; 32],
+    changes: [Change; 16],
+    modules: Modules,
+    modes: Modes,
+    tasks: Tasks,
+    controls: Controls,
+    datas: u16,
+    period: Ticks,
+    play: Play,
+    nodes: [Node; 8],
+    runs: &'a [u32; 1024],
+    carries: &'a [u8; 256],
+    deadlines: &'a [u32; 256],
+    starts: &'a [u32; 256],
+    stops: &'a [u32; 256],
+) -> Judged
+    ensures { λ r. ⌜ judgedOf r ≡ refusedBy results changes modules modes tasks controls datas period play nodes (now (runs .entry)) (now (carries .entry)) (now (deadlines .entry)) (now (starts .entry)) (now (stops .entry)) ⌝ }
+{
+    let kept = kept_in_range(
+        modules,
+        modes,
+        tasks,
+        controls,
+        datas,
+        period,
+        runs,
+        carries,
+        deadlines,
+        starts,
+        stops,
+    );
+    if both(kept, state_in_range(modules, modes, period, play, nodes)) {
+        judged(results, changes, modules, modes, tasks, play, runs)
+    } else {
+        Judged::Refused(Refusal::NotBegun(ModuleNo(0)))
+    }
+}
+
+fn control_row(controls: Controls, r: usize) -> ControlRow
+    ensures { λ w. ⌜ w ≡ controlAt controls r ⌝ }
+{
+    ControlRow {
+        node: NodeNo(byte_at(&controls.nodes, r) as u8),
+        start: Ticks(number_at(&controls.starts, r)),
+        stop: Ticks(number_at(&controls.stops, r)),
+    }
+}
+
+fn data_row<'a>(
+    carries: &'a [u8; 256],
+    deadlines: &'a [u32; 256],
+    starts: &'a [u32; 256],
+    stops: &'a [u32; 256],
+    r: usize,
+) -> DataRow
+    ensures { λ w. ⌜ w ≡ dataAt (now (carries .entry)) (now (deadlines .entry)) (now (starts .entry)) (now (stops .entry)) r ⌝ }
+{
+    DataRow {
+        task: TaskNo(byte_at(carries, r) as u8),
+        deadline: Ticks(number_at(deadlines, r)),
+        start: Ticks(number_at(starts, r)),
+        stop: Ticks(number_at(stops, r)),
+    }
+}
+
+// The row that starts now.
+fn started<'a>(
+    control: Found,
+    message: Found,
+    controls: Controls,
+    carries: &'a [u8; 256],
+    deadlines: &'a [u32; 256],
+    starts: &'a [u32; 256],
+    stops: &'a [u32; 256],
+) -> Said
+    ensures { λ r. ⌜ r ≡ saidBy controls (now (carries .entry)) (now (deadlines .entry)) (now (starts .entry)) (now (stops .entry)) (foundOf control) (foundOf message) ⌝ }
+{
+    match control {
+        Found::At(r) => Said::Control(control_row(controls, r)),
+        Found::Nothing => match message {
+            Found::At(r) => Said::Data(data_row(carries, deadlines, starts, stops, r)),
+            Found::Nothing => Said::Quiet,
+        },
+    }
+}
+
+// The steps but for the nodes; `control` and `message` are the rows that start now.
+fn played<'a>(
+    results: [Given; 32],
+    changes: [Change; 16],
+    modules: Modules,
+    modes: Modes,
+    tasks: Tasks,
+    controls: Controls,
+    play: Play,
+    period: Ticks,
+    control: Found,
+    message: Found,
+    ends: &'a [bool; 32],
+    runs: &'a [u32; 1024],
+    carries: &'a [u8; 256],
+    deadlines: &'a [u32; 256],
+) -> Play
+    ensures { λ r. ⌜ r ≡ playBy results changes modules modes tasks controls play period (foundOf control) (foundOf message) (now (ends .entry)) (now (runs .entry)) (now (carries .entry)) (now (deadlines .entry)) ⌝ }
+    ensures reads { λ r. ⌜ Reads results modules controls play r ⌝ }
+{
+    let ended = row_with(&controls.stops, controls.count as usize, play.clock.0);
+    let old_out = play.out;
+    let out = out_after(results, old_out);
+    let old_held = play.held;
+    let held = held_after(
+        old_held,
+        ended,
+        &controls.nodes,
+        &modules.sending,
+        &modules.sites,
+        &play.bytes,
+    );
+    let old_running = play.running;
+    let running = modes_after(changes, old_running);
+    let old_ages = play.ages;
+    let ages = ages_after(changes, old_ages, &play.running, &modes.periods);
+    let old_givens = play.givens;
+    let givens = givens_after(results, changes, old_givens, ends, &tasks.homes);
+    let old_bytes = play.bytes;
+    let bytes = bytes_after(
+        old_bytes,
+        control,
+        &controls.nodes,
+        &modules.sending,
+        &modules.sites,
+        &running,
+    );
+    let full = full_after(
+        play.full,
+        message,
+        carries,
+        deadlines,
+        &tasks.homes,
+        &running,
+        &tasks.bus,
+        runs,
+    );
+    let load = load_after(play.load, message, carries, &out);
+    let clock = Ticks(one_on(play.clock.0, period.0));
+    Play {
+        clock,
+        running,
+        ages,
+        bytes,
+        givens,
+        out,
+        held,
+        full,
+        load,
+    }
+}
+
+fn moves<'a>(
+    results: [Given; 32],
+    changes: [Change; 16],
+    modules: Modules,
+    modes: Modes,
+    tasks: Tasks,
+    controls: Controls,
+    datas: u16,
+    period: Ticks,
+    play: Play,
+    ends: &'a [bool; 32],
+    runs: &'a [u32; 1024],
+    carries: &'a [u8; 256],
+    deadlines: &'a [u32; 256],
+    starts: &'a [u32; 256],
+    stops: &'a [u32; 256],
+) -> Moved
+    ensures { λ r. ⌜ r ≡ movedBy results changes modules modes tasks controls datas period play (now (ends .entry)) (now (runs .entry)) (now (carries .entry)) (now (deadlines .entry)) (now (starts .entry)) (now (stops .entry)) ⌝ }
+    ensures reads { λ r. ⌜ Reads results modules controls play (r .play) ⌝ }
+{
+    let time = rest(play.clock.0, period.0);
+    let control = row_with(&controls.starts, controls.count as usize, time);
+    let message = row_with(starts, datas as usize, time);
+    let said = started(
+        control,
+        message,
+        controls,
+        carries,
+        deadlines,
+        starts,
+        stops,
+    );
+    let next = played(
+        results,
+        changes,
+        modules,
+        modes,
+        tasks,
+        controls,
+        play,
+        period,
+        control,
+        message,
+        ends,
+        runs,
+        carries,
+        deadlines,
+    );
+    Moved { said, play: next }
+}
+
+// What lands now: the data frame that stops.
+fn what_lands<'a>(
+    modules: Modules,
+    tasks: Tasks,
+    datas: u16,
+    play: Play,
+    carries: &'a [u8; 256],
+    stops: &'a [u32; 256],
+) -> Landing
+    ensures { λ r. ⌜ r ≡ landingBy modules tasks datas play (now (carries .entry)) (now (stops .entry)) ⌝ }
+{
+    let stopped = row_with(stops, datas as usize, play.clock.0);
+    lands(
+        stopped,
+        play.full,
+        play.load,
+        carries,
+        &tasks.homes,
+        &modules.sites,
+    )
+}
+
+// Steps (b) and (c) on the nodes, by what has moved already.
+fn nodes_moved<'a>(
+    nodes: [Node; 8],
+    modules: Modules,
+    tasks: Tasks,
+    next: Play,
+    clock: Ticks,
+    landing: Landing,
+    ends: &'a [bool; 32],
+    runs: &'a [u32; 1024],
+) -> [Node; 8]
+    ensures { λ r. ⌜ r ≡ nodesBy modules tasks next (clock .0) landing (now (ends .entry)) (now (runs .entry)) nodes ⌝ }
+{
+    nodes_after(
+        nodes,
+        landing,
+        ends,
+        &tasks.homes,
+        &modules.sites,
+        &next.out,
+        &next.held,
+        &tasks.bus,
+        runs,
+        clock.0,
+    )
+}
+
+impl Station {
+    // A station not begun, all zero, whose every tick gives 40 at 0.
+    pub fn not_begun() -> Station
+        ensures { λ r. ⌜ r ≡ notBegun ⌝ }
+    {
+        Station {
+            modules: Modules {
+                count: 0,
+                sites: [0; 16],
+                sending: [false; 16],
+            },
+            modes: Modes {
+                count: 0,
+                homes: [0; 32],
+                periods: [0; 32],
+                switches: [0; 32],
+            },
+            tasks: Tasks {
+                count: 0,
+                homes: [0; 32],
+                sizes: [0; 32],
+                worsts: [0; 32],
+                bus: [false; 32],
+            },
+            controls: Controls {
+                count: 0,
+                nodes: [0; 8],
+                starts: [0; 8],
+                stops: [0; 8],
+            },
+            period: Ticks(0),
+            datas: 0,
+            runs: [0; 1024],
+            carries: [0; 256],
+            deadlines: [0; 256],
+            starts: [0; 256],
+            stops: [0; 256],
+            play: Play {
+                clock: Ticks(0),
+                running: [0; 16],
+                ages: [0; 16],
+                bytes: [0; 16],
+                givens: [false; 32],
+                out: [0; 32],
+                held: [0; 128],
+                full: false,
+                load: 0,
+            },
+            nodes: [Node::zero(); 8],
+        }
+    }
+
+    // A tick: (a) to (f), or a refusal that leaves the station as it was.
+    pub fn tick(mut self, results: [Given; 32], changes: [Change; 16]) -> Ticked
+        ensures { λ r. ⌜ Answers self (ticked (keptOf self) (stateOf self) (inputOf results changes)) r ⌝ }
+    {
+        let modules = self.modules;
+        let modes = self.modes;
+        let tasks = self.tasks;
+        let controls = self.controls;
+        let play = self.play;
+        let nodes = self.nodes;
+        match refused(
+            results,
+            changes,
+            modules,
+            modes,
+            tasks,
+            controls,
+            self.datas,
+            self.period,
+            play,
+            nodes,
+            &self.runs,
+            &self.carries,
+            &self.deadlines,
+            &self.starts,
+            &self.stops,
+        ) {
+            Judged::Refused(x) => Ticked {
+                said: Said::Refused(x),
+                station: self,
+            },
+            Judged::Fine => {
+                let ends = ends_now(&self.runs, &play.running, &play.ages, &tasks.homes);
+                let next = moves(
+                    results,
+                    changes,
+                    modules,
+                    modes,
+                    tasks,
+                    controls,
+                    self.datas,
+                    self.period,
+                    play,
+                    &ends,
+                    &self.runs,
+                    &self.carries,
+                    &self.deadlines,
+                    &self.starts,
+                    &self.stops,
+                );
+                let after = next.play;
+                let value = what_lands(
+                    modules,
+                    tasks,
+                    self.datas,
+                    play,
+                    &self.carries,
+                    &self.stops,
+                );
+                if is_idle(value, &ends) {} else {
+                    let shown = nodes_moved(
+                        nodes,
+                        modules,
+                        tasks,
+                        after,
+                        play.clock,
+                        value,
+                        &ends,
+                        &self.runs,
+                    );
+                    self.nodes = shown;
+                }
+                self.play = after;
+                let said = next.said;
+                Ticked {
+                    said,
+                    station: self,
+                }
+            }
+        }
+    }
+
+    // What a node shows of a task; 0 where there is no such place.
+    pub fn shown(self, node: NodeNo, task: TaskNo) -> u64
+        ensures { λ r. ⌜ r ≡ stateOf self .shown (node .0) (task .0) ⌝ }
+    {
+        let nodes = self.nodes;
+        shown_on(nodes, node.place(), task.place())
+    }
+}
