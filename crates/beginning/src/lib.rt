@@ -1,13 +1,19 @@
 // The beginning of a played station: what it keeps of a passed plan and table, and its starting modes.
 ghost use mathlib.Core.Path.{_≡_};
 ghost use Rattle.laws.specs.Lists.{firstBad, upTo};
-ghost use Rattle.stationjudge.specs.Inputs.{changeOf, foundOf};
+ghost use Rattle.rules.specs.Station as rules;
+ghost use Rattle.stationjudge.specs.Inputs.{changeAt, changeOf, foundOf};
 ghost use Rattle.station.specs.Memory.{notBegun};
+ghost use Rattle.beginning.specs.Begins.{Begins};
 ghost use Rattle.beginning.specs.Starting.{begunBy, holdsOwn, startTest, startedBy};
 ghost use Rattle.beginning.specs.declared.Answer.the-variants.{Refused};
 use answers::Refusal;
+use checker::check;
+use frames::laid::Frames;
+use judging::table::read_table;
 use places::both;
 use places::byte_at;
+use planrules::read;
 use station::Station;
 use stationjudge::Change;
 use stationjudge::Found;
@@ -87,5 +93,21 @@ fn begin_with(kept: Station, starting: [Change; 16]) -> Begun
             answer: Answer::Started,
             station: started(kept, starting),
         },
+    }
+}
+
+// A station begins only with a passed table, else the checker's number is given; and with one mode of its own for each module.
+pub fn begin(plan: &[u8], table: &[u8], starting: [Change; 16]) -> Begun
+    ensures { λ r. ⌜ Begins r (rules.begin (now (plan .entry)) (now (table .entry)) (changeAt starting)) ⌝ }
+{
+    let checked = check(plan, table, Frames::MOST);
+    let answer = checked.answer;
+    match answer {
+        checker::Answer::Refused(why) => refused(why),
+        checker::Answer::Passed => {
+            let reading = read(plan);
+            let gathered = read_table(table);
+            begin_with(keeping::kept(reading.plan, gathered.table), starting)
+        }
     }
 }
