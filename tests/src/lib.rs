@@ -4,12 +4,15 @@
 
 pub mod bus;
 pub mod checker;
+pub mod driver;
 pub mod generate;
 pub mod maker;
 pub mod one_board;
 pub mod plan;
+pub mod program;
 pub mod records;
 pub mod station;
+pub mod vectors;
 
 pub use checker::check;
 pub use maker::make;

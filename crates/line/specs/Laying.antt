@@ -3,8 +3,10 @@ use mathlib.Core.Path.{_≡_}
 use lib.Dec.{leb}
 use lib.ListN.{length}
 use Rattle.laws.specs.Res.{Res, ok, refuse, _>>=_, _>>_, unless}
-use Rattle.rules.specs.Plan.{Plan}
-use Rattle.rules.specs.Frames.{Layout, layoutOf, frames, mostFrames, payloadsFit, controlEnd, busPeriod}
+use mathlib.Core.List.{List}
+use Prim.Native.Nat.{ℕ}
+use Rattle.rules.specs.Plan.{Plan, readPlan}
+use Rattle.rules.specs.Frames.{Layout, layout, layoutOf, frames, mostFrames, payloadsFit, controlEnd, busPeriod}
 use Rattle.answers.specs.Refusals.{said}
 use Rattle.line.specs.declared.Answer.{Answer}
 use Rattle.line.specs.declared.Answer.the-variants.{Sound, Refused}
@@ -37,3 +39,9 @@ unfoldable pub framing : Plan → Res Layout
 framing p = do
   unless 9 0 (leb (length (frames p)) mostFrames)
   closing p
+
+-- refusals 1 to 11 of a plan file
+unfoldable pub fileLaid : List ℕ → Res Layout
+fileLaid file = do
+  p ← readPlan file
+  layout p

@@ -17,7 +17,7 @@ ghost use Rattle.bus.specs.Senders.{sendersOf};
 ghost use Rattle.cycle.specs.Control.{controlLaid};
 ghost use Rattle.frames.specs.Laid.{framesLaid};
 ghost use Rattle.line.specs.Line.{noLine, taskTime, lineOf};
-ghost use Rattle.line.specs.Laying.{Lays, framing, closing};
+ghost use Rattle.line.specs.Laying.{Lays, framing, closing, fileLaid};
 ghost use Rattle.line.specs.declared.Answer.the-variants.{Refused};
 ghost use Rattle.line.specs.Tests.{flagAt, messageKeeps, payloadKeeps, nodeIn, startIn, stopIn};
 use answers::Refusal;
@@ -312,4 +312,16 @@ fn cycled(p: Plan) -> Laid
         return refused(Refusal::PeriodOffResolution);
     }
     framed(p, senders, runs, period)
+}
+
+// The line of a plan file, or the first refusal of 1 to 11 that applies, at its lowest place.
+pub fn lay_out(s: &[u8]) -> Laid
+    ensures { λ r. ⌜ Lays r (fileLaid (now (s .entry))) ⌝ }
+{
+    let reading = planrules::read(s);
+    let answer = reading.answer;
+    match answer {
+        planrules::Answer::Sound => cycled(reading.plan),
+        planrules::Answer::Refused(why) => refused(why),
+    }
 }

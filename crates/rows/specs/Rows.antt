@@ -1,11 +1,37 @@
 -- Frame rows as four numbers each, and what the arrays of placed frames give for them.
 use mathlib.Core.Bool.{Bool, true, false, cond}
-use mathlib.Core.List.{List, [], _∷_}
+use mathlib.Core.List.{List, [], _∷_, map}
 use lib.Dec.{ltb}
-use lib.ListN.{getD, set, replicate}
+use lib.ListN.{length, getD, set, replicate}
 use Prim.Native.Nat.{ℕ, zero, suc, _+_, _%_}
-use Rattle.laws.specs.Loops.{stores}
+use Rattle.laws.specs.Loops.{stores, padTo}
+use Rattle.rules.specs.Table.{FrameRow}
 use Rattle.rows.specs.declared.TableRows.{TableRows}
+use Rattle.rows.specs.declared.Rows.{Rows}
+
+-- the numbers of a frame row
+abbrev pub rowTask : FrameRow → ℕ
+rowTask r = r .task
+
+abbrev pub rowRelease : FrameRow → ℕ
+rowRelease r = r .release
+
+abbrev pub rowDeadline : FrameRow → ℕ
+rowDeadline r = r .deadline
+
+abbrev pub rowStart : FrameRow → ℕ
+rowStart r = r .start
+
+-- frame rows in arrays: their count, each array filled up with zeros
+unfoldable pub rowsLaid : List FrameRow → Rows
+rowsLaid rs =
+    record {
+      frames = length rs;
+      task = padTo 256 0 (map rowTask rs);
+      release = padTo 256 0 (map rowRelease rs);
+      deadline = padTo 256 0 (map rowDeadline rs);
+      start = padTo 256 0 (map rowStart rs);
+    }
 
 -- a zero row
 abbrev pub zeros : ℕ → List ℕ

@@ -4,7 +4,31 @@ ghost use mathlib.Core.Path.{_≡_};
 ghost use Prim.Native.Nat.{_+_, _%_, _≤_, _<_};
 ghost use lib.ListN.{length, getD, replicate};
 ghost use Rattle.laws.specs.Lists.{tab};
-ghost use Rattle.rows.specs.Rows.{rowIn, zeros, scattered, tableRows};
+ghost use mathlib.Core.List.{[]};
+ghost use Rattle.rows.specs.Rows.{rowIn, zeros, scattered, tableRows, rowsLaid};
+
+// The frame rows of an answer by value: `frames` of them, zeros behind.
+pub struct Rows {
+    pub frames: usize,
+    pub task: [u8; 256],
+    pub release: [u32; 256],
+    pub deadline: [u32; 256],
+    pub start: [u32; 256],
+}
+
+impl Rows {
+    pub fn none() -> Rows
+        ensures { λ r. ⌜ r ≡ rowsLaid [] ⌝ }
+    {
+        Rows {
+            frames: 0,
+            task: [0; 256],
+            release: [0; 256],
+            deadline: [0; 256],
+            start: [0; 256],
+        }
+    }
+}
 
 // Every row becomes zero.
 pub fn zero_rows(rows: &mut [[u32; 4]])

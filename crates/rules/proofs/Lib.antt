@@ -11,6 +11,7 @@ pub mod RefusalNumbers
 pub mod MadePasses
 pub mod Grid
 pub mod StationExact
+pub mod StationRanges
 pub mod StationStays
 pub mod TransparentTick
 pub mod TransparentOwn
@@ -21,3 +22,5 @@ pub mod TransparentPlan
 pub mod Transparent
 pub mod TransparentTold
 pub mod TransparentPlays
+pub mod StationPlaces
+pub mod StationKept

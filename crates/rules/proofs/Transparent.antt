@@ -173,6 +173,13 @@ module _ (p : Plan) (n t : ℕ) (h : consumes p n t ≡ true) where
     eqb-true (taskNode p (c .consumer)) n (both-right (eqb (c .producer) t) (eqb (taskNode p (c .consumer)) n) e),
   )
 
+  -- the node is that of some task
+  pub consumed-on : (u : ℕ) × (taskNode p u ≡ n)
+  unfolding consumes
+  consumed-on =
+      let f = any-member (brings p n t) (p .connections) (both-left (any (brings p n t) (p .connections)) (not (eqb (taskNode p t) n)) h) in
+      (f .one .consumer, consumer (f .one) (f .passes) .1)
+
   pub consumed-there : PlanKept p → t < length (p .tasks)
   unfolding consumes
   consumed-there kept =

@@ -6,7 +6,7 @@ use mathlib.Core.Option.{Option, none, some}
 use lib.Dec.{eqb}
 use borrow.Author.Tests.{eqb-true, not-false, lt-ltb, le-ltb, eq-eqb, ne-eqb}
 use Prim.Native.Nat.{ℕ, suc, _+_, _%_, _≤_, _<_, _∣_}
-use Rattle.laws.proofs.Lists.{both-left, both-right}
+use Rattle.laws.proofs.Lists.{both, both-left, both-right}
 use Rattle.laws.proofs.Loops.{firstBad-upTo-none, firstBad-upTo-some, firstBad-upTo-within, firstBad-upTo-fails}
 use Rattle.laws.proofs.Runs.{withinRun}
 use Rattle.laws.proofs.Tests.{Tests, by-iff, by-lt, by-divides, by-and}
@@ -105,7 +105,7 @@ module _ (k : Kept) (s : State) (i : Input) where
       pub shown-other : endsNow k s t ≡ true → (homeNode k t ≡ n → ⊥) → hasMessage k t (tick k s i .held n (k .taskHome t)) (s .clock) ≡ true
           → tick k s i .shown n t ≡ tick k s i .landed n t
       unfolding tick shownAfter ownShows otherShows
-      shown-other e d q = rw (e, ne-eqb (homeNode k t) n d, q)
+      shown-other e d q = rw (e, ne-eqb (homeNode k t) n d) (ap (λ (b : Bool). cond b (landedAfter k s n t) (s .shown n t)) q)
 
       pub shown-still : endsNow k s t ≡ false → tick k s i .shown n t ≡ s .shown n t
       unfolding tick shownAfter ownShows otherShows
@@ -145,7 +145,7 @@ module _ (k : Kept) (s : State) (i : Input) where
 
     is-byte : (r : ℕ) → IsByte r → isByteOf k m r ≡ true
     unfolding isByteOf
-    is-byte r h = rw (h .0, eq-eqb (k .moduleNode m) (k .controlNode r) (h .1))
+    is-byte r h = both (h .0) (eq-eqb (k .moduleNode m) (k .controlNode r) (h .1))
 
     pub held-found : (n r : ℕ) → rowWith (k .controlStop) (k .controls) (s .clock) ≡ some r → k .sends m ≡ true
         → k .moduleNode m ≡ k .controlNode r → (k .moduleNode m ≡ n → ⊥) → tick k s i .held n m ≡ s .modeByte m

@@ -357,7 +357,7 @@ ownEntries =
     ∷ notMade (planAWith 8 (rec 5 (1 ∷ 9 ∷ 1000 ∷ []))) plenty 4 8
     ∷ notMade (planAWith 6 (rec 4 (0 ∷ 60000 ∷ 60000 ∷ []))) plenty 5 3  -- 5: a module without a mode
     ∷ notMade (planAWith 4 (rec 4 (0 ∷ 60000 ∷ 7 ∷ []))) plenty 5 4  -- 5: switch period
-    ∷ notMade (planAWith 9 (rec 6 (0 ∷ 0 ∷ 7 ∷ []))) plenty 5 9  -- 5: rate
+    ∷ notMade (file (recordsS 0 1 1 40)) plenty 5 12  -- 5: rate, though 60 / 40, rounded down, would fit
     ∷ notMade (planAWith 4 (rec 4 (0 ∷ 60000 ∷ 20000 ∷ []))) plenty 5 9  -- 5: invocation period and switch period
     ∷ notMade (file (recordsA 30001 1)) plenty 5 9  -- 5: worst time
     ∷ notMade (planAWith 11 (rec 6 (2 ∷ 0 ∷ 1 ∷ []))) plenty 5 11  -- 5: task and mode of different modules

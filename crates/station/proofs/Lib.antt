@@ -4,3 +4,5 @@ pub mod Steps
 pub mod Nodes
 pub mod Ticking
 pub mod Unique
+pub mod Sized
+pub mod Plays

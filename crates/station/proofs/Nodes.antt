@@ -71,13 +71,13 @@ node-made : {l l′ s s′ : List ℕ} → l ≡ l′ → s ≡ s′ → _≡_ {
 node-made e h = rw (e, h)
 
 -- a node and one of the 16 modules have a place of their own
-place-node : (n m : ℕ) → m < 16 → (n * 16 + m) / 16 ≡ n
+pub place-node : (n m : ℕ) → m < 16 → (n * 16 + m) / 16 ≡ n
 place-node n m w = omega arith
 
-place-module : (n m : ℕ) → m < 16 → (n * 16 + m) % 16 ≡ m
+pub place-module : (n m : ℕ) → m < 16 → (n * 16 + m) % 16 ≡ m
 place-module n m w = omega arith
 
-place-within : (n m : ℕ) → n < 8 → m < 16 → n * 16 + m < 128
+pub place-within : (n m : ℕ) → n < 8 → m < 16 → n * 16 + m < 128
 place-within n m v w = omega arith
 
 -- ---- on the station's arrays

@@ -1,0 +1,153 @@
+//! The proved library against the Rust program, on the same inputs, in one run. Each round times
+//! both, one after the other; a line has the medians over the rounds, the median of the rounds'
+//! ratios, and the ratios between which the middle half of the rounds lies.
+
+use olbiothar::{FRAMES, Frame, LONGEST_TABLE, Station};
+use reference::generate::{Draft, History, Rng, Tick, job_a, starting_modes};
+use reference::plan::{Connection, Invocation, Mode, Task};
+use reference::{FrameRow, plan};
+use std::hint::black_box;
+use std::time::Instant;
+
+const ROUNDS: usize = 101;
+/// Of one side in one round.
+const ROUND_NANOSECONDS: f64 = 2_000_000.0;
+const TICKS: usize = 2_000;
+
+/// How often each bus task runs in a cycle: the sum is the number of frames. All divide the cycle.
+const SIZES: [(usize, &[u16]); 3] = [
+    (8, &[1, 2, 5]),
+    (64, &[1, 2, 3, 4, 5, 6, 7, 8, 9, 10, 9]),
+    (256, &[1, 2, 3, 4, 5, 6, 7, 8, 9, 10, 11, 12, 13, 14, 15, 16, 18, 20, 21, 22, 24, 15]),
+];
+
+/// Two nodes: all bus tasks are on one, and one task on the other reads them.
+fn plan_with(rates: &[u16]) -> Draft {
+    let period = 720_720;
+    let mut draft = job_a();
+    (draft.bits.kbits, draft.bits.overhead) = (10_000, 8);
+    draft.modes = [0, 1].map(|module| Mode { module, period, switch_period: period }).to_vec();
+    draft.tasks = rates.iter().map(|_| Task { module: 0, size: 4, worst_time: 1_000 }).collect();
+    draft.tasks.push(Task { module: 1, size: 4, worst_time: 1_000 });
+    let runs = (0..).zip(rates);
+    draft.invocations = runs.map(|(task, &rate)| Invocation { mode: 0, task, rate }).collect();
+    let consumer = rates.len() as u8;
+    draft.invocations.push(Invocation { mode: 1, task: consumer, rate: 1 });
+    draft.connections = (0..consumer).map(|producer| Connection { producer, consumer }).collect();
+    draft
+}
+
+/// Nanoseconds of one call: the mean over so many calls.
+fn time<T>(calls: usize, call: &mut impl FnMut() -> T) -> f64 {
+    let began = Instant::now();
+    for _ in 0..calls {
+        black_box(call());
+    }
+    began.elapsed().as_nanos() as f64 / calls as f64
+}
+
+fn quantile(sorted: &[f64], part: f64) -> f64 {
+    sorted[(part * (sorted.len() - 1) as f64).round() as usize]
+}
+
+fn sorted(values: impl Iterator<Item = f64>) -> Vec<f64> {
+    let mut values: Vec<f64> = values.collect();
+    values.sort_by(f64::total_cmp);
+    values
+}
+
+/// `parts` is how many of what the line speaks of are in a call.
+fn compare<P, R>(
+    name: &str,
+    frames: usize,
+    parts: usize,
+    mut proved: impl FnMut() -> P,
+    mut rust: impl FnMut() -> R,
+) {
+    let calls =
+        (ROUND_NANOSECONDS / time(1, &mut proved).max(time(1, &mut rust))).max(1.0) as usize;
+    let mut round = || (time(calls, &mut proved), time(calls, &mut rust));
+    round();
+    let rounds: Vec<(f64, f64)> = (0..ROUNDS).map(|_| round()).collect();
+    let proved = sorted(rounds.iter().map(|(proved, _)| proved / parts as f64));
+    let rust = sorted(rounds.iter().map(|(_, rust)| rust / parts as f64));
+    let ratios = sorted(rounds.iter().map(|(proved, rust)| proved / rust));
+    println!(
+        "{name:<6} {frames:>6} {:>12.0} {:>10.0} {:>8.2} {:>8.2} to {:.2}",
+        quantile(&proved, 0.5),
+        quantile(&rust, 0.5),
+        quantile(&ratios, 0.5),
+        quantile(&ratios, 0.25),
+        quantile(&ratios, 0.75),
+    );
+}
+
+fn compare_make(frames: usize, plan: &[u8]) -> Vec<u8> {
+    let (mut proved_rows, mut rows) = ([Frame::default(); FRAMES], [FrameRow::default(); FRAMES]);
+    let (mut proved_table, mut table) = ([0; LONGEST_TABLE], [0; LONGEST_TABLE]);
+    let length = reference::make(plan, &mut rows, &mut table).expect("the plan has a table");
+    assert_eq!(olbiothar::make(plan, &mut proved_rows, &mut proved_table), Ok(length));
+    assert_eq!(proved_table, table);
+    assert_eq!(rows.iter().filter(|row| row.deadline > 0).count(), frames);
+    let made = table[..length].to_vec();
+    compare(
+        "make",
+        frames,
+        1,
+        || olbiothar::make(black_box(plan), &mut proved_rows, &mut proved_table),
+        || reference::make(black_box(plan), &mut rows, &mut table),
+    );
+    made
+}
+
+fn compare_check(frames: usize, plan: &[u8], table: &[u8]) {
+    let (mut proved_rows, mut rows) = ([Frame::default(); FRAMES], [FrameRow::default(); FRAMES]);
+    assert_eq!(olbiothar::check(plan, table, &mut proved_rows), Ok(()));
+    compare(
+        "check",
+        frames,
+        1,
+        || olbiothar::check(black_box(plan), table, &mut proved_rows),
+        || reference::check(black_box(plan), table, &mut rows),
+    );
+}
+
+/// The same history again and again, each time from the beginning.
+fn compare_ticks(frames: usize, plan: &[u8], table: &[u8]) {
+    let read = plan::read(plan).expect("the plan is good");
+    let rng = &mut Rng::new(1);
+    let modes = starting_modes(rng, &read);
+    let mut history = History::new(rng, &read, &modes, None);
+    let ticks: Vec<Tick> = (0..TICKS).map(|_| history.next_tick().0).collect();
+    let begun = Station::begin(plan, table, &modes).expect("the table passes");
+    let rust_begun = reference::Station::begin(plan, table, modes).expect("the table passes");
+    compare(
+        "tick",
+        frames,
+        TICKS,
+        || {
+            let mut station = begun.clone();
+            for tick in &ticks {
+                assert!(station.tick(&tick.results, &tick.modes).is_ok());
+            }
+            station
+        },
+        || {
+            let mut station = rust_begun.clone();
+            for tick in &ticks {
+                assert!(station.tick(&tick.results, &tick.modes).is_ok());
+            }
+            station
+        },
+    );
+}
+
+fn main() {
+    println!("       frames    proved ns    Rust ns    ratio   middle half");
+    for (frames, rates) in SIZES {
+        let plan = plan_with(rates).bytes();
+        let table = compare_make(frames, &plan);
+        compare_check(frames, &plan, &table);
+        compare_ticks(frames, &plan, &table);
+    }
+}

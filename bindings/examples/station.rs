@@ -1,0 +1,41 @@
+//! Reads a plan file, makes its table, judges it, and plays its first tick.
+//!
+//!     cargo run --release --example station PLAN
+
+use olbiothar::{FRAMES, Frame, LONGEST_TABLE, MODULES, Station, TASKS, check, make};
+use std::error::Error;
+
+fn main() -> Result<(), Box<dyn Error>> {
+    let path = std::env::args().nth(1).ok_or("which plan?")?;
+    let plan = std::fs::read(path)?;
+    let mut rows = [Frame::default(); FRAMES];
+    let mut room = [0; LONGEST_TABLE];
+    let length = make(&plan, &mut rows, &mut room)?;
+    let table = &room[..length];
+    println!("a table of {length} bytes");
+    for frame in rows.iter().take_while(|frame| frame.deadline > 0) {
+        println!(
+            "task {} from {} to {}: starts at {}",
+            frame.task, frame.release, frame.deadline, frame.start
+        );
+    }
+    check(&plan, table, &mut rows)?;
+    let mut station = Station::begin(&plan, table, &first_modes(&plan))?;
+    println!("at time 0 starts {:?}", station.tick(&[None; TASKS], &[None; MODULES])?);
+    println!("node 1 shows {} of task 0", station.shown(1, 0));
+    Ok(())
+}
+
+/// The first mode of each module, in a plan that is known to be good: modes are the records of kind 4.
+fn first_modes(plan: &[u8]) -> [Option<u8>; MODULES] {
+    let lengths = [1, 17, 2, 2, 10, 7, 5, 3];
+    let (mut modes, mut at, mut mode) = ([None; MODULES], 0, 0);
+    while at < plan.len() {
+        if plan[at] == 4 {
+            modes[usize::from(plan[at + 1])].get_or_insert(mode);
+            mode += 1;
+        }
+        at += lengths[usize::from(plan[at])];
+    }
+    modes
+}

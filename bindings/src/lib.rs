@@ -1,0 +1,129 @@
+//! Bus tables made, checked and played by the proved library, `libolbiothar.a`.
+//!
+//! The functions below are thin: they lend slices to the library and put its answers into enums.
+//! What is proved, and what not, stands in the repository's README; that the library's functions
+//! stay within the memory that they are lent is proved, and is what makes the calls here safe.
+
+mod raw;
+mod refusal;
+
+pub use refusal::Refusal;
+
+pub const NODES: usize = 8;
+pub const MODULES: usize = 16;
+pub const MODES: usize = 32;
+pub const TASKS: usize = 32;
+/// Frame rows to lend, at the least.
+pub const FRAMES: usize = 256;
+/// No table is longer: a header, 8 control rows, 256 data rows and an end.
+pub const LONGEST_TABLE: usize = 8 + 8 * 10 + 256 * 14 + 1;
+
+/// A frame, by its number: by deadline, then by task. Times are in ticks of one microsecond.
+#[repr(C)]
+#[derive(Clone, Copy, Debug, Default, PartialEq, Eq)]
+pub struct Frame {
+    pub task: u8,
+    pub release: u32,
+    pub deadline: u32,
+    /// In the table that was made or checked.
+    pub start: u32,
+}
+
+/// Makes the table of a plan at the front of `table`, and gives its length. The rows are then the
+/// frames by number and zero rows behind them; after a refusal they are zero, but for
+/// [`Refusal::TooFewRows`], which changes nothing. A refusal leaves `table` as it was.
+pub fn make(plan: &[u8], rows: &mut [Frame], table: &mut [u8]) -> Result<usize, Refusal> {
+    // SAFETY: each pointer leads to as many bytes or rows as the number behind it says.
+    let answer = unsafe {
+        raw::olbiothar_make(
+            plan.as_ptr(),
+            plan.len(),
+            rows.as_mut_ptr(),
+            rows.len(),
+            table.as_mut_ptr(),
+            table.len(),
+        )
+    };
+    Refusal::of(answer).map(|length| length as usize)
+}
+
+/// Judges a table of a plan, whoever made it. The rows are then the frames by number, with the
+/// starts of this table, and zero rows behind them; a refusal leaves them as [`make`] does.
+pub fn check(plan: &[u8], table: &[u8], rows: &mut [Frame]) -> Result<(), Refusal> {
+    // SAFETY: each pointer leads to as many bytes or rows as the number behind it says.
+    let answer = unsafe {
+        raw::olbiothar_check(
+            plan.as_ptr(),
+            plan.len(),
+            table.as_ptr(),
+            table.len(),
+            rows.as_mut_ptr(),
+            rows.len(),
+        )
+    };
+    Refusal::of(answer).map(|_| ())
+}
+
+/// For each task, nothing or its result.
+pub type Results = [Option<u64>; TASKS];
+/// For each module, nothing or a mode.
+pub type Modes = [Option<u8>; MODULES];
+
+/// The row of the table that starts at a tick.
+#[derive(Clone, Copy, Debug, PartialEq, Eq)]
+pub enum Row {
+    Control { node: u8, start: u32, stop: u32 },
+    Data { task: u8, deadline: u32, start: u32, stop: u32 },
+}
+
+/// A played station that has begun.
+#[derive(Clone)]
+pub struct Station(raw::Station);
+
+impl Station {
+    /// Begins with a plan, a table that passes and a mode for each module; the next tick is time 0.
+    pub fn begin(plan: &[u8], table: &[u8], modes: &Modes) -> Result<Station, Refusal> {
+        let (values, given) = split(modes);
+        // SAFETY: each pointer leads to as many bytes as the number behind it says.
+        let begun = unsafe {
+            raw::olbiothar_begin(
+                plan.as_ptr(),
+                plan.len(),
+                table.as_ptr(),
+                table.len(),
+                &values,
+                &given,
+            )
+        };
+        Refusal::of(begun.answer).map(|_| Station(begun.station))
+    }
+
+    /// Plays one tick, and gives the row that starts at it. A refused tick changes nothing: it may
+    /// be tried again with other results and changes.
+    pub fn tick(&mut self, results: &Results, changes: &Modes) -> Result<Option<Row>, Refusal> {
+        let (values, given) = split(results);
+        let (modes, changed) = split(changes);
+        let ticked = raw::olbiothar_tick(self.0, &values, &given, &modes, &changed);
+        Refusal::of(ticked.answer)?;
+        self.0 = ticked.station;
+        let raw::Row { kind, sender, deadline, start, stop } = ticked.row;
+        Ok(match kind {
+            17 => Some(Row::Control { node: sender, start, stop }),
+            18 => Some(Row::Data { task: sender, deadline, start, stop }),
+            _ => None,
+        })
+    }
+
+    /// What a node shows of a task after the last accepted tick; 0 where there is no such place.
+    pub fn shown(&self, node: usize, task: usize) -> u64 {
+        let node = self.0.nodes.get(node);
+        node.and_then(|node| node.shown.get(task)).copied().unwrap_or(0)
+    }
+}
+
+/// The values, and which of them are given.
+fn split<T: Copy + Default, const PLACES: usize>(
+    places: &[Option<T>; PLACES],
+) -> ([T; PLACES], [u8; PLACES]) {
+    (places.map(Option::unwrap_or_default), places.map(|place| u8::from(place.is_some())))
+}

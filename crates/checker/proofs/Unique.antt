@@ -1,0 +1,25 @@
+-- No second result says of a table what the rules say of it.
+-- Assumes nothing.
+use mathlib.Core.Path.{_≡_, refl, sym, ap, _∙_}
+use Rattle.laws.specs.Res.{Res}
+use Rattle.laws.proofs.Res.{refuse≢ok}
+use Rattle.rules.specs.Checker as rules
+use Rattle.answers.proofs.Said.{said-once}
+use Rattle.rows.specs.declared.Rows.{Rows}
+use Rattle.checker.specs.declared.Answer.{Answer}
+use Rattle.checker.specs.declared.Answer.the-variants.{Passed, Refused}
+use Rattle.checker.specs.declared.Checked.{Checked}
+use Rattle.checker.specs.Checking.{Checks, heard}
+
+pub heard-once : (x y : Answer) → heard x ≡ heard y → x ≡ y
+heard-once Passed Passed e = refl
+heard-once Passed (Refused y) e = refuse≢ok (sym e)
+heard-once (Refused x) Passed e = refuse≢ok e
+heard-once (Refused x) (Refused y) e = ap Refused (said-once x y e)
+
+pub checks-once : (a b : Checked) (rule : Res rules.Passed) → Checks a rule → Checks b rule → a ≡ b
+checks-once a b rule p q =
+    let answers : a .answer ≡ b .answer = heard-once (a .answer) (b .answer) (p .answered ∙ sym (q .answered)) in
+    let rows : a .rows ≡ b .rows = p .left ∙ sym (q .left) in
+    ap {B = Checked} (λ (x : Answer). record { answer = x; rows = a .rows }) answers
+    ∙ ap {B = Checked} (λ (x : Rows). record { answer = b .answer; rows = x }) rows

@@ -1,0 +1,62 @@
+-- What a check by value answers, and the frame rows that it leaves.
+use mathlib.Core.Path.{_≡_}
+use mathlib.Core.List.{List, [], map}
+use mathlib.Core.Logic.{_⊎_, _↔_}
+use lib.Dec.{leb}
+use Prim.Native.Nat.{ℕ, _+_, _≤_, _<_}
+use Rattle.laws.specs.Res.{Res, ok, refuse, _>>_, unless}
+use Rattle.rules.specs.Frames.{mostFrames}
+use Rattle.rules.specs.Table.{FrameRow}
+use Rattle.rules.specs.Checker as rules
+use Rattle.rules.specs.Checker.{checkedRow, passed}
+use Rattle.rules.specs.Obeys.{Passes, CheckFault, UnreadAt, BrokenAt}
+use Rattle.answers.specs.Refusals.{said}
+use Rattle.line.specs.declared.Line.{Line}
+use Rattle.rows.specs.declared.Rows.{Rows}
+use Rattle.rows.specs.Rows.{rowsLaid}
+use Rattle.checker.specs.declared.Answer.{Answer}
+use Rattle.checker.specs.declared.Answer.the-variants.{Passed, Refused}
+use Rattle.checker.specs.declared.Checked.{Checked}
+
+-- the answer in the rules' words, and the rules' answer without what is handed on
+abbrev pub heard : Answer → Res (Unit {0})
+heard Passed = ok tt
+heard (Refused x) = said x
+
+abbrev pub verdict : Res rules.Passed → Res (Unit {0})
+verdict (ok c) = ok tt
+verdict (refuse n p) = refuse n p
+
+-- the frames by number with the start of the table that was checked; none where it is refused
+abbrev pub rowsOf : Res rules.Passed → List FrameRow
+rowsOf (ok c) = map (checkedRow (c .table)) (c .layout .frames)
+rowsOf (refuse n p) = []
+
+-- A check says what the rules say: the same number and place, or that the table passes, with the rows.
+pub record Checks (r : Checked) (rule : Res rules.Passed) : Type 0 where
+  pub answered : heard (r .answer) ≡ verdict rule
+  pub left : r .rows ≡ rowsLaid (rowsOf rule)
+
+-- "fewer than 256 frame rows lent", 19 before all; then the plan's refusals, then the table's
+unfoldable pub lentPassed : List ℕ → List ℕ → ℕ → Res rules.Passed
+lentPassed plan table lent = do
+  unless 19 mostFrames (leb mostFrames lent)
+  passed plan table
+
+-- the frames of a line in arrays, with a start for each
+unfoldable pub rowsOn : Line → List ℕ → Rows
+rowsOn l starts =
+    record { frames = l .frames; task = l .task; release = l .release; deadline = l .deadline; start = starts }
+
+-- The answer passes exactly the tables of laid out plans that keep every rule.
+unfoldable pub PassesExactly : Answer → List ℕ → List ℕ → ℕ → Type 0
+PassesExactly a plan table lent = (a ≡ Passed) ↔ ((256 ≤ lent) × Passes plan table)
+
+-- The answer refuses exactly by the first fault: 19 where too few rows are lent, else the plan's or the table's first; 20 exactly
+-- where the table first breaks the record rules; 21 to 27 exactly where that rule is the first that is broken, at its lowest record.
+pub record RefusesExactly (a : Answer) (plan table : List ℕ) (lent : ℕ) : Type 0 where
+  pub first :
+      (n p : ℕ) →
+      (heard a ≡ refuse n p) ↔ (((lent < 256) × (n ≡ 19) × (p ≡ 256)) ⊎ ((256 ≤ lent) × CheckFault plan table n p))
+  pub unread : (p : ℕ) → (heard a ≡ refuse 20 p) ↔ ((256 ≤ lent) × UnreadAt plan table p)
+  pub rule : (i p : ℕ) → i < 7 → (heard a ≡ refuse (21 + i) p) ↔ ((256 ≤ lent) × BrokenAt plan table i p)

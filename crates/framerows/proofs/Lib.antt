@@ -1,0 +1,5 @@
+pub mod Filled
+pub mod Lent
+pub mod Two
+pub mod Calls
+pub mod Laid

@@ -1,0 +1,15 @@
+use borrow.Author.Needs.{needs}
+use Rattle.framerows.proofs.Filled.{end-none, end-all}
+use Rattle.framerows.proofs.end_in.Statement.{statement}
+use Rattle.framerows.proofs.end_in.Tie as tie
+use Rattle.framerows.proofs.end_in.Reads as reads
+use Rattle.framerows.proofs.end_in.Lts as lts
+
+returns : tie.Need-returns
+returns c = (end-none _ (search needs), search needs)
+
+returns-2 : tie.Need-returns-2
+returns-2 c = (end-all _ (search needs), search needs)
+
+pub end-in-spec : {M : Type 1} → statement M
+end-in-spec = tie.close (tie.spec returns returns-2)

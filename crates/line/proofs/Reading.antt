@@ -1,0 +1,49 @@
+-- A plan that was read is laid out as the rules lay it out.
+-- Assumes nothing.
+use mathlib.Core.Path.{_≡_, refl, sym, ap, _∙_}
+use mathlib.Core.List.{List}
+use Prim.Native.Nat.{ℕ}
+use Rattle.laws.specs.Res.{Res, ok, refuse}
+use Rattle.laws.proofs.Res.{refuse≢ok, refuse-number, refuse-place}
+use Rattle.rules.specs.Plan.{Plan, readPlan}
+use Rattle.rules.specs.Frames.{Layout, layout}
+use Rattle.rules.proofs.PlanKept.{PlanKept, readable-kept}
+use Rattle.plan.specs.Memory.{layOut, seen}
+use Rattle.plan.proofs.Laid.{read-seen}
+use Rattle.answers.specs.declared.Refusal.{Refusal}
+use Rattle.answers.specs.Refusals.{said, numberOf, placeOf}
+use Rattle.planrules.specs.declared.Answer.the-variants.{Sound, Refused}
+use Rattle.planrules.specs.declared.Reading.{Reading}
+use Rattle.planrules.specs.Reading.{Reads, verdict}
+use Rattle.line.specs.declared.Laid.{Laid}
+use Rattle.line.specs.declared.Answer.the-variants as line
+use Rattle.line.specs.Line.{noLine}
+use Rattle.line.specs.Laying.{Lays, fileLaid}
+use Rattle.line.proofs.Ways.{lays-refused}
+
+verdict-ok : {C : Type 0} (rule : Res Plan) → verdict rule ≡ ok tt → ((p : Plan) → rule ≡ ok p → C) → C
+verdict-ok (ok p) e go = go p refl
+verdict-ok (refuse n k) e go = refuse≢ok e
+
+verdict-refused : (n k : ℕ) (rule : Res Plan) → verdict rule ≡ refuse n k → rule ≡ refuse n k
+verdict-refused n k (ok p) e = refuse≢ok (sym e)
+verdict-refused n k (refuse m j) e = rw (refuse-number e, refuse-place e)
+
+module _ (file : List ℕ) (r : Reading) (h : Reads r (readPlan file)) where
+  pub sound-kept : r .answer ≡ Sound → PlanKept (seen (r .plan))
+  sound-kept e =
+      verdict-ok (readPlan file) (rw (← h .answered, e)) λ p q.
+      rw (h .left, q, read-seen file p q) (readable-kept file p q)
+
+  pub sound-laid : (x : Laid) → r .answer ≡ Sound → Lays x (layout (seen (r .plan))) → Lays x (fileLaid file)
+  unfolding fileLaid
+  sound-laid x e l =
+      verdict-ok (readPlan file) (rw (← h .answered, e)) λ p q.
+      let same : seen (r .plan) ≡ p = rw (h .left, q) (read-seen file p q) in
+      rw q (rw same at l)
+
+  pub refused-laid : (x : Laid) (why : Refusal) → r .answer ≡ Refused why → x ≡ record { answer = line.Refused why; line = noLine } → Lays x (fileLaid file)
+  unfolding fileLaid
+  refused-laid x why e q =
+      lays-refused why x (fileLaid file) q
+      (let n : readPlan file ≡ said why = verdict-refused (numberOf why) (placeOf why) (readPlan file) (rw (← h .answered, e)) in rw n)

@@ -1,0 +1,447 @@
+-- A tick looks at the station's own places alone: 8 nodes, 16 modules, 32 tasks. States that agree at these are judged alike, start the
+-- same row and agree after the tick; so a history of states that agree with the rules' is a history of the rules, and demand 3 holds of it.
+use mathlib.Core.Path.{_≡_, refl, sym, ap, _∙_, subst}
+use mathlib.Core.Bool.{Bool, true, false}
+use mathlib.Core.List.{List, [], _∷_}
+use mathlib.Core.Option.{Option, none, some}
+use native.Mathlib.Omega.{arith}
+use lib.ListN.{length}
+use Prim.Native.Nat.{ℕ, zero, suc, _+_, _≤_, _<_}
+use Rattle.laws.specs.Res.{Res, ok, refuse, _>>_, unless}
+use Rattle.laws.specs.Lists.{firstBad, tab, upTo}
+use Rattle.laws.proofs.Res.{refuse≢ok, ok-injective, then-case, unless-ok}
+use Rattle.laws.proofs.Tests.{by-same}
+use Rattle.laws.proofs.Turns.{same-bad}
+use Rattle.rules.specs.Plan.{Plan, theTask, readPlan}
+use Rattle.rules.specs.Frames.{taskNode}
+use Rattle.rules.specs.Playing.{nodePlaces, modulePlaces, taskPlaces, Input}
+use Rattle.rules.specs.Station.{
+  Kept,
+  State,
+  runPeriod,
+  taskAge,
+  runAge,
+  isRunning,
+  isAwaited,
+  resultAwaited,
+  resultFits,
+  isLastChance,
+  resultInTime,
+  maySwitch,
+  mayTake,
+  changeAllowed,
+  judgedTick,
+  outAfter,
+  rowWith,
+  landsOn,
+  landedBy,
+  landedAfter,
+  heldBy,
+  heldAfter,
+  endsNow,
+  ownShows,
+  otherShows,
+  shownAfter,
+  modeAfter,
+  ageAfter,
+  givenAfter,
+  startingControl,
+  startingData,
+  modeByteBy,
+  modeByteAfter,
+  fullBy,
+  fullAfter,
+  loadBy,
+  loadAfter,
+  tick,
+  started,
+  Ticked,
+  step,
+  Begun,
+  begin,
+}
+use Rattle.rules.specs.StationRange.{inRange, ticked}
+use Rattle.rules.specs.History.{played, boardValue, consumes}
+use Rattle.rules.proofs.PlanKept.{PlanKept, readable-kept}
+use Rattle.rules.proofs.StationRanges.{KeptIn, PlayIn, StateIn, range-tests}
+use Rattle.rules.proofs.StationStays.{node-begins}
+use Rattle.rules.proofs.TransparentTick.{row-is}
+use Rattle.rules.proofs.Transparent.{consumed-on, consumed-there, transparent, transparent-own}
+
+-- Two states that agree at every place of a station.
+pub record Agree (s s′ : State) : Type 0 where
+  pub clock : s .clock ≡ s′ .clock
+  pub mode : (m : ℕ) → m < modulePlaces → s .mode m ≡ s′ .mode m
+  pub age : (m : ℕ) → m < modulePlaces → s .age m ≡ s′ .age m
+  pub given : (t : ℕ) → t < taskPlaces → s .given t ≡ s′ .given t
+  pub out : (t : ℕ) → t < taskPlaces → s .out t ≡ s′ .out t
+  pub landed : (n : ℕ) → n < nodePlaces → (t : ℕ) → t < taskPlaces → s .landed n t ≡ s′ .landed n t
+  pub shown : (n : ℕ) → n < nodePlaces → (t : ℕ) → t < taskPlaces → s .shown n t ≡ s′ .shown n t
+  pub held : (n : ℕ) → n < nodePlaces → (m : ℕ) → m < modulePlaces → s .held n m ≡ s′ .held n m
+  pub full : s .full ≡ s′ .full
+  pub load : s .load ≡ s′ .load
+  pub modeByte : (m : ℕ) → m < modulePlaces → s .modeByte m ≡ s′ .modeByte m
+
+pub agree-refl : {s : State} → Agree s s
+agree-refl =
+    record {
+      clock = refl;
+      mode = λ m w. refl;
+      age = λ m w. refl;
+      given = λ t w. refl;
+      out = λ t w. refl;
+      landed = λ n v t w. refl;
+      shown = λ n v t w. refl;
+      held = λ n v m w. refl;
+      full = refl;
+      load = refl;
+      modeByte = λ m w. refl;
+    }
+
+pub agree-sym : {s s′ : State} → Agree s s′ → Agree s′ s
+agree-sym a =
+    record {
+      clock = sym (a .clock);
+      mode = λ m w. sym (a .mode m w);
+      age = λ m w. sym (a .age m w);
+      given = λ t w. sym (a .given t w);
+      out = λ t w. sym (a .out t w);
+      landed = λ n v t w. sym (a .landed n v t w);
+      shown = λ n v t w. sym (a .shown n v t w);
+      held = λ n v m w. sym (a .held n v m w);
+      full = sym (a .full);
+      load = sym (a .load);
+      modeByte = λ m w. sym (a .modeByte m w);
+    }
+
+pub agree-trans : {s s′ s″ : State} → Agree s s′ → Agree s′ s″ → Agree s s″
+agree-trans a b =
+    record {
+      clock = a .clock ∙ b .clock;
+      mode = λ m w. a .mode m w ∙ b .mode m w;
+      age = λ m w. a .age m w ∙ b .age m w;
+      given = λ t w. a .given t w ∙ b .given t w;
+      out = λ t w. a .out t w ∙ b .out t w;
+      landed = λ n v t w. a .landed n v t w ∙ b .landed n v t w;
+      shown = λ n v t w. a .shown n v t w ∙ b .shown n v t w;
+      held = λ n v m w. a .held n v m w ∙ b .held n v m w;
+      full = a .full ∙ b .full;
+      load = a .load ∙ b .load;
+      modeByte = λ m w. a .modeByte m w ∙ b .modeByte m w;
+    }
+
+-- Two inputs that agree at every place of a station.
+pub record SameInput (i i′ : Input) : Type 0 where
+  pub result : (t : ℕ) → t < taskPlaces → i .result t ≡ i′ .result t
+  pub change : (m : ℕ) → m < modulePlaces → i .change m ≡ i′ .change m
+
+pub same-input : {i : Input} → SameInput i i
+same-input = record { result = λ t w. refl; change = λ m w. refl }
+
+-- ---- refusal 40
+
+module _ {k : Kept} {s s′ : State} (a : Agree s s′) where
+  play-agrees : (m : ℕ) → m < modulePlaces → PlayIn k s m → PlayIn k s′ m
+  play-agrees m w h =
+      record {
+        mode = rw (← a .mode m w) (h .mode);
+        own = λ v. rw (← a .mode m w) (h .own v);
+        age = rw (← a .mode m w, ← a .age m w) (h .age);
+        byte = rw (← a .modeByte m w) (h .byte);
+      }
+
+  pub range-agrees : StateIn k s → StateIn k s′
+  range-agrees h =
+      record {
+        clock = rw (← a .clock) (h .clock);
+        load = rw (← a .load) (h .load);
+        plays = λ m w. play-agrees m w (h .plays m w);
+        boxes = λ t w. rw (← a .out t w) (h .boxes t w);
+        landed = λ n v t w. rw (← a .landed n v t w) (h .landed n v t w);
+        shown = λ n v t w. rw (← a .shown n v t w) (h .shown n v t w);
+        held = λ n v m w. rw (← a .held n v m w) (h .held n v m w);
+      }
+
+pub inRange-agree : (k : Kept) {s s′ : State} → Agree s s′ → inRange k s ≡ inRange k s′
+inRange-agree k {s} {s′} a =
+    by-same (range-tests k s) (range-tests k s′) (λ h. (h .0, range-agrees a (h .1))) (λ h. (h .0, range-agrees (agree-sym a) (h .1)))
+
+-- ---- refusals 41 to 44
+
+module _ {k : Kept} {s s′ : State} {i i′ : Input} (kept : KeptIn k) (a : Agree s s′) (b : SameInput i i′) where
+  home-there : (t : ℕ) → t < taskPlaces → k .taskHome t < modulePlaces
+  home-there t w = omega (arith, kept .tasks t w .home, kept .moduleCount .most)
+
+  period-agree : (t : ℕ) → t < taskPlaces → runPeriod k s t ≡ runPeriod k s′ t
+  unfolding runPeriod
+  period-agree t w = ap (λ (μ : ℕ). k .run μ t) (a .mode (k .taskHome t) (home-there t w))
+
+  taskAge-agree : (t : ℕ) → t < taskPlaces → taskAge k s t ≡ taskAge k s′ t
+  unfolding taskAge
+  taskAge-agree t w = a .age (k .taskHome t) (home-there t w)
+
+  runAge-agree : (t : ℕ) → t < taskPlaces → runAge k s t ≡ runAge k s′ t
+  unfolding runAge
+  runAge-agree t w = rw (period-agree t w, taskAge-agree t w)
+
+  running-agree : (t : ℕ) → t < taskPlaces → isRunning k s t ≡ isRunning k s′ t
+  unfolding isRunning
+  running-agree t w = rw (period-agree t w, taskAge-agree t w)
+
+  result-agree : (t : ℕ) → t < taskPlaces → resultAwaited k s i t ≡ resultAwaited k s′ i′ t
+  unfolding resultAwaited isAwaited
+  result-agree t w = rw (b .result t w, running-agree t w, a .given t w, runAge-agree t w)
+
+  fits-agree : (t : ℕ) → t < taskPlaces → resultFits k i t ≡ resultFits k i′ t
+  unfolding resultFits
+  fits-agree t w = rw (b .result t w)
+
+  in-time-agree : (t : ℕ) → t < taskPlaces → resultInTime k s i t ≡ resultInTime k s′ i′ t
+  unfolding resultInTime isLastChance
+  in-time-agree t w = rw (b .result t w, running-agree t w, a .given t w, runAge-agree t w)
+
+  allowed-agree : (m : ℕ) → m < modulePlaces → changeAllowed k s i m ≡ changeAllowed k s′ i′ m
+  unfolding changeAllowed maySwitch
+  allowed-agree m w = rw (b .change m w) (go (i′ .change m))
+    where
+      go : (o : Option ℕ) → mayTake k s m o ≡ mayTake k s′ m o
+      go none = refl
+      go (some μ) = rw (a .mode m w, a .age m w)
+
+  pub judged-agree : judgedTick k s i ≡ judgedTick k s′ i′
+  unfolding judgedTick
+  judged-agree =
+      rw (
+        same-bad (resultAwaited k s i) (resultAwaited k s′ i′) taskPlaces result-agree,
+        same-bad (resultFits k i) (resultFits k i′) taskPlaces fits-agree,
+        same-bad (resultInTime k s i) (resultInTime k s′ i′) taskPlaces in-time-agree,
+        same-bad (changeAllowed k s i) (changeAllowed k s′ i′) modulePlaces allowed-agree,
+      )
+
+  -- ---- the six steps
+
+  out-agree : (t : ℕ) → t < taskPlaces → outAfter s i t ≡ outAfter s′ i′ t
+  unfolding outAfter
+  out-agree t w = rw (b .result t w, a .out t w)
+
+  landed-agree : (n : ℕ) → n < nodePlaces → (t : ℕ) → t < taskPlaces → landedAfter k s n t ≡ landedAfter k s′ n t
+  unfolding landedAfter landsOn
+  landed-agree n v t w =
+      ap (λ (now : ℕ). landedBy k s n t (rowWith (k .dataStop) (k .datas) now)) (a .clock) ∙ go (rowWith (k .dataStop) (k .datas) (s′ .clock))
+    where
+      go : (o : Option ℕ) → landedBy k s n t o ≡ landedBy k s′ n t o
+      go none = a .landed n v t w
+      go (some r) = rw (a .full, a .load, a .landed n v t w)
+
+  held-agree : (n : ℕ) → n < nodePlaces → (m : ℕ) → m < modulePlaces → heldAfter k s n m ≡ heldAfter k s′ n m
+  unfolding heldAfter
+  held-agree n v m w =
+      ap (λ (now : ℕ). heldBy k s n m (rowWith (k .controlStop) (k .controls) now)) (a .clock)
+      ∙ go (rowWith (k .controlStop) (k .controls) (s′ .clock))
+    where
+      go : (o : Option ℕ) → heldBy k s n m o ≡ heldBy k s′ n m o
+      go none = a .held n v m w
+      go (some r) = rw (a .modeByte m w, a .held n v m w)
+
+  ends-agree : (t : ℕ) → t < taskPlaces → endsNow k s t ≡ endsNow k s′ t
+  unfolding endsNow
+  ends-agree t w = rw (running-agree t w, period-agree t w, taskAge-agree t w)
+
+  shown-agree : (n : ℕ) → n < nodePlaces → (t : ℕ) → t < taskPlaces → shownAfter k s i n t ≡ shownAfter k s′ i′ n t
+  unfolding shownAfter ownShows otherShows
+  shown-agree n v t w =
+      rw (
+        ends-agree t w,
+        out-agree t w,
+        held-agree n v (k .taskHome t) (home-there t w),
+        landed-agree n v t w,
+        a .shown n v t w,
+        a .clock,
+      )
+
+  mode-agree : (m : ℕ) → m < modulePlaces → modeAfter s i m ≡ modeAfter s′ i′ m
+  unfolding modeAfter
+  mode-agree m w = rw (b .change m w, a .mode m w)
+
+  age-agree : (m : ℕ) → m < modulePlaces → ageAfter k s i m ≡ ageAfter k s′ i′ m
+  unfolding ageAfter
+  age-agree m w = rw (b .change m w, a .age m w, a .mode m w)
+
+  given-agree : (t : ℕ) → t < taskPlaces → givenAfter k s i t ≡ givenAfter k s′ i′ t
+  unfolding givenAfter
+  given-agree t w = rw (ends-agree t w, b .change (k .taskHome t) (home-there t w), a .given t w, b .result t w)
+
+  control-agree : startingControl k s ≡ startingControl k s′
+  unfolding startingControl
+  control-agree = rw (a .clock)
+
+  data-agree : startingData k s ≡ startingData k s′
+  unfolding startingData
+  data-agree = rw (a .clock)
+
+  byte-agree : (m : ℕ) → m < modulePlaces → modeByteAfter k s i m ≡ modeByteAfter k s′ i′ m
+  unfolding modeByteAfter
+  byte-agree m w = rw control-agree (go (startingControl k s′))
+    where
+      go : (o : Option ℕ) → modeByteBy k s i m o ≡ modeByteBy k s′ i′ m o
+      go none = a .modeByte m w
+      go (some r) = rw (mode-agree m w, a .modeByte m w)
+
+  -- a row that starts is a task's
+  task-there : (r : ℕ) → startingData k s′ ≡ some r → k .dataTask r < taskPlaces
+  unfolding startingData
+  task-there r e =
+      let few : r < k .datas = row-is (k .dataStart) (k .datas) _ r e .there in
+      omega (arith, kept .datas r (omega (arith, few, kept .dataCount)) .task, kept .taskCount .most)
+
+  full-agree : fullAfter k s i ≡ fullAfter k s′ i′
+  unfolding fullAfter
+  full-agree = rw data-agree (go (startingData k s′) task-there)
+    where
+      go : (o : Option ℕ) → ((r : ℕ) → o ≡ some r → k .dataTask r < taskPlaces) → fullBy k s i o ≡ fullBy k s′ i′ o
+      go none h = a .full
+      go (some r) h = rw (mode-agree (k .taskHome (k .dataTask r)) (home-there (k .dataTask r) (h r refl)))
+
+  load-agree : loadAfter k s i ≡ loadAfter k s′ i′
+  unfolding loadAfter
+  load-agree = rw data-agree (go (startingData k s′) task-there)
+    where
+      go : (o : Option ℕ) → ((r : ℕ) → o ≡ some r → k .dataTask r < taskPlaces) → loadBy k s i o ≡ loadBy k s′ i′ o
+      go none h = a .load
+      go (some r) h = out-agree (k .dataTask r) (h r refl)
+
+  pub tick-agree : Agree (tick k s i) (tick k s′ i′)
+  unfolding tick
+  tick-agree =
+      record {
+        clock = rw (a .clock);
+        mode = mode-agree;
+        age = age-agree;
+        given = given-agree;
+        out = out-agree;
+        landed = landed-agree;
+        shown = shown-agree;
+        held = held-agree;
+        full = full-agree;
+        load = load-agree;
+        modeByte = byte-agree;
+      }
+
+  pub started-agree : started k s ≡ started k s′
+  unfolding started
+  started-agree = rw (control-agree, data-agree)
+
+-- ---- answers
+
+-- Two answers of a tick: the same row and states that agree, or the same refusal.
+pub data SameAnswer : Res Ticked → Res Ticked → Type 0 where
+  accepted : {t t′ : Ticked} → t .row ≡ t′ .row → Agree (t .state) (t′ .state) → SameAnswer (ok t) (ok t′)
+  refused : (n p : ℕ) → SameAnswer (refuse n p) (refuse n p)
+
+-- an accepted tick that agrees with the one given
+pub record AlsoOk (t : Ticked) (r : Res Ticked) : Type 0 where
+  pub other : Ticked
+  pub is : r ≡ ok other
+  pub row : t .row ≡ other .row
+  pub state : Agree (t .state) (other .state)
+
+pub answer-ok : {r r′ : Res Ticked} {t : Ticked} → SameAnswer r r′ → r ≡ ok t → AlsoOk t r′
+answer-ok (accepted {t′ = t′} row state) e =
+    let same = ok-injective e in
+    record {
+      other = t′;
+      is = refl;
+      row = sym (ap (λ (t : Ticked). t .row) same) ∙ row;
+      state = subst (λ (t : Ticked). Agree (t .state) (t′ .state)) same state;
+    }
+answer-ok (refused n p) e = refuse≢ok e
+
+pub answer-refused : {r r′ : Res Ticked} {n p : ℕ} → SameAnswer r r′ → r ≡ refuse n p → r′ ≡ refuse n p
+answer-refused (accepted row state) e = refuse≢ok (sym e)
+answer-refused (refused n p) e = e
+
+pub answer-sym : {r r′ : Res Ticked} → SameAnswer r r′ → SameAnswer r′ r
+answer-sym (accepted row state) = accepted (sym row) (agree-sym state)
+answer-sym (refused n p) = refused n p
+
+module _ (k : Kept) {s s′ : State} {i i′ : Input} (a : Agree s s′) (b : SameInput i i′) where
+  pub step-agree : KeptIn k → SameAnswer (step k s i) (step k s′ i′)
+  unfolding step
+  step-agree kept = rw (judged-agree kept a b) (go (judgedTick k s′ i′))
+    where
+      go : (r : Res (Unit {0}))
+          → SameAnswer (_>>_ r (ok (record { row = started k s; state = tick k s i })))
+          (_>>_ r (ok (record { row = started k s′; state = tick k s′ i′ })))
+      go (ok u) = accepted (started-agree kept a b) (tick-agree kept a b)
+      go (refuse n p) = refused n p
+
+  -- on any station value
+  pub ticked-agree : SameAnswer (ticked k s i) (ticked k s′ i′)
+  unfolding ticked
+  ticked-agree = rw (inRange-agree k a) (go (inRange k s′) refl)
+    where
+      go : (c : Bool) → inRange k s′ ≡ c → SameAnswer (_>>_ (unless 40 0 c) (step k s i)) (_>>_ (unless 40 0 c) (step k s′ i′))
+      go true e = step-agree (range-tests k s′ .says e .0)
+      go false e = refused 40 0
+
+-- ---- histories
+
+-- Stations one after the other, each the agreeing result of an accepted tick of the one before.
+pub data Follows (k : Kept) : State → List Input → State → Type 0 where
+  begun : {s : State} → Follows k s [] s
+  next :
+      {s before after : State} {past : List Input} {t : Ticked} (i : Input) → Follows k s past before → ticked k before i ≡ ok t →
+      Agree after (t .state) → Follows k s (i ∷ past) after
+
+-- a tick that is accepted on a station value is accepted by the rules 41 to 44
+steps : (k : Kept) (s : State) (i : Input) (t : Ticked) → ticked k s i ≡ ok t → (inRange k s ≡ true) × (step k s i ≡ ok t)
+unfolding ticked
+steps k s i t e = then-case (unless 40 0 (inRange k s)) (step k s i) e λ u f g. (unless-ok 40 0 (inRange k s) f, g)
+
+played-on : (k : Kept) (s before : State) (i : Input) (past : List Input) (t : Ticked) → played k s past ≡ ok before → step k before i ≡ ok t
+    → played k s (i ∷ past) ≡ ok (t .state)
+unfolding played
+played-on k s before i past t e q = rw (e, q)
+
+-- the rules play the same history, to a state that agrees
+pub follows-played : {k : Kept} {s s₀ after : State} {history : List Input} → Agree s s₀ → Follows k s history after
+    → (s₁ : State) × ((played k s₀ history ≡ ok s₁) × Agree after s₁)
+unfolding played
+follows-played {s₀ = s₀} a begun = (s₀, (refl, a))
+follows-played {k} {s₀ = s₀} a (next {before = before} {past = past} {t = t} i f e same) =
+    let h = follows-played a f in
+    let g = steps k before i t e in
+    let other = answer-ok (step-agree k (h .1 .1) same-input (range-tests k before .says (g .0) .0)) (g .1) in
+    (other .other .state, (played-on k s₀ (h .0) i past (other .other) (h .1 .0) (other .is), agree-trans same (other .state)))
+
+-- ---- demand 3
+
+task-node : (p : Plan) → PlanKept p → (t : ℕ) → taskNode p t < nodePlaces
+unfolding taskNode
+task-node p kept t = node-begins p kept (theTask p t .home)
+
+-- Of stations that follow one another from a beginning, the value shown is the one board's:
+module _ (plan table : List ℕ) (starting : ℕ → Option ℕ) (b : Begun) (begins : begin plan table starting ≡ ok b)
+    (p : Plan) (reads : readPlan plan ≡ ok p) (s : State) (same : Agree s (b .state)) (history : List Input) (after : State)
+    (follows : Follows (b .kept) s history after) where
+  kept-plan : PlanKept p
+  kept-plan = readable-kept plan p reads
+
+  task-place : (t : ℕ) → t < length (p .tasks) → t < taskPlaces
+  task-place t w = omega (arith, w, kept-plan .taskCount .most)
+
+  -- on every node that consumes a task of another node
+  pub transparent-follows : (n t : ℕ) → consumes p n t ≡ true → after .shown n t ≡ boardValue p starting t history
+  transparent-follows n t c =
+      let h = follows-played same follows in
+      let on = consumed-on p n t c in
+      let node : n < nodePlaces = rw (← on .1) (task-node p kept-plan (on .0)) in
+      h .1 .1 .shown n node t (task-place t (consumed-there p n t c kept-plan))
+      ∙ transparent plan table starting b begins p reads history (h .0) (h .1 .0) n t c
+
+  -- on a task's own node
+  pub transparent-follows-own : (t : ℕ) → t < length (p .tasks) → after .shown (taskNode p t) t ≡ boardValue p starting t history
+  transparent-follows-own t w =
+      let h = follows-played same follows in
+      h .1 .1 .shown (taskNode p t) (task-node p kept-plan t) t (task-place t w)
+      ∙ transparent-own plan table starting b begins p reads history (h .0) (h .1 .0) t w

@@ -1,0 +1,202 @@
+/* Olbiothar: bus tables made, checked and played. The functions of libolbiothar.a (x86-64 Linux).
+ *
+ * Every function here is proved: for every value of its parameters it ends, stays within the memory that it is lent, and returns
+ * what is said below. There is no state behind the functions, no allocation and no lock: calls on different memory may run at the
+ * same time. What a caller owes is C's own: each pointer leads to as much memory as its parameter says (a pointer with a length of
+ * 0 is not followed, but is not null), and memory that a function writes to is lent to nothing else during the call.
+ *
+ * Times are in ticks of one microsecond. Files (plans, tables) are rows of records as document 01 has them.
+ */
+#ifndef OLBIOTHAR_H
+#define OLBIOTHAR_H
+
+#include <stddef.h>
+#include <stdint.h>
+
+#ifdef __cplusplus
+extern "C" {
+#else
+#include <stdbool.h>
+#endif
+
+enum {
+    OLBIOTHAR_NODES = 8,
+    OLBIOTHAR_MODULES = 16,
+    OLBIOTHAR_MODES = 32,
+    OLBIOTHAR_TASKS = 32,
+    OLBIOTHAR_FRAMES = 256,
+    /* No table is longer: a header, 8 control rows, 256 data rows and an end. */
+    OLBIOTHAR_LONGEST_TABLE = 8 + 8 * 10 + 256 * 14 + 1
+};
+
+/* The numbers of the refusals, and what the place says. */
+enum {
+    OLBIOTHAR_DONE = 0,                 /* not refused */
+    OLBIOTHAR_BAD_RECORDS = 1,          /* offset in the plan */
+    OLBIOTHAR_BAD_COUNT = 2,            /* kind of record */
+    OLBIOTHAR_NOT_THERE = 3,            /* record of the plan */
+    OLBIOTHAR_OUT_OF_RANGE = 4,         /* record of the plan */
+    OLBIOTHAR_UNFIT = 5,                /* record of the plan */
+    OLBIOTHAR_NO_BUS_TASK = 6,          /* 0 */
+    OLBIOTHAR_PERIOD_DOES_NOT_DIVIDE = 7, /* 0 */
+    OLBIOTHAR_PERIOD_OFF_RESOLUTION = 8, /* 0 */
+    OLBIOTHAR_TOO_MANY_FRAMES = 9,      /* 0 */
+    OLBIOTHAR_PAYLOAD_TOO_LARGE = 10,   /* 0 */
+    OLBIOTHAR_CONTROL_TOO_LONG = 11,    /* 0 */
+    OLBIOTHAR_NO_ROOM = 12,             /* frame for which the maker's rule found no place; a table may still exist */
+    OLBIOTHAR_BUFFER_TOO_SHORT = 13,    /* bytes needed */
+    OLBIOTHAR_TOO_FEW_ROWS = 19,        /* 256, the rows needed */
+    OLBIOTHAR_BAD_TABLE_RECORDS = 20,   /* offset in the table */
+    OLBIOTHAR_WRONG_HEADER = 21,        /* 0 */
+    OLBIOTHAR_WRONG_CONTROL_ROW = 22,   /* record of the table */
+    OLBIOTHAR_NO_NEW_FRAME = 23,        /* record of the table */
+    OLBIOTHAR_WRONG_TIME = 24,          /* record of the table */
+    OLBIOTHAR_BEFORE_RELEASE = 25,      /* record of the table */
+    OLBIOTHAR_AFTER_DEADLINE = 26,      /* record of the table */
+    OLBIOTHAR_GAP_BROKEN = 27,          /* record of the table */
+    OLBIOTHAR_NOT_BEGUN = 40,           /* module; 0 at a tick */
+    OLBIOTHAR_NOT_AWAITED = 41,         /* task */
+    OLBIOTHAR_RESULT_TOO_LARGE = 42,    /* task */
+    OLBIOTHAR_RESULT_OVERDUE = 43,      /* task */
+    OLBIOTHAR_CHANGE_NOT_ALLOWED = 44   /* module */
+};
+
+/* What a call comes to: `number` is 0, or that of the first refusal that applies, at its lowest place. */
+typedef struct olbiothar_answer {
+    uint32_t number;
+    uint64_t place;
+} olbiothar_answer;
+
+/* A frame, by its number: by deadline, then by task. `start` is its start in the table. */
+typedef struct olbiothar_frame {
+    uint8_t task;
+    uint32_t release;
+    uint32_t deadline;
+    uint32_t start;
+} olbiothar_frame;
+
+/* Makes the table of a plan by the latest-release rule.
+ *
+ * `plan`, `plan_length`: any bytes. `rows`, `row_count`: lent frame rows, 256 or more. `table`, `table_length`: lent bytes, with any
+ * contents; OLBIOTHAR_LONGEST_TABLE are always enough.
+ *
+ * number 0: the table stands in the first `place` bytes of `table`, and passes olbiothar_check; the bytes behind it are as they
+ *   were. The rows are the frames by number, with their starts, then zero rows to the end.
+ * number 1 to 13: the bytes of `table` are as they were, every row is zero.
+ * number 19 (fewer than 256 rows; tested before all else): table and rows are as they were.
+ */
+olbiothar_answer olbiothar_make(const uint8_t *plan, size_t plan_length, olbiothar_frame *rows, size_t row_count,
+                                uint8_t *table, size_t table_length);
+
+/* Judges a table of a plan, whoever made it. A table that passes is one by which each node shows, at each tick, what it would show
+ * if all tasks ran on one board and there were no bus.
+ *
+ * number 0: it passes (`place` is 0). The rows are the frames by number, with their starts in this table, then zero rows to the end.
+ * number 1 to 11 (the plan's) and 20 to 27 (the table's): every row is zero.
+ * number 19: the rows are as they were.
+ */
+olbiothar_answer olbiothar_check(const uint8_t *plan, size_t plan_length, const uint8_t *table, size_t table_length,
+                                 olbiothar_frame *rows, size_t row_count);
+
+/* A played station. It holds its own copy of what it needs of plan and table. All bytes zero, it is a station not begun. Its
+ * fields may be read; `nodes[n].shown[t]` is what node n shows of task t after the last accepted tick. Any numbers may stand in a
+ * station that is ticked: one outside its range makes the tick answer 40 at 0. A `bool` holds 0 or 1, here as in all of C. */
+typedef struct olbiothar_node {
+    uint64_t landed[OLBIOTHAR_TASKS];
+    uint64_t shown[OLBIOTHAR_TASKS];
+} olbiothar_node;
+
+typedef struct olbiothar_station {
+    struct {
+        uint8_t count;
+        uint8_t sites[OLBIOTHAR_MODULES];
+        bool sending[OLBIOTHAR_MODULES];
+    } modules;
+    struct {
+        uint8_t count;
+        uint8_t homes[OLBIOTHAR_MODES];
+        uint32_t periods[OLBIOTHAR_MODES];
+        uint32_t switches[OLBIOTHAR_MODES];
+    } modes;
+    struct {
+        uint8_t count;
+        uint8_t homes[OLBIOTHAR_TASKS];
+        uint8_t sizes[OLBIOTHAR_TASKS];
+        uint32_t worsts[OLBIOTHAR_TASKS];
+        bool bus[OLBIOTHAR_TASKS];
+    } tasks;
+    struct {
+        uint8_t count;
+        uint8_t nodes[OLBIOTHAR_NODES];
+        uint32_t starts[OLBIOTHAR_NODES];
+        uint32_t stops[OLBIOTHAR_NODES];
+    } controls;
+    uint32_t period;
+    uint16_t datas;
+    uint32_t runs[OLBIOTHAR_MODES * OLBIOTHAR_TASKS];
+    uint8_t carries[OLBIOTHAR_FRAMES];
+    uint32_t deadlines[OLBIOTHAR_FRAMES];
+    uint32_t starts[OLBIOTHAR_FRAMES];
+    uint32_t stops[OLBIOTHAR_FRAMES];
+    struct {
+        uint32_t clock;
+        uint8_t running[OLBIOTHAR_MODULES];
+        uint32_t ages[OLBIOTHAR_MODULES];
+        uint8_t bytes[OLBIOTHAR_MODULES];
+        bool givens[OLBIOTHAR_TASKS];
+        uint64_t out[OLBIOTHAR_TASKS];
+        uint8_t held[OLBIOTHAR_NODES * OLBIOTHAR_MODULES];
+        bool full;
+        uint64_t load;
+    } play;
+    olbiothar_node nodes[OLBIOTHAR_NODES];
+} olbiothar_station;
+
+/* A beginning: the answer, and the station beside it. */
+typedef struct olbiothar_begun {
+    olbiothar_answer answer;
+    olbiothar_station station;
+} olbiothar_begun;
+
+/* Begins a station with a plan, a table and a mode for each module: module m starts in mode `modes[m]` if `given[m]` is not 0.
+ *
+ * number 0: `station` has begun; its next tick is time 0.
+ * number 1 to 11 and 20 to 27: what olbiothar_check gives for plan and table. number 40: of the 16 places, the lowest whose module
+ *   is given no mode of its own, or that is given one behind the plan's modules. `station` is then a station not begun, all zero.
+ */
+olbiothar_begun olbiothar_begin(const uint8_t *plan, size_t plan_length, const uint8_t *table, size_t table_length,
+                                const uint8_t modes[OLBIOTHAR_MODULES], const uint8_t given[OLBIOTHAR_MODULES]);
+
+/* The row that starts at a tick: `kind` is 0 (none; the rest is 0), 17 (the control row of node `sender`; `deadline` is 0) or 18 (a
+ * data row of task `sender`). */
+typedef struct olbiothar_row {
+    uint8_t kind;
+    uint8_t sender;
+    uint32_t deadline;
+    uint32_t start;
+    uint32_t stop;
+} olbiothar_row;
+
+/* A tick: the answer, the row that starts at it, and the station beside them. */
+typedef struct olbiothar_ticked {
+    olbiothar_answer answer;
+    olbiothar_row row;
+    olbiothar_station station;
+} olbiothar_ticked;
+
+/* Plays one tick. The task t is given the result `results[t]` if `given[t]` is not 0; the module m changes to mode `modes[m]` if
+ * `changed[m]` is not 0.
+ *
+ * number 0: the tick is accepted; `station` is the station after it.
+ * number 40 at 0: the station has not begun, or holds a number outside its range. number 41 to 44: a result or a change that is not
+ *   allowed. `station` is then the station that was given: the same tick may be tried again with other results and changes.
+ */
+olbiothar_ticked olbiothar_tick(olbiothar_station station, const uint64_t results[OLBIOTHAR_TASKS],
+                                const uint8_t given[OLBIOTHAR_TASKS], const uint8_t modes[OLBIOTHAR_MODULES],
+                                const uint8_t changed[OLBIOTHAR_MODULES]);
+
+#ifdef __cplusplus
+}
+#endif
+
+#endif

@@ -1,0 +1,206 @@
+/* Calls the library as it is asked to on standard input, and answers on standard output. Numbers are little-endian.
+ *
+ *   make:  'M' plan length u32, rows u32, room u32, plan, rows, buffer  ->  answer, rows, buffer
+ *   check: 'C' plan length u32, table length u32, rows u32, plan, table, rows  ->  answer, rows
+ *   begin: 'B' plan length u32, table length u32, plan, table, modes 16 x u8, given 16 x u8  ->  answer
+ *   tick:  'T' results 32 x u64, given 32 x u8, modes 16 x u8, changed 16 x u8  ->  answer, row, shown 8 x 32 x u64
+ *
+ * A row of frames is four u32: task, release, deadline, start; an answer is number u32, place u64; a row of the table that starts is
+ * kind u8, sender u8, deadline u32, start u32, stop u32.
+ *
+ * All memory that the library is lent ends at a page that nothing may touch, and what stands before it is looked at after each call.
+ */
+#define _GNU_SOURCE
+#include "olbiothar.h"
+
+#include <stdio.h>
+#include <stdlib.h>
+#include <string.h>
+#include <sys/mman.h>
+#include <unistd.h>
+
+static void fail(const char *why) {
+    fprintf(stderr, "driver: %s\n", why);
+    exit(3);
+}
+
+static void take(void *into, size_t length) {
+    if (fread(into, 1, length, stdin) != length) fail("a request is cut");
+}
+
+static void give(const void *from, size_t length) {
+    if (fwrite(from, 1, length, stdout) != length) fail("an answer cannot be written");
+}
+
+static uint32_t take_u32(void) {
+    uint32_t number;
+    take(&number, sizeof number);
+    return number;
+}
+
+static void give_u32(uint32_t number) { give(&number, sizeof number); }
+
+enum { ROOM = 8 << 20, BEFORE = 64, MARK = 0xc3, MOST_ROWS = 4096 };
+
+/* Memory to lend from, with a page behind it that nothing may touch. */
+typedef struct arena {
+    uint8_t *end;
+    uint8_t *lent;
+} arena;
+
+static arena new_arena(void) {
+    size_t page = (size_t)sysconf(_SC_PAGESIZE);
+    uint8_t *start = mmap(NULL, ROOM + page, PROT_READ | PROT_WRITE, MAP_PRIVATE | MAP_ANONYMOUS, -1, 0);
+    if (start == MAP_FAILED || mprotect(start + ROOM, page, PROT_NONE) != 0) fail("no memory");
+    arena made = {start + ROOM, start + ROOM};
+    return made;
+}
+
+static void *lend(arena *from, size_t length) {
+    if (length > ROOM - BEFORE) fail("a request is too long");
+    from->lent = from->end - length;
+    memset(from->lent - BEFORE, MARK, BEFORE);
+    return from->lent;
+}
+
+static void look_before(const arena *of) {
+    for (size_t at = 0; at < BEFORE; at++)
+        if (of->lent[at - BEFORE] != MARK) fail("a byte before the lent memory changed");
+}
+
+/* A file that the library only reads. */
+typedef struct file {
+    arena memory;
+    uint8_t *copy;
+    size_t length;
+} file;
+
+static file new_file(void) {
+    file made = {new_arena(), malloc(ROOM), 0};
+    if (made.copy == NULL) fail("no memory");
+    return made;
+}
+
+static void take_file(file *into, size_t length) {
+    void *bytes = lend(&into->memory, length);
+    into->length = length;
+    take(bytes, length);
+    memcpy(into->copy, bytes, length);
+}
+
+static void look_unchanged(const file *of) {
+    look_before(&of->memory);
+    if (memcmp(of->copy, of->memory.lent, of->length) != 0) fail("a file that is only read changed");
+}
+
+/* Rows as they stand in requests and answers: four u32 each. */
+static uint32_t numbers[MOST_ROWS][4];
+
+static olbiothar_frame *take_rows(arena *from, size_t count) {
+    if (count > MOST_ROWS) fail("a request has too many rows");
+    olbiothar_frame *rows = lend(from, count * sizeof *rows);
+    take(numbers, count * sizeof *numbers);
+    for (size_t k = 0; k < count; k++)
+        rows[k] = (olbiothar_frame){(uint8_t)numbers[k][0], numbers[k][1], numbers[k][2], numbers[k][3]};
+    return rows;
+}
+
+static void give_rows(const olbiothar_frame *rows, size_t count) {
+    for (size_t k = 0; k < count; k++) {
+        numbers[k][0] = rows[k].task;
+        numbers[k][1] = rows[k].release;
+        numbers[k][2] = rows[k].deadline;
+        numbers[k][3] = rows[k].start;
+    }
+    give(numbers, count * sizeof *numbers);
+}
+
+static void give_answer(olbiothar_answer answer) {
+    give_u32(answer.number);
+    give(&answer.place, sizeof answer.place);
+}
+
+static file plan, table;
+static arena row_memory, buffer_memory;
+static olbiothar_station station;
+
+static void make(void) {
+    size_t plan_length = take_u32(), row_count = take_u32(), room = take_u32();
+    take_file(&plan, plan_length);
+    olbiothar_frame *rows = take_rows(&row_memory, row_count);
+    uint8_t *buffer = lend(&buffer_memory, room);
+    take(buffer, room);
+    olbiothar_answer answer = olbiothar_make(plan.memory.lent, plan_length, rows, row_count, buffer, room);
+    look_unchanged(&plan);
+    look_before(&row_memory);
+    look_before(&buffer_memory);
+    give_answer(answer);
+    give_rows(rows, row_count);
+    give(buffer, room);
+}
+
+static void check(void) {
+    size_t plan_length = take_u32(), table_length = take_u32(), row_count = take_u32();
+    take_file(&plan, plan_length);
+    take_file(&table, table_length);
+    olbiothar_frame *rows = take_rows(&row_memory, row_count);
+    olbiothar_answer answer =
+        olbiothar_check(plan.memory.lent, plan_length, table.memory.lent, table_length, rows, row_count);
+    look_unchanged(&plan);
+    look_unchanged(&table);
+    look_before(&row_memory);
+    give_answer(answer);
+    give_rows(rows, row_count);
+}
+
+static void begin(void) {
+    uint8_t modes[OLBIOTHAR_MODULES], given[OLBIOTHAR_MODULES];
+    size_t plan_length = take_u32(), table_length = take_u32();
+    take_file(&plan, plan_length);
+    take_file(&table, table_length);
+    take(modes, sizeof modes);
+    take(given, sizeof given);
+    olbiothar_begun begun =
+        olbiothar_begin(plan.memory.lent, plan_length, table.memory.lent, table_length, modes, given);
+    look_unchanged(&plan);
+    look_unchanged(&table);
+    station = begun.station;
+    give_answer(begun.answer);
+}
+
+static void tick(void) {
+    uint64_t results[OLBIOTHAR_TASKS];
+    uint8_t given[OLBIOTHAR_TASKS], modes[OLBIOTHAR_MODULES], changed[OLBIOTHAR_MODULES];
+    take(results, sizeof results);
+    take(given, sizeof given);
+    take(modes, sizeof modes);
+    take(changed, sizeof changed);
+    olbiothar_ticked ticked = olbiothar_tick(station, results, given, modes, changed);
+    station = ticked.station;
+    give_answer(ticked.answer);
+    give(&ticked.row.kind, 1);
+    give(&ticked.row.sender, 1);
+    give_u32(ticked.row.deadline);
+    give_u32(ticked.row.start);
+    give_u32(ticked.row.stop);
+    for (size_t node = 0; node < OLBIOTHAR_NODES; node++)
+        give(station.nodes[node].shown, sizeof station.nodes[node].shown);
+}
+
+int main(void) {
+    plan = new_file();
+    table = new_file();
+    row_memory = new_arena();
+    buffer_memory = new_arena();
+    for (int asked; (asked = getchar()) != EOF;) {
+        switch (asked) {
+        case 'M': make(); break;
+        case 'C': check(); break;
+        case 'B': begin(); break;
+        case 'T': tick(); break;
+        default: fail("an unknown request");
+        }
+        if (fflush(stdout) != 0) fail("an answer cannot be written");
+    }
+    return 0;
+}

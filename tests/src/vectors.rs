@@ -1,0 +1,162 @@
+//! The vectors of `vectors/`, run on any program. Bytes are in hex, `-` is an empty file or list.
+//! - `make.txt`: `PLAN ROWS ROOM -> table BYTES rows T,R,D,S ..` or `-> refused N at P`; ROWS is how
+//!   many frame rows are lent, ROOM how many bytes of table (`-`: plenty).
+//! - `check.txt`: `PLAN TABLE ROWS -> passed rows T,R,D,S ..` or `-> refused N at P`.
+//! - `play.txt`: histories. `begin PLAN TABLE MODES -> begun`, then ticks `tick results R modes M ->
+//!   shown S`, where S lists the places that are not zero at moment (e), `node/task=value`, or says
+//!   `same`; `quiet N` is N ticks at which nothing is given and nothing shown changes.
+
+use crate::program::{Program, Shown};
+use crate::station::{Modes, Results};
+use crate::{FrameRow, MOST_MODULES, MOST_NODES, MOST_TASKS, Refusal};
+
+const PLENTY: usize = 4_096;
+const OLD_BYTE: u8 = 0xa5;
+const OLD_ROW: FrameRow = FrameRow { task: 7, release: 77, deadline: 777, start: 7_777 };
+
+fn bytes(hex: &str) -> Vec<u8> {
+    let digits = if hex == "-" { "" } else { hex };
+    digits.as_bytes().chunks(2).map(hex_byte).collect()
+}
+
+fn hex_byte(digits: &[u8]) -> u8 {
+    u8::from_str_radix(std::str::from_utf8(digits).unwrap(), 16).unwrap()
+}
+
+fn refusal(answer: &str) -> Option<Refusal> {
+    let (number, place) = answer.strip_prefix("refused ")?.split_once(" at ")?;
+    Some(Refusal { number: number.parse().unwrap(), place: place.parse().unwrap() })
+}
+
+fn frame_row(text: &str) -> FrameRow {
+    let numbers: Vec<u32> = text.split(',').map(|number| number.parse().unwrap()).collect();
+    let [task, release, deadline, start] = numbers[..] else { panic!("{text}") };
+    FrameRow { task, release, deadline, start }
+}
+
+/// The lent rows on return: the frames, then zero rows; all as they were after 19.
+fn rows_after(lent: usize, frames: &str, refused: Option<Refusal>) -> Vec<FrameRow> {
+    if refused.is_some_and(|refusal| refusal.number == 19) {
+        return vec![OLD_ROW; lent];
+    }
+    let mut rows: Vec<FrameRow> = frames.split_whitespace().map(frame_row).collect();
+    rows.resize(lent, FrameRow::default());
+    rows
+}
+
+/// Panics at the first vector that the program answers otherwise. The same holds below.
+pub fn make_tables(program: &mut dyn Program) {
+    for (line, text) in include_str!("../vectors/make.txt").lines().enumerate() {
+        let (given, answer) = text.split_once(" -> ").unwrap();
+        let [plan, lent, room] = given.split(' ').collect::<Vec<_>>()[..] else { panic!("{line}") };
+        let lent: usize = lent.parse().unwrap();
+        let mut buffer = vec![OLD_BYTE; room.parse().unwrap_or(PLENTY)];
+        let mut rows = vec![OLD_ROW; lent];
+        let made = program.make(&bytes(plan), &mut rows, &mut buffer);
+        let refused = refusal(answer);
+        let (table, frames) = match answer.strip_prefix("table ") {
+            Some(table) => table.split_once(" rows").unwrap(),
+            None => ("-", ""),
+        };
+        let table = bytes(table);
+        assert_eq!(made, refused.map_or(Ok(table.len()), Err), "line {line}");
+        assert!(buffer.starts_with(&table), "line {line}");
+        assert!(buffer[table.len()..].iter().all(|&byte| byte == OLD_BYTE), "line {line}");
+        assert_eq!(rows, rows_after(lent, frames, refused), "line {line}");
+    }
+}
+
+pub fn check_tables(program: &mut dyn Program) {
+    for (line, text) in include_str!("../vectors/check.txt").lines().enumerate() {
+        let (given, answer) = text.split_once(" -> ").unwrap();
+        let [plan, table, lent] = given.split(' ').collect::<Vec<_>>()[..] else {
+            panic!("{line}")
+        };
+        let lent: usize = lent.parse().unwrap();
+        let mut rows = vec![OLD_ROW; lent];
+        let checked = program.check(&bytes(plan), &bytes(table), &mut rows);
+        let refused = refusal(answer);
+        assert_eq!(checked, refused.map_or(Ok(()), Err), "line {line}");
+        let frames = answer.strip_prefix("passed rows").unwrap_or("");
+        assert_eq!(rows, rows_after(lent, frames, refused), "line {line}");
+    }
+}
+
+pub fn play_histories(program: &mut dyn Program) {
+    let mut player = Player { program, shown: [[0; MOST_TASKS]; MOST_NODES] };
+    for text in include_str!("../vectors/play.txt").lines() {
+        match text.split_once(' ').unwrap() {
+            ("begin", rest) => player.begin(rest),
+            ("tick", rest) => player.tick(rest),
+            ("quiet", ticks) => player.quiet(ticks),
+            _ => panic!("{text}"),
+        }
+    }
+}
+
+/// Reads `place=value` pairs into places.
+fn places<T: Copy, const PLACES: usize>(text: &str, value: fn(&str) -> T) -> [Option<T>; PLACES] {
+    let mut places = [None; PLACES];
+    for pair in text.split_whitespace().filter(|&pair| pair != "-") {
+        let (place, given) = pair.split_once('=').unwrap();
+        places[place.parse::<usize>().unwrap()] = Some(value(given));
+    }
+    places
+}
+
+fn modes(text: &str) -> Modes {
+    places(text, |mode| mode.parse().unwrap())
+}
+
+fn results(text: &str) -> Results {
+    places(text, |result| result.parse().unwrap())
+}
+
+fn shown_places(text: &str) -> Shown {
+    let mut shown = [[0; MOST_TASKS]; MOST_NODES];
+    for pair in text.split_whitespace().filter(|&pair| pair != "-") {
+        let (place, value) = pair.split_once('=').unwrap();
+        let (node, task) = place.split_once('/').unwrap();
+        shown[node.parse::<usize>().unwrap()][task.parse::<usize>().unwrap()] =
+            value.parse().unwrap();
+    }
+    shown
+}
+
+struct Player<'a> {
+    program: &'a mut dyn Program,
+    shown: Shown,
+}
+
+impl Player<'_> {
+    fn begin(&mut self, text: &str) {
+        let (given, answer) = text.split_once(" -> ").unwrap();
+        let [plan, table, starting] = given.splitn(3, ' ').collect::<Vec<_>>()[..] else {
+            panic!("{text}")
+        };
+        let begun = self.program.begin(&bytes(plan), &bytes(table), &modes(starting));
+        assert_eq!(begun.err(), refusal(answer), "{text}");
+        self.shown = [[0; MOST_TASKS]; MOST_NODES];
+    }
+
+    fn tick(&mut self, text: &str) {
+        let (given, answer) = text.split_once(" -> ").unwrap();
+        let given = given.strip_prefix("results ").unwrap();
+        let (given_results, given_modes) = given.split_once(" modes ").unwrap();
+        let ticked = self.program.tick(&results(given_results), &modes(given_modes));
+        assert_eq!(ticked.answer.err(), refusal(answer), "{text}");
+        match answer.strip_prefix("shown ") {
+            None | Some("same") => {}
+            Some(shown) => self.shown = shown_places(shown),
+        }
+        assert_eq!(ticked.shown, self.shown, "{text}");
+    }
+
+    fn quiet(&mut self, ticks: &str) {
+        for _ in 0..ticks.parse().unwrap() {
+            let ticked = self.program.tick(&[None; MOST_TASKS], &[None; MOST_MODULES]);
+            assert!(ticked.answer.is_ok());
+            assert_eq!(ticked.shown, self.shown);
+        }
+    }
+}
