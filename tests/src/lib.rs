@@ -10,6 +10,7 @@ pub mod one_board;
 pub mod plan;
 pub mod records;
 pub mod station;
+pub mod stored;
 
 pub use checker::check;
 pub use maker::make;
