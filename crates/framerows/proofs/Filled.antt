@@ -1,16 +1,14 @@
 -- The numbers of `fill`: the frame table read at a row's place, and the rows after all stores. Assumes nothing.
-use mathlib.Core.Path.{_≡_, refl, sym, ap, _∙_}
-use mathlib.Core.Bool.{Bool, true, false, cond}
+use mathlib.Core.Path.{_≡_, sym, ap, _∙_}
 use mathlib.Core.List.{List}
 use mathlib.Core.Logic.{_⊎_, inl, inr}
 use native.Mathlib.Omega.{arith}
-use lib.Dec.{leb, ltb}
 use lib.ListN.{length, getD, replicate, length-replicate, getD-replicate}
-use borrow.Author.Tests.{lt-ltb, le-ltb, le-leb, lt-leb, ltb-true, ltb-false}
-use Prim.Native.Nat.{ℕ, _+_, _≤_, _<_, zero-le}
+use borrow.Author.Tests.{lt-ltb, le-ltb, le-leb, lt-leb}
+use Prim.Native.Nat.{ℕ, _≤_, _<_}
 use Rattle.laws.specs.Lists.{tab}
 use Rattle.laws.specs.Loops.{stores}
-use Rattle.laws.proofs.Lists.{tested}
+use Rattle.laws.proofs.Orders.{le-or-lt}
 use Rattle.laws.proofs.Loops.{stores-all, stores-at, stores-beyond, length-stores}
 use Rattle.rows.specs.declared.Rows.{Rows}
 use Rattle.framerows.specs.declared.Frame.{Frame}
@@ -27,16 +25,11 @@ unfolding withinPlaces
 within-past k h = rw (le-ltb k 256 h)
 
 pub within-most : (k : ℕ) → withinPlaces k ≤ 256
-within-most k = by-test (tested (ltb k 256))
+within-most k = by-place (le-or-lt 256 k)
   where
-    by-test : (ltb k 256 ≡ true) ⊎ (ltb k 256 ≡ false) → withinPlaces k ≤ 256
-    by-test (inl e) =
-        let h : k < 256 = ltb-true k 256 e in
-        let q : k ≡ withinPlaces k = within-below k h in
-        omega arith
-    by-test (inr e) =
-        let q : 256 ≡ withinPlaces k = within-past k (ltb-false k 256 e) in
-        omega arith
+    by-place : (256 ≤ k) ⊎ (k < 256) → withinPlaces k ≤ 256
+    by-place (inl h) = let e : 256 ≡ withinPlaces k = within-past k h in omega arith
+    by-place (inr h) = let e : k ≡ withinPlaces k = within-below k h in omega arith
 
 -- ---- the lent rows that are written
 
@@ -48,65 +41,57 @@ pub end-all : (n : ℕ) → 256 ≤ n → n ≡ endIn n
 unfolding endIn
 end-all n h = rw (le-ltb n 256 h)
 
-pub end-within : (n : ℕ) → endIn n ≤ n
-end-within n = by-test (tested (ltb n 256))
-  where
-    by-test : (ltb n 256 ≡ true) ⊎ (ltb n 256 ≡ false) → endIn n ≤ n
-    by-test (inl e) =
-        let q : 0 ≡ endIn n = end-none n (ltb-true n 256 e) in
-        omega arith
-    by-test (inr e) =
-        let q : n ≡ endIn n = end-all n (ltb-false n 256 e) in
-        omega arith
-
 -- ---- the frame table
 
 pub length-table : (r : Rows) → length (frameTable r) ≡ 257
 unfolding frameTable
 length-table r = length-stores (replicate 257 zeroFrame) (frameAt r) (withinPlaces (r .frames)) ∙ length-replicate 257 zeroFrame
 
+pub frame-there : (r : Rows) (k : ℕ) → k < withinPlaces (r .frames) → frameIn r k ≡ frameAt r k
+unfolding frameIn
+frame-there r k h = rw (lt-ltb k (withinPlaces (r .frames)) h)
+
+pub frame-behind : (r : Rows) (k : ℕ) → withinPlaces (r .frames) ≤ k → frameIn r k ≡ zeroFrame
+unfolding frameIn
+frame-behind r k h = rw (le-ltb k (withinPlaces (r .frames)) h)
+
+table-there : (r : Rows) (k : ℕ) → k < withinPlaces (r .frames) → getD (frameTable r) k zeroFrame ≡ frameAt r k
+unfolding frameTable
+table-there r k h =
+    let w : withinPlaces (r .frames) ≤ length (replicate 257 zeroFrame) = rw (length-replicate 257 zeroFrame) (omega (arith, within-most (r .frames))) in
+    stores-at (replicate 257 zeroFrame) (frameAt r) (withinPlaces (r .frames)) k zeroFrame h w
+
+table-behind : (r : Rows) (k : ℕ) → withinPlaces (r .frames) ≤ k → k < 257 → getD (frameTable r) k zeroFrame ≡ zeroFrame
+unfolding frameTable
+table-behind r k h l =
+    stores-beyond (replicate 257 zeroFrame) (frameAt r) (withinPlaces (r .frames)) k zeroFrame h ∙ getD-replicate 257 k zeroFrame zeroFrame l
+
 -- what stands at the place of row k is row k
 pub table-read : (r : Rows) (k : ℕ) → getD (frameTable r) (withinPlaces k) zeroFrame ≡ frameIn r k
-unfolding frameTable frameIn
-table-read r k = by-tests (tested (ltb k n)) (tested (ltb k 256))
+table-read r k = by-places (le-or-lt (withinPlaces (r .frames)) k) (le-or-lt 256 k)
   where
-    n : ℕ
-    n = withinPlaces (r .frames)
-
-    blank : List Frame
-    blank = replicate 257 zeroFrame
-
-    most : n ≤ 256
+    most : withinPlaces (r .frames) ≤ 256
     most = within-most (r .frames)
 
-    behind : (p : ℕ) → n ≤ p → p < 257 → getD (stores blank (frameAt r) n) p zeroFrame ≡ zeroFrame
-    behind p h l = stores-beyond blank (frameAt r) n p zeroFrame h ∙ getD-replicate 257 p zeroFrame zeroFrame l
-
-    by-tests : (ltb k n ≡ true) ⊎ (ltb k n ≡ false) → (ltb k 256 ≡ true) ⊎ (ltb k 256 ≡ false)
-        → getD (stores blank (frameAt r) n) (withinPlaces k) zeroFrame ≡ cond (ltb k n) (frameAt r k) zeroFrame
-    by-tests (inl e) f =
-        let h : k < n = ltb-true k n e in
-        let w : n ≤ length blank = rw (length-replicate 257 zeroFrame) (omega (arith, most)) in
-        rw (← within-below k (omega (arith, h, most)), e) (stores-at blank (frameAt r) n k zeroFrame h w)
-    by-tests (inr e) (inl f) =
-        let h : k < 256 = ltb-true k 256 f in
-        rw (← within-below k h, e) (behind k (ltb-false k n e) (omega arith))
-    by-tests (inr e) (inr f) = rw (← within-past k (ltb-false k 256 f), e) (behind 256 most (omega arith))
+    by-places : (withinPlaces (r .frames) ≤ k) ⊎ (k < withinPlaces (r .frames)) → (256 ≤ k) ⊎ (k < 256) → getD (frameTable r) (withinPlaces k) zeroFrame ≡ frameIn r k
+    by-places (inr h) f = rw (← within-below k (omega (arith, h, most))) (table-there r k h ∙ sym (frame-there r k h))
+    by-places (inl h) (inr l) = rw (← within-below k l) (table-behind r k h (omega (arith, l)) ∙ sym (frame-behind r k h))
+    by-places (inl h) (inl l) = rw (← within-past k l) (table-behind r 256 most (omega arith) ∙ sym (frame-behind r k h))
 
 -- ---- the rows
 
+pub filled-few : (r : Rows) (ys : List Frame) → length ys < 256 → filled r ys ≡ ys
+unfolding filled
+filled-few r ys h = rw (lt-leb 256 (length ys) h)
+
+pub filled-all : (r : Rows) (ys : List Frame) → 256 ≤ length ys → filled r ys ≡ tab (frameIn r) 0 (length ys)
+unfolding filled
+filled-all r ys h = rw (le-leb 256 (length ys) h)
+
 -- after the last store every lent row is as it should be
 pub filled-end : (r : Rows) (ys : List Frame) (i : ℕ) → i ≡ endIn (length ys) → stores ys (frameIn r) i ≡ filled r ys
-unfolding filled
-filled-end r ys i e = by-test (tested (ltb (length ys) 256))
+filled-end r ys i e = by-length (le-or-lt 256 (length ys))
   where
-    by-test : (ltb (length ys) 256 ≡ true) ⊎ (ltb (length ys) 256 ≡ false)
-        → stores ys (frameIn r) i ≡ cond (leb 256 (length ys)) (tab (frameIn r) 0 (length ys)) ys
-    by-test (inl h) =
-        let l : length ys < 256 = ltb-true (length ys) 256 h in
-        let q : i ≡ 0 = e ∙ sym (end-none (length ys) l) in
-        rw (lt-leb 256 (length ys) l, q)
-    by-test (inr h) =
-        let l : 256 ≤ length ys = ltb-false (length ys) 256 h in
-        let q : i ≡ length ys = e ∙ sym (end-all (length ys) l) in
-        rw (le-leb 256 (length ys) l, q) (stores-all ys (frameIn r))
+    by-length : (256 ≤ length ys) ⊎ (length ys < 256) → stores ys (frameIn r) i ≡ filled r ys
+    by-length (inl h) = ap (stores ys (frameIn r)) (e ∙ sym (end-all (length ys) h)) ∙ stores-all ys (frameIn r) ∙ sym (filled-all r ys h)
+    by-length (inr h) = ap (stores ys (frameIn r)) (e ∙ sym (end-none (length ys) h)) ∙ sym (filled-few r ys h)

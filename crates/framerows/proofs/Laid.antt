@@ -1,25 +1,21 @@
 -- Frame rows that were laid into arrays and filled into a lent list are the rows that document 01 asks for, and a frame struct says no more than its row.
 -- Assumes nothing.
 use mathlib.Core.Path.{_≡_, refl, sym, ap, _∙_}
-use mathlib.Core.Bool.{Bool, true, false, cond}
 use mathlib.Core.List.{List, [], _∷_, _++_, map}
 use mathlib.Core.Logic.{_⊎_, inl, inr}
 use native.Mathlib.Nat.{eq-or-lt-of-le}
 use native.Mathlib.Omega.{arith}
-use lib.Dec.{leb, ltb}
-use lib.ListN.{length, getD, replicate, length-replicate, length-append, length-map, List·getD-eq-default, List·getD-append}
-use borrow.Author.Tests.{lt-ltb, le-ltb, le-leb, lt-leb, ltb-true, ltb-false}
+use lib.ListN.{length, getD, replicate, length-replicate, length-append, List·getD-eq-default}
 use Prim.Native.Nat.{ℕ, zero, suc, _+_, _-_, _≤_, _<_}
-use Rattle.laws.specs.Lists.{tab}
-use Rattle.laws.specs.Loops.{padTo}
-use Rattle.laws.proofs.Lists.{tested, map-tab, length-tab}
+use Rattle.laws.proofs.Lists.{map-tab}
 use Rattle.laws.proofs.Arrays.{tab-list, getD-laid}
+use Rattle.laws.proofs.Orders.{le-or-lt}
 use Rattle.rules.specs.Table.{FrameRow, zeroRow, rowsThenZero}
 use Rattle.rows.specs.declared.Rows.{Rows}
 use Rattle.rows.specs.Rows.{rowTask, rowRelease, rowDeadline, rowStart, rowsLaid}
 use Rattle.framerows.specs.declared.Frame.{Frame}
-use Rattle.framerows.specs.Frames.{zeroFrame, rowOf, frameOf, withinPlaces, frameAt, frameIn, filled}
-use Rattle.framerows.proofs.Filled.{within-below, within-past}
+use Rattle.framerows.specs.Frames.{rowOf, frameOf, withinPlaces, frameAt, frameIn, filled}
+use Rattle.framerows.proofs.Filled.{within-below, within-past, frame-there, frame-behind, filled-few, filled-all}
 
 -- ---- a frame struct and its row say the same
 
@@ -35,14 +31,6 @@ pub rows-once : (fs gs : List Frame) → map rowOf fs ≡ map rowOf gs → fs �
 rows-once fs gs e = sym (frames-said fs) ∙ ap (map frameFor) e ∙ frames-said gs
 
 -- ---- what is lent and filled
-
-pub filled-few : (r : Rows) (ys : List Frame) → length ys < 256 → filled r ys ≡ ys
-unfolding filled
-filled-few r ys h = rw (lt-leb 256 (length ys) h)
-
-pub filled-all : (r : Rows) (ys : List Frame) → 256 ≤ length ys → filled r ys ≡ tab (frameIn r) 0 (length ys)
-unfolding filled
-filled-all r ys h = rw (le-leb 256 (length ys) h)
 
 within-all : (n : ℕ) → n ≤ 256 → n ≡ withinPlaces n
 within-all n h = by-case (eq-or-lt-of-le h)
@@ -60,17 +48,23 @@ getD-filled [] (suc m) zero z = refl
 getD-filled [] (suc m) (suc k) z = getD-filled [] m k z
 
 module _ (rs : List FrameRow) (few : length rs ≤ 256) where
+  all-within : withinPlaces (rowsLaid rs .frames) ≡ length rs
+  unfolding rowsLaid
+  all-within = sym (within-all (length rs) few)
+
   -- row k of the laid rows
+  row-there : (k : ℕ) → k < length rs → rowOf (frameAt (rowsLaid rs) k) ≡ getD rs k zeroRow
+  unfolding frameAt rowsLaid
+  row-there k h =
+      let l : k < 256 = omega (arith, h, few) in
+      rw (getD-laid rowTask rs zeroRow 256 k refl l, getD-laid rowRelease rs zeroRow 256 k refl l, getD-laid rowDeadline rs zeroRow 256 k refl l, getD-laid rowStart rs zeroRow 256 k refl l)
+
   row-laid : (k : ℕ) → rowOf (frameIn (rowsLaid rs) k) ≡ getD rs k zeroRow
-  unfolding frameIn frameAt rowsLaid
-  row-laid k = rw (← within-all (length rs) few) (by-test (tested (ltb k (length rs))))
+  row-laid k = by-place (le-or-lt (length rs) k)
     where
-      by-test : (ltb k (length rs) ≡ true) ⊎ (ltb k (length rs) ≡ false) → rowOf (cond (ltb k (length rs)) (frameAt (rowsLaid rs) k) zeroFrame) ≡ getD rs k zeroRow
-      by-test (inl e) =
-          let h : k < length rs = ltb-true k (length rs) e in
-          let l : k < 256 = omega arith in
-          rw (e, getD-laid rowTask rs zeroRow 256 k refl l, getD-laid rowRelease rs zeroRow 256 k refl l, getD-laid rowDeadline rs zeroRow 256 k refl l, getD-laid rowStart rs zeroRow 256 k refl l)
-      by-test (inr e) = rw e (sym (List·getD-eq-default rs zeroRow (ltb-false k (length rs) e)))
+      by-place : (length rs ≤ k) ⊎ (k < length rs) → rowOf (frameIn (rowsLaid rs) k) ≡ getD rs k zeroRow
+      by-place (inl h) = ap rowOf (frame-behind (rowsLaid rs) k (rw all-within h)) ∙ sym (List·getD-eq-default rs zeroRow h)
+      by-place (inr h) = ap rowOf (frame-there (rowsLaid rs) k (rw all-within h)) ∙ row-there k h
 
   -- "the frames by number (task, release, deadline, the table's start), then zero rows"
   pub filled-laid : (ys : List Frame) → 256 ≤ length ys → map rowOf (filled (rowsLaid rs) ys) ≡ rowsThenZero rs (length ys)
@@ -90,3 +84,12 @@ module _ (rs : List FrameRow) (few : length rs ≤ 256) where
           let f : length (replicate rest zeroRow) ≡ rest = length-replicate rest zeroRow in
           let g : rest ≡ length ys - length rs = refl in
           omega arith
+
+  -- so the lent rows are whatever rows are these where enough are lent, and the old ones where not
+  pub filled-is : (ys zs : List Frame) (r : Rows) (rows : List FrameRow) → r ≡ rowsLaid rs → zs ≡ filled r ys
+      → (256 ≤ length ys → rows ≡ rowsThenZero rs (length ys)) → (length ys < 256 → rows ≡ map rowOf ys) → map rowOf zs ≡ rows
+  filled-is ys zs r rows laid e enough short = by-length (le-or-lt 256 (length ys))
+    where
+      by-length : (256 ≤ length ys) ⊎ (length ys < 256) → map rowOf zs ≡ rows
+      by-length (inl h) = rw (e, laid, enough h) (filled-laid ys h)
+      by-length (inr h) = rw (e, short h) (ap (map rowOf) (filled-few r ys h))

@@ -1,5 +1,5 @@
 -- Frame rows as structs, and what a lent list of them holds on return.
-use mathlib.Core.Bool.{Bool, true, false, cond}
+use mathlib.Core.Bool.{cond}
 use mathlib.Core.List.{List}
 use lib.Dec.{leb, ltb}
 use lib.ListN.{length, getD, replicate}

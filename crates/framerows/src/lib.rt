@@ -16,6 +16,9 @@ pub struct Frame {
 }
 
 impl Frame {
+    // Refusals 9 and 19: a plan has at most this many frames, and as many rows are lent.
+    pub const MOST: usize = 256;
+
     pub fn zero() -> Frame
         ensures { λ r. ⌜ r ≡ zeroFrame ⌝ }
     {
@@ -43,17 +46,17 @@ fn framed(task: u8, release: u32, deadline: u32, start: u32) -> Frame
 fn within(k: usize) -> usize
     ensures { λ r. ⌜ (r ≡ withinPlaces k) × (r ≤ 256) ⌝ }
 {
-    if k < 256 {
+    if k < Frame::MOST {
         return k;
     }
-    256
+    Frame::MOST
 }
 
 // The frames as structs, zero rows behind them; the last place holds a zero row whatever the arrays hold.
-fn frame_table(r: Rows) -> [Frame; 257]
+fn frame_table(r: Rows) -> [Frame; Frame::MOST + 1]
     ensures { λ t. ⌜ t ≡ frameTable r ⌝ }
 {
-    let mut table = [Frame::zero(); 257];
+    let mut table = [Frame::zero(); Frame::MOST + 1];
     let end = within(r.frames);
     let mut k = 0;
     while k < end {
@@ -67,7 +70,7 @@ fn frame_table(r: Rows) -> [Frame; 257]
 fn end_in(lent: usize) -> usize
     ensures { λ r. ⌜ (r ≡ endIn lent) × (r ≤ lent) ⌝ }
 {
-    if lent < 256 {
+    if lent < Frame::MOST {
         return 0;
     }
     lent

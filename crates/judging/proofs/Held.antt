@@ -26,7 +26,8 @@ use Rattle.judging.specs.Places.{Numbered, lookIn, beforeIn, numberOf, n
 use Rattle.judging.specs.Memory.{controlIn, rowSeen, seen}
 use Rattle.judging.specs.Rows.{noRow, rowKeeps, keepsAt, byRule, byRules, heldRow}
 use Rattle.judging.specs.Judged.{namesNew, timeFits, releaseFits, gapFits, timesJudged, rowsJudged, frameIn, framesIn, timeIn}
-use Rattle.judging.proofs.Places.{same-bad, last-tab}
+use Rattle.laws.proofs.Turns.{same-bad}
+use Rattle.judging.proofs.Places.{last-tab}
 use Rattle.judging.proofs.Names.{named-frame, named-task, row-at, new-names}
 
 look-within : (room : ℕ) (a : List ℕ) (k : ℕ) → k < room → lookIn room a k ≡ getD a k 0

@@ -31,7 +31,7 @@ use Rattle.judging.specs.Memory.{nodeOf, beginOf, endOf, taskOf, deadlin
 use Rattle.line.specs.Line as line
 use Rattle.line.specs.Line.{taskTime, lineOf}
 use Rattle.judging.specs.Judged.{headerFits, controlFits, namesNew, timeFits, releaseFits, gapFits, timesJudged, rowsJudged, judgedFor, frameIn, framesIn, timeIn, controlsOn, framesOn, boundsOn, lineJudged, Right}
-use Rattle.judging.proofs.Places.{same-bad}
+use Rattle.laws.proofs.Turns.{same-bad}
 
 -- ---- the parts of a layout
 

@@ -87,15 +87,6 @@ module _ {A : Type 0} (p : ℕ → Bool) (q : A → Bool) (f : ℕ → A) where
   pub same-any : (n : ℕ) → ((k : ℕ) → k < n → p k ≡ q (f k)) → any p (upTo n) ≡ any q (tab f 0 n)
   same-any n h = tab-any 0 n (λ k v w. h k (omega arith))
 
-module _ (p q : ℕ → Bool) where
-  tab-bad : (low n : ℕ) → ((k : ℕ) → low ≤ k → k < low + n → p k ≡ q k) → firstBad p (tab (λ k. k) low n) ≡ firstBad q (tab (λ k. k) low n)
-  tab-bad low zero h = refl
-  tab-bad low (suc n) h =
-      rw (h low (omega arith) (omega arith), tab-bad (suc low) n (λ k v w. h k (omega arith) (omega arith)))
-
-  pub same-bad : (n : ℕ) → ((k : ℕ) → k < n → p k ≡ q k) → firstBad p (upTo n) ≡ firstBad q (upTo n)
-  same-bad n h = tab-bad 0 n (λ k v w. h k (omega arith))
-
 -- ---- the last of a row of places
 
 pub last-tab : {A : Type 0} (f : ℕ → A) (low n : ℕ) (d : A) → lastD (tab f low (suc n)) d ≡ f (low + n)

@@ -31,7 +31,7 @@ use Rattle.judging.specs.Places.{beforeIn, spotOf, Numbered, numberAt, i
 use Rattle.judging.specs.Memory.{controlIn, rowSeen, seen}
 use Rattle.judging.specs.Rows.{noRow, byRules, heldRow}
 use Rattle.judging.specs.Judged.{headerFits, controlFits, rowsJudged, judgedFor, headerSame, controlsSame, frameIn, framesIn, timeIn, verdictSays, startsOn, Right}
-use Rattle.judging.proofs.Places.{same-bad}
+use Rattle.laws.proofs.Turns.{same-bad}
 use Rattle.judging.proofs.Names.{starts-laid}
 use Rattle.judging.proofs.Held.{last-stop, number-given, rows-judged}
 

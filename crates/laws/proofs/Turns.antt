@@ -7,9 +7,10 @@ use mathlib.Core.Bool.{Bool, true, false, _&&_}
 use mathlib.Core.List.{List, [], _∷_}
 use mathlib.Core.Option.{Option, none, some}
 use native.Mathlib.Nat.{le-antisymm}
+use native.Mathlib.Omega.{arith}
 use lib.ListN.{getD, set}
-use Prim.Native.Nat.{ℕ, _+_, _≤_, _<_}
-use Rattle.laws.specs.Lists.{all, firstBad, upTo}
+use Prim.Native.Nat.{ℕ, zero, suc, _+_, _≤_, _<_}
+use Rattle.laws.specs.Lists.{all, firstBad, tab, upTo}
 use Rattle.laws.specs.Loops.{stores}
 use Rattle.laws.proofs.Lists.{all-upTo-more}
 use Rattle.laws.proofs.Loops.{stores-turn, stores-next, firstBad-upTo-more, firstBad-upTo-hit}
@@ -74,3 +75,13 @@ module _ {A : Type 0} {old : List A} {f : ℕ → A} where
 pub firstBad-same : {A : Type 0} (p q : A → Bool) → ((x : A) → p x ≡ q x) → (l : List A) → firstBad p l ≡ firstBad q l
 firstBad-same p q h [] = refl
 firstBad-same p q h (x ∷ l) = rw (h x, firstBad-same p q h l)
+
+-- tests that agree below n first fail at the same number below n
+module _ (p q : ℕ → Bool) where
+  tab-bad : (low n : ℕ) → ((k : ℕ) → low ≤ k → k < low + n → p k ≡ q k) → firstBad p (tab (λ k. k) low n) ≡ firstBad q (tab (λ k. k) low n)
+  tab-bad low zero h = refl
+  tab-bad low (suc n) h =
+      rw (h low (omega arith) (omega arith), tab-bad (suc low) n (λ k v w. h k (omega arith) (omega arith)))
+
+  pub same-bad : (n : ℕ) → ((k : ℕ) → k < n → p k ≡ q k) → firstBad p (upTo n) ≡ firstBad q (upTo n)
+  same-bad n h = tab-bad 0 n (λ k v w. h k (omega arith))

@@ -21,6 +21,7 @@ use Rattle.laws.proofs.Members.{All, empty, also, all-head, all-tail, all-weake
 use Rattle.rules.specs.Frames.{Frame}
 use Rattle.rules.specs.LatestRelease.{Numbered, Placed, numberedFrom, place, fits}
 use Rattle.rules.specs.LatestRelease as rule
+use Rattle.laws.proofs.Laid.{tab-same}
 use Rattle.placing.specs.declared.Outcome.the-variants.{All as AllPlaced, Refused}
 use Rattle.placing.specs.declared.Placing.{Placing}
 use Rattle.placing.specs.Placing.{frameAt, timeOf, inserted, outsideAt, admitted, lowEndAt, laid, numberOf, startOf}
@@ -29,10 +30,6 @@ use Rattle.placing.proofs.Pool as pool
 use Rattle.placing.proofs.Keys.{topDown, put, topDown-inserted, length-inserted, outside-le, some-enter}
 
 -- ---- general
-
-tab-same : {A : Type 0} (f g : ℕ → A) (lo n : ℕ) → ((j : ℕ) → lo ≤ j → f j ≡ g j) → tab f lo n ≡ tab g lo n
-tab-same f g lo zero h = refl
-tab-same f g lo (suc n) h = rw (h lo (le-refl lo), tab-same f g (suc lo) n (λ j l. h j (omega arith)))
 
 -- an array with zeros behind its first n places is those places, filled up
 padded : (l : List ℕ) (c n : ℕ) → length l ≡ c → n ≤ c → ((j : ℕ) → n ≤ j → getD l j 0 ≡ 0) → padTo c 0 (tab (λ j. getD l j 0) 0 n) ≡ l
@@ -366,7 +363,7 @@ module _ (task release deadline : List ℕ) where
                 (rw q
                 (rw (number-at, start-at, beginIs, r)
                 (ap (λ (l : List Placed). placedAt F resolution gap floor (timeOf time) low′ k ∷ l)
-                (tab-same (placedIn number′ start′) (placedIn number start) left (count - left) (λ j h. rw (number-above j h, start-above j h))))))
+                (tab-same (placedIn number′ start′) (placedIn number start) left (count - left) (λ j h below. rw (number-above j h, start-above j h))))))
 
             pub going-turn : Going keys′ number′ start′ (left - 1) outside′ (begin - gap)
             unfolding js n

@@ -10,6 +10,7 @@ use lib.Dec.{eqb, ltb}
 use Prim.Native.Nat.{ℕ, _%_, _<_}
 use Rattle.laws.specs.Res.{Res, ok, refuse, _>>_, unless}
 use Rattle.laws.proofs.Tests.{by-same}
+use Rattle.laws.proofs.Turns.{same-bad}
 use Rattle.rules.specs.Frames.{mostFrames}
 use Rattle.rules.specs.Playing.{nodePlaces, modulePlaces, modePlaces, taskPlaces, Input}
 use Rattle.rules.specs.Station.{
@@ -68,7 +69,7 @@ use Rattle.rules.specs.Obeys.{MayTick}
 use Rattle.rules.proofs.StationExact.{judged-exact}
 use Rattle.rules.proofs.StationRanges.{ModeIn, TaskIn, ControlIn, DataIn, KeptIn, PlayIn, StateIn, range-tests}
 use Rattle.rules.proofs.StationStays.{state-stays}
-use Rattle.rules.proofs.StationPlaces.{Agree, agree-trans, SameAnswer, accepted, refused, answer-ok, bad-agree, Follows, begun, next}
+use Rattle.rules.proofs.StationPlaces.{Agree, agree-trans, SameAnswer, accepted, refused, answer-ok, Follows, begun, next}
 use Rattle.rules.proofs.TransparentTick.{row-is}
 
 -- Two stations keep the same at every place.
@@ -215,7 +216,7 @@ and-agree false c d h = refl
 
 row-same : (times times′ : ℕ → ℕ) (count now : ℕ) → ((r : ℕ) → r < count → times r ≡ times′ r) → rowWith times count now ≡ rowWith times′ count now
 unfolding rowWith hasOther
-row-same times times′ count now h = bad-agree (hasOther times now) (hasOther times′ now) count (λ r w. rw (h r w))
+row-same times times′ count now h = same-bad (hasOther times now) (hasOther times′ now) count (λ r w. rw (h r w))
 
 module _ {k k′ : Kept} (same : SameKept k k′) (s : State) (i : Input) (kept : KeptIn k) (state : StateIn k s) where
   home-there : (t : ℕ) → t < taskPlaces → k .taskHome t < modulePlaces
@@ -276,10 +277,10 @@ module _ {k k′ : Kept} (same : SameKept k k′) (s : State) (i : Input) (kept 
   unfolding judgedTick
   judged-same =
       rw (
-        bad-agree (resultAwaited k s i) (resultAwaited k′ s i) taskPlaces result-same,
-        bad-agree (resultFits k i) (resultFits k′ i) taskPlaces fits-same,
-        bad-agree (resultInTime k s i) (resultInTime k′ s i) taskPlaces in-time-same,
-        bad-agree (changeAllowed k s i) (changeAllowed k′ s i) modulePlaces allowed-same,
+        same-bad (resultAwaited k s i) (resultAwaited k′ s i) taskPlaces result-same,
+        same-bad (resultFits k i) (resultFits k′ i) taskPlaces fits-same,
+        same-bad (resultInTime k s i) (resultInTime k′ s i) taskPlaces in-time-same,
+        same-bad (changeAllowed k s i) (changeAllowed k′ s i) modulePlaces allowed-same,
       )
 
   -- ---- rows

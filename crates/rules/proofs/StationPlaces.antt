@@ -11,6 +11,7 @@ use Rattle.laws.specs.Res.{Res, ok, refuse, _>>_, unless}
 use Rattle.laws.specs.Lists.{firstBad, tab, upTo}
 use Rattle.laws.proofs.Res.{refuse≢ok, ok-injective, then-case, unless-ok}
 use Rattle.laws.proofs.Tests.{by-same}
+use Rattle.laws.proofs.Turns.{same-bad}
 use Rattle.rules.specs.Plan.{Plan, theTask, readPlan}
 use Rattle.rules.specs.Frames.{taskNode}
 use Rattle.rules.specs.Playing.{nodePlaces, modulePlaces, taskPlaces, Input}
@@ -167,17 +168,6 @@ inRange-agree k {s} {s′} a =
 
 -- ---- refusals 41 to 44
 
-module _ (p q : ℕ → Bool) where
-  tab-agree : (low n : ℕ) → ((k : ℕ) → low ≤ k → k < low + n → p k ≡ q k)
-      → firstBad p (tab (λ k. k) low n) ≡ firstBad q (tab (λ k. k) low n)
-  tab-agree low zero h = refl
-  tab-agree low (suc n) h =
-      rw (h low (omega arith) (omega arith), tab-agree (suc low) n (λ k v w. h k (omega arith) (omega arith)))
-
-  -- tests that agree below n first fail at the same number below n
-  pub bad-agree : (n : ℕ) → ((k : ℕ) → k < n → p k ≡ q k) → firstBad p (upTo n) ≡ firstBad q (upTo n)
-  bad-agree n h = tab-agree 0 n (λ k v w. h k (omega arith))
-
 module _ {k : Kept} {s s′ : State} {i i′ : Input} (kept : KeptIn k) (a : Agree s s′) (b : SameInput i i′) where
   home-there : (t : ℕ) → t < taskPlaces → k .taskHome t < modulePlaces
   home-there t w = omega (arith, kept .tasks t w .home, kept .moduleCount .most)
@@ -222,10 +212,10 @@ module _ {k : Kept} {s s′ : State} {i i′ : Input} (kept : KeptIn k) (a : Agr
   unfolding judgedTick
   judged-agree =
       rw (
-        bad-agree (resultAwaited k s i) (resultAwaited k s′ i′) taskPlaces result-agree,
-        bad-agree (resultFits k i) (resultFits k i′) taskPlaces fits-agree,
-        bad-agree (resultInTime k s i) (resultInTime k s′ i′) taskPlaces in-time-agree,
-        bad-agree (changeAllowed k s i) (changeAllowed k s′ i′) modulePlaces allowed-agree,
+        same-bad (resultAwaited k s i) (resultAwaited k s′ i′) taskPlaces result-agree,
+        same-bad (resultFits k i) (resultFits k i′) taskPlaces fits-agree,
+        same-bad (resultInTime k s i) (resultInTime k s′ i′) taskPlaces in-time-agree,
+        same-bad (changeAllowed k s i) (changeAllowed k s′ i′) modulePlaces allowed-agree,
       )
 
   -- ---- the six steps

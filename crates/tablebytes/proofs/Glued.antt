@@ -9,20 +9,16 @@ use lib.Seq.{sets}
 use Prim.Native.Nat.{ℕ, zero, suc, _+_, _*_}
 use Rattle.laws.specs.Lists.{tab, joined}
 use Rattle.laws.specs.Numbers.{bytes}
+use Rattle.laws.proofs.Laid.{sets-append}
 use Rattle.laws.proofs.Lists.{tab-more, map-snoc}
 use Rattle.rules.specs.Records.{fields, kinds}
 use Rattle.rules.specs.Table.{DataRow, recordBytes, headerBytes, controlBytes, dataBytes}
 use Rattle.rules.specs.Frames.{ControlRow}
 use Rattle.tablebytes.specs.Rows.{controlIn, dataIn, tableIn}
 
-pub sets-append : {A : Type 0} (l : List A) (i : ℕ) (xs ys : List A) → sets (sets l i xs) (i + length xs) ys ≡ sets l i (xs ++ ys)
-sets-append l i [] ys = rw add-zero
-sets-append l i (x ∷ xs) ys =
-    rw (add-suc i (length xs), ← suc-add i (length xs)) (sets-append (set l i x) (suc i) xs ys)
-
--- the same, at a place that is known to be the next
+-- two lists laid one behind the other, the second at a place that is known to be the next
 pub sets-next : {A : Type 0} (l : List A) (i j : ℕ) (xs ys : List A) → j ≡ i + length xs → sets (sets l i xs) j ys ≡ sets l i (xs ++ ys)
-sets-next l i j xs ys e = rw e (sets-append l i xs ys)
+sets-next l i j xs ys e = rw e (sym (sets-append l i xs ys))
 
 pub joined-snoc : {A : Type 0} (xss : List (List A)) (xs : List A) → joined (xss ++ (xs ∷ [])) ≡ joined xss ++ xs
 joined-snoc [] xs = append-nil xs

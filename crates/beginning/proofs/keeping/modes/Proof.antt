@@ -1,0 +1,97 @@
+use mathlib.Core.Bool.{false}
+use mathlib.Core.Path.{_≡_, refl, sym, ap, _∙_}
+use Prim.Native.Nat.{_≤_, _-_}
+use native.Mathlib.Omega.{arith}
+use lib.ListN.{replicate}
+use Rattle.laws.proofs.Turns.{Filled, filled-none, filled-turn}
+use Rattle.plan.specs.Memory.{seen, modeLaid, taskLaid}
+use Rattle.plan.specs.declared.Mode.{Mode}
+use Rattle.beginning.specs.Keeping.{modesOf, homeOf, periodOf, switchOf}
+use Rattle.beginning.proofs.Filling.{filled-all}
+use borrow.Author.Needs.{needs}
+use Rattle.beginning.proofs.keeping.modes.Statement.{statement}
+use Rattle.beginning.proofs.keeping.modes.Tie as tie
+use Rattle.beginning.proofs.keeping.modes.Reads as reads
+use Rattle.beginning.proofs.keeping.modes.Lts as lts
+use Rattle.plan.proofs.look.mode_at.Reads as mode-at-reads
+use Rattle.plan.proofs.look.mode_count.Reads as mode-count-reads
+
+abbrev Inv-loop : tie.InvT-loop
+Inv-loop p homes₀ periods₀ switches₀ m₀ homes periods switches m =
+    (m ≤ 32)
+    × Filled (replicate 32 0) (homeOf (seen p)) m homes
+    × Filled (replicate 32 0) (periodOf (seen p)) m periods
+    × Filled (replicate 32 0) (switchOf (seen p)) m switches
+
+abbrev μ-loop : tie.MeasureT-loop
+μ-loop p homes₀ periods₀ switches₀ m₀ homes periods switches m = 32 - m
+
+loop-holds : tie.Need-loop-holds Inv-loop μ-loop
+loop-holds c = (search needs, filled-none, filled-none, filled-none)
+
+mode-at-requires : tie.Need-mode-at-requires Inv-loop μ-loop
+mode-at-requires c κs = search needs
+
+array-write-homes : tie.Need-array-write-homes Inv-loop μ-loop
+array-write-homes c = search needs
+
+mul-periods : tie.Need-mul-periods Inv-loop μ-loop
+mul-periods c = search needs
+
+array-write-periods : tie.Need-array-write-periods Inv-loop μ-loop
+array-write-periods c = search needs
+
+mul-switches : tie.Need-mul-switches Inv-loop μ-loop
+mul-switches c = search needs
+
+array-write-switches : tie.Need-array-write-switches Inv-loop μ-loop
+array-write-switches c = search needs
+
+add-m : tie.Need-add-m Inv-loop μ-loop
+add-m c = search needs
+
+loop-less : tie.Need-loop-less Inv-loop μ-loop
+loop-less c = search needs
+
+loop-again : tie.Need-loop-again Inv-loop μ-loop
+unfolding modeLaid homeOf periodOf switchOf
+loop-again c =
+    let l = c .before .before .loop in
+    let e = c .mode-at .ensures in (
+      search needs,
+      filled-turn (l .inv .1) (ap (λ (x : Mode). x .home .0) e),
+      filled-turn (l .inv .2) (ap (λ (x : Mode). x .period .0) e),
+      filled-turn (l .inv .3) (ap (λ (x : Mode). x .switch .0) e),
+    )
+
+mode-count-requires : tie.Need-mode-count-requires Inv-loop μ-loop
+mode-count-requires c κs = search needs
+
+cast-t16 : tie.Need-cast-t16 Inv-loop μ-loop
+cast-t16 c = search needs
+
+returns : tie.Need-returns Inv-loop μ-loop
+unfolding modesOf
+returns c =
+    let l = c .before .before .loop in
+    rw (c .mode-count .ensures .0, filled-all 32 0 (l .inv .1) (l .inv .0) (c .before .loop-test .left), filled-all 32 0 (l .inv .2) (l .inv .0) (c .before .loop-test .left), filled-all 32 0 (l .inv .3) (l .inv .0) (c .before .loop-test .left))
+
+pub modes-spec : {M : Type 1} → statement M
+modes-spec =
+    tie.close
+    (tie.spec
+    Inv-loop
+    μ-loop
+    loop-holds
+    mode-at-requires
+    array-write-homes
+    mul-periods
+    array-write-periods
+    mul-switches
+    array-write-switches
+    add-m
+    loop-less
+    loop-again
+    mode-count-requires
+    cast-t16
+    returns)

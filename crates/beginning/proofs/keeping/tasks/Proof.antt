@@ -1,0 +1,109 @@
+use mathlib.Core.Bool.{false}
+use mathlib.Core.Path.{_≡_, refl, sym, ap, _∙_}
+use Prim.Native.Nat.{_≤_, _-_}
+use native.Mathlib.Omega.{arith}
+use lib.ListN.{replicate}
+use Rattle.laws.proofs.Turns.{Filled, filled-none, filled-turn}
+use Rattle.plan.specs.Memory.{seen, modeLaid, taskLaid}
+use Rattle.rules.specs.Frames.{isBusTask}
+use Rattle.plan.specs.declared.Task.{Task}
+use Rattle.beginning.specs.Keeping.{tasksOf, taskHome, taskSize, taskWorst}
+use Rattle.beginning.proofs.Filling.{filled-all, by-number-at, size-small}
+use borrow.Author.Needs.{needs}
+use Rattle.beginning.proofs.keeping.tasks.Statement.{statement}
+use Rattle.beginning.proofs.keeping.tasks.Tie as tie
+use Rattle.beginning.proofs.keeping.tasks.Reads as reads
+use Rattle.beginning.proofs.keeping.tasks.Lts as lts
+use Rattle.plan.proofs.look.task_at.Reads as task-at-reads
+use Rattle.plan.proofs.look.task_count.Reads as task-count-reads
+
+abbrev Inv-loop : tie.InvT-loop
+Inv-loop p buses homes₀ sizes₀ worsts₀ bus₀ t₀ homes sizes worsts bus t =
+    (t ≤ 32)
+    × Filled (replicate 32 0) (taskHome (seen p)) t homes
+    × Filled (replicate 32 0) (taskSize (seen p)) t sizes
+    × Filled (replicate 32 0) (taskWorst (seen p)) t worsts
+    × Filled (replicate 32 false) (isBusTask (seen p)) t bus
+
+abbrev μ-loop : tie.MeasureT-loop
+μ-loop p buses homes₀ sizes₀ worsts₀ bus₀ t₀ homes sizes worsts bus t = 32 - t
+
+loop-holds : tie.Need-loop-holds Inv-loop μ-loop
+loop-holds c = (search needs, filled-none, filled-none, filled-none, filled-none)
+
+task-at-requires : tie.Need-task-at-requires Inv-loop μ-loop
+task-at-requires c κs = search needs
+
+array-write-homes : tie.Need-array-write-homes Inv-loop μ-loop
+array-write-homes c = search needs
+
+cast-sizes : tie.Need-cast-sizes Inv-loop μ-loop
+unfolding taskLaid
+cast-sizes c = record { fits = size-small (seen (c .before .before .before .before .args .p)) (c .before .before .before .before .pre .0) (c .before .before .before .loop .t) _ (ap (λ (x : Task). x .size .0) (c .before .task-at .ensures)) }
+
+array-write-sizes : tie.Need-array-write-sizes Inv-loop μ-loop
+array-write-sizes c = search needs
+
+mul-worsts : tie.Need-mul-worsts Inv-loop μ-loop
+mul-worsts c = search needs
+
+array-write-worsts : tie.Need-array-write-worsts Inv-loop μ-loop
+array-write-worsts c = search needs
+
+array-read-bus : tie.Need-array-read-bus Inv-loop μ-loop
+array-read-bus c = search needs
+
+array-write-bus : tie.Need-array-write-bus Inv-loop μ-loop
+array-write-bus c = search needs
+
+add-t : tie.Need-add-t Inv-loop μ-loop
+add-t c = search needs
+
+loop-less : tie.Need-loop-less Inv-loop μ-loop
+loop-less c = search needs
+
+loop-again : tie.Need-loop-again Inv-loop μ-loop
+unfolding taskLaid taskHome taskSize taskWorst
+loop-again c =
+    let l = c .before .before .before .loop in
+    let e = c .before .task-at .ensures in (
+      search needs,
+      filled-turn (l .inv .1) (ap (λ (x : Task). x .home .0) e),
+      filled-turn (l .inv .2) (ap (λ (x : Task). x .size .0) e),
+      filled-turn (l .inv .3) (ap (λ (x : Task). x .worst .0) e),
+      filled-turn (l .inv .4) (by-number-at (isBusTask (seen (c .before .before .before .before .args .p))) (l .t) false (c .before .before .before .before .pre .1) (omega arith)),
+    )
+
+task-count-requires : tie.Need-task-count-requires Inv-loop μ-loop
+task-count-requires c κs = search needs
+
+cast-t24 : tie.Need-cast-t24 Inv-loop μ-loop
+cast-t24 c = search needs
+
+returns : tie.Need-returns Inv-loop μ-loop
+unfolding tasksOf
+returns c =
+    let l = c .before .before .loop in
+    rw (c .task-count .ensures .0, filled-all 32 0 (l .inv .1) (l .inv .0) (c .before .loop-test .left), filled-all 32 0 (l .inv .2) (l .inv .0) (c .before .loop-test .left), filled-all 32 0 (l .inv .3) (l .inv .0) (c .before .loop-test .left), filled-all 32 false (l .inv .4) (l .inv .0) (c .before .loop-test .left))
+
+pub tasks-spec : {M : Type 1} → statement M
+tasks-spec =
+    tie.close
+    (tie.spec
+    Inv-loop
+    μ-loop
+    loop-holds
+    task-at-requires
+    array-write-homes
+    cast-sizes
+    array-write-sizes
+    mul-worsts
+    array-write-worsts
+    array-read-bus
+    array-write-bus
+    add-t
+    loop-less
+    loop-again
+    task-count-requires
+    cast-t24
+    returns)

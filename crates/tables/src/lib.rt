@@ -1,0 +1,13 @@
+// The entry points in the form that document 01 names: the frame rows are a lent slice of frame structs. The prover's walk covers no function
+// over such a slice, so each is thin: a covered function answers by value, and `framerows::fill` writes the rows.
+ghost use Rattle.tables.specs.Lent.{ChecksLent};
+use framerows::Frame;
+
+// A table file by its plan: refusals 19, 1 to 11 and 20 to 27, or that it passes.
+pub fn check(plan: &[u8], table: &[u8], rows: &mut [Frame]) -> checker::Answer
+    ensures { λ r. ⌜ ChecksLent r (now (plan .entry)) (now (table .entry)) (now (rows .entry)) (now (rows .exit)) ⌝ }
+{
+    let checked = checker::check(plan, table, rows.len());
+    framerows::fill(rows, checked.rows);
+    checked.answer
+}
