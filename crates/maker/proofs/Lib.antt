@@ -1,1 +1,6 @@
 pub mod Lined
+pub mod Scattered
+pub mod Tabled
+pub mod Ways
+pub mod Unique
+pub mod Lent

@@ -1,25 +1,24 @@
 -- The arrays of a line stand for its layout: the frames, their order, their times, the control rows.
-use mathlib.Core.Path.{_≡_, refl, sym, ap, _∙_, subst}
-use mathlib.Core.Bool.{Bool, true, false, cond, _&&_}
-use mathlib.Core.List.{List, [], _∷_, map}
+use mathlib.Core.Path.{_≡_, refl, ap, _∙_, subst}
+use mathlib.Core.Bool.{Bool, true, false, cond}
+use mathlib.Core.List.{List, [], _∷_}
 use mathlib.Core.Logic.{_⊎_, inl, inr}
 use native.Mathlib.Nat.{le-refl, zero-add, eq-or-lt-of-le}
 use native.Mathlib.Omega.{arith}
 use lib.Dec.{lit≤}
 use lib.ListN.{length, getD}
-use Prim.Native.Nat.{ℕ, zero, suc, _+_, _-_, _≤_, _<_}
+use Prim.Native.Nat.{ℕ, zero, suc, _-_, _≤_, _<_}
 use Rattle.laws.specs.Res.{Res, ok, refuse}
 use Rattle.laws.specs.Lists.{keep, tab}
-use Rattle.laws.specs.Loops.{padTo}
 use Rattle.laws.proofs.Lists.{getD-tab}
 use Rattle.laws.proofs.Arrays.{tab-list, getD-laid}
-use Rattle.laws.proofs.Members.{All, empty, also, Pairs, all-getD, all-keep, all-weaker}
-use Rattle.rules.specs.Plan.{Plan, readPlan, theTask}
-use Rattle.rules.specs.Frames.{Frame, ControlRow, noControlRow, Layout, layout, layoutOf, frames, busPeriod, sendingTime, payload, gapTime}
+use Rattle.laws.proofs.Members.{All, empty, also, all-keep, all-weaker}
+use Rattle.rules.specs.Plan.{Plan, readPlan}
+use Rattle.rules.specs.Frames.{Frame, noControlRow, Layout, layout, layoutOf, frames, busPeriod, payload, gapTime}
 use Rattle.rules.specs.LatestRelease.{Numbered, Placed, noFrame, noNumbered, numberedFrom, latestOf, latest, isLater, isCandidate, isOther, lowered, taken, startOf, fits, place, frameTime, firstEnd, latestRelease}
 use Rattle.rules.proofs.PlanKept.{PlanKept, readable-kept}
-use Rattle.rules.proofs.LaidOut.{LaidOut, laid-out, FrameKept, frames-kept, control-count, period-kept}
-use Rattle.rules.proofs.FramesOf.{Before, before-case, plan-frames, frames-in-order, IsFramesOf}
+use Rattle.rules.proofs.LaidOut.{LaidOut, laid-out, frames-kept, control-count, period-kept}
+use Rattle.rules.proofs.FramesOf.{before-case, plan-frames, frames-in-order}
 use Rattle.placing.specs.Placing.{frameAt, timeOf}
 use Rattle.tablebytes.specs.Rows.{controlIn}
 use Rattle.line.specs.Line as line

@@ -97,7 +97,11 @@ pub fn fill_rows(
 }
 
 // The starts by frame number, from the placed frames by start. A number that stands twice would keep its first start.
-pub fn starts_by_number(number: &[u32; 256], start: &[u32; 256], count: usize) -> [u32; 256]
+pub fn starts_by_number<'a>(
+    number: &'a [u32; 256],
+    start: &'a [u32; 256],
+    count: usize,
+) -> [u32; 256]
     requires { ⌜ count ≤ 256 ⌝ }
     ensures { λ r. ⌜ r ≡ scattered (now (number .entry)) (now (start .entry)) count (replicate 256 0) ⌝ }
 {
@@ -155,12 +159,12 @@ fn stop_of(time: &[u32; 32], task: u8, start: u32) -> u32
     start
 }
 
-pub fn table_rows(
-    task: &[u8; 256],
-    deadline: &[u32; 256],
-    time: &[u32; 32],
-    number: &[u32; 256],
-    start: &[u32; 256],
+pub fn table_rows<'a>(
+    task: &'a [u8; 256],
+    deadline: &'a [u32; 256],
+    time: &'a [u32; 32],
+    number: &'a [u32; 256],
+    start: &'a [u32; 256],
     count: usize,
 ) -> TableRows
     requires { ⌜ count ≤ 256 ⌝ }

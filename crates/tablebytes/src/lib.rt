@@ -77,17 +77,17 @@ fn put_rows(
 }
 
 // The whole table at the front of the buffer. The data rows stand in the arrays as they are to stand in the table.
-pub fn write_table(
+pub fn write_table<'a>(
     buf: &mut [u8],
     period: u32,
-    node: &[u8; 8],
-    start: &[u32; 8],
-    stop: &[u32; 8],
+    node: &'a [u8; 8],
+    start: &'a [u32; 8],
+    stop: &'a [u32; 8],
     controls: usize,
-    task: &[u8; 256],
-    deadline: &[u32; 256],
-    row_start: &[u32; 256],
-    row_stop: &[u32; 256],
+    task: &'a [u8; 256],
+    deadline: &'a [u32; 256],
+    row_start: &'a [u32; 256],
+    row_stop: &'a [u32; 256],
     rows: usize,
 )
     requires { ⌜ (controls ≤ 8) × (rows ≤ 256) ⌝ }

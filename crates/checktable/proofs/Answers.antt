@@ -1,0 +1,85 @@
+-- The three answers: the line for a long file, the line `passed`, the line for a refusal.
+-- Assumes nothing.
+use mathlib.Core.Bool.{Bool, true, false, _&&_}
+use mathlib.Core.List.{List}
+use mathlib.Core.Path.{_≡_, refl, sym, ap, ap₂, _∙_}
+use native.Mathlib.Omega.{arith}
+use lib.ListN.{length}
+use lib.Seq.{sets, length-sets, length-take-le}
+use borrow.Author.Tests.{le-leb, lt-leb}
+use Prim.Native.Nat.{ℕ, _≤_, _<_}
+use Rattle.io.specs.Counts.{Counts}
+use Rattle.laws.specs.Res.{Res, ok, refuse}
+use Rattle.laws.proofs.Res.{refuse≢ok, refuse-number, refuse-place}
+use Rattle.rules.specs.Checker as rules
+use Rattle.rules.specs.Checker.{passed}
+use Rattle.answers.specs.declared.Refusal.{Refusal}
+use Rattle.answers.specs.Refusals.{numberOf, placeOf}
+use Rattle.checker.specs.declared.Answer.the-variants.{Passed, Refused}
+use Rattle.checker.specs.declared.Checked.{Checked}
+use Rattle.checker.specs.Checking.{Checks, heard, verdict, lentPassed}
+use Rattle.checker.proofs.Rules.{enough-is}
+use Rattle.text.specs.Text.{passedLine, refusedLine, tooLongLine}
+use Rattle.text.proofs.Decimals.{refused-line-most}
+use Rattle.checktable.specs.Answer.{lineFor, isShort, answerFor}
+
+-- what a line leaves in the lent bytes, with its length, which counts bytes of them
+abbrev Line : List ℕ → List ℕ → List ℕ → ℕ → Type 0
+Line line old out n = (out ≡ sets old 0 line) × (n ≡ length line)
+
+line-counts : (line old out : List ℕ) (n : ℕ) → Line line old out n → length line ≤ length old → Counts n out
+line-counts line old out n a h =
+    let long : length out ≡ length old = ap length (a .0) ∙ length-sets old 0 line in
+    let within : n ≤ length out = omega arith in
+    (within, sym (length-take-le n out within))
+
+-- what `respond` says of its result
+abbrev Responds : List ℕ → List ℕ → List ℕ → List ℕ → ℕ → Type 0
+Responds plan table old out n = Line (answerFor plan table) old out n × (53 ≤ length old → Counts n out)
+
+both-false : (a : Bool) → (a && false) ≡ false
+both-false true = refl
+both-false false = refl
+
+module _ (plan table old out : List ℕ) (n : ℕ) where
+  too-long : answerFor plan table ≡ tooLongLine → Line tooLongLine old out n → Responds plan table old out n
+  unfolding tooLongLine
+  too-long e a = (rw e a, λ room. line-counts tooLongLine old out n a (omega arith))
+
+  pub long-plan : 65536 < length plan → Line tooLongLine old out n → Responds plan table old out n
+  unfolding answerFor isShort
+  long-plan h a = too-long (rw (lt-leb (length plan) 65536 h)) a
+
+  pub long-table : 65536 < length table → Line tooLongLine old out n → Responds plan table old out n
+  unfolding answerFor isShort
+  long-table h a = too-long (rw (lt-leb (length table) 65536 h, both-false)) a
+
+  module _ (p : length plan ≤ 65536) (t : length table ≤ 65536) (r : Checked) (h : Checks r (lentPassed plan table 256)) where
+    short : answerFor plan table ≡ lineFor (passed plan table)
+    unfolding answerFor isShort
+    short = rw (le-leb (length plan) 65536 p, le-leb (length table) 65536 t)
+
+    says : heard (r .answer) ≡ verdict (passed plan table)
+    says = h .answered ∙ ap verdict (enough-is plan table 256 (omega arith))
+
+    passed-line : (m : Res rules.Passed) → ok tt ≡ verdict m → lineFor m ≡ passedLine
+    passed-line (ok c) e = refl
+    passed-line (refuse k q) e = refuse≢ok (sym e)
+
+    refused-line : (k q : ℕ) (m : Res rules.Passed) → refuse k q ≡ verdict m → lineFor m ≡ refusedLine k q
+    refused-line k q (ok c) e = refuse≢ok e
+    refused-line k q (refuse i j) e = sym (ap₂ refusedLine (refuse-number e) (refuse-place e))
+
+    pub passed-response : r .answer ≡ Passed → Line passedLine old out n → Responds plan table old out n
+    unfolding passedLine
+    passed-response e a =
+        let is : answerFor plan table ≡ passedLine = short ∙ passed-line (passed plan table) (sym (ap heard e) ∙ says) in
+        (rw is a, λ room. line-counts passedLine old out n a (omega arith))
+
+    pub refused-response : (why : Refusal) (k q : ℕ) → r .answer ≡ Refused why → k ≡ numberOf why → q ≡ placeOf why
+        → k < 18446744073709551616 → q < 18446744073709551616 → Line (refusedLine k q) old out n → Responds plan table old out n
+    refused-response why k q e number place kw qw a =
+        let same : refuse k q ≡ verdict (passed plan table) = ap₂ refuse number place ∙ (sym (ap heard e) ∙ says) in
+        let is : answerFor plan table ≡ refusedLine k q = short ∙ refused-line k q (passed plan table) same in
+        let few : length (refusedLine k q) ≤ 53 = refused-line-most k q kw qw in
+        (rw is a, λ room. line-counts (refusedLine k q) old out n a (omega arith))

@@ -1,0 +1,64 @@
+// Checks a table file by a plan file, both named on the command line, and writes one line: `passed`, `refused N at P`, or `too long`.
+ghost use mathlib.Core.Path.{_≡_};
+ghost use Prim.Native.Nat.{_≤_};
+ghost use lib.ListN.{length};
+ghost use lib.Seq.{sets};
+ghost use Rattle.io.specs.Counts.{Counts};
+ghost use Rattle.input.specs.Within.{Within};
+ghost use Rattle.checktable.specs.Answer.{answerFor};
+use checker::Answer;
+use frames::laid::Frames;
+use input::Input;
+use libc::STDERR_FILENO;
+use libc::STDOUT_FILENO;
+
+// The line at the front of `out`; its length. No line has more than 53 bytes.
+fn respond(plan: &[u8], table: &[u8], out: &mut [u8]) -> usize
+    ensures { λ r. ⌜ (now (out .exit) ≡ sets (now (out .entry)) 0 (answerFor (now (plan .entry)) (now (table .entry)))) × (r ≡ length (answerFor (now (plan .entry)) (now (table .entry)))) ⌝ }
+    ensures { λ r. ⌜ (53 ≤ length (now (out .entry)) → Counts r (now (out .exit))) ⌝ }
+{
+    if plan.len() > 65536 {
+        return text::put_too_long(&mut *out);
+    }
+    if table.len() > 65536 {
+        return text::put_too_long(&mut *out);
+    }
+    let checked = checker::check(plan, table, Frames::MOST);
+    let answer = checked.answer;
+    match answer {
+        Answer::Passed => text::put_passed(&mut *out),
+        Answer::Refused(why) => { text::put_refused(&mut *out, why.number(), why.place()) }
+    }
+}
+
+// The file that an argument names, read into the buffer. Standard error has been told where it could not be.
+fn read_argument(i: usize, what: &[u8], buf: &mut [u8]) -> Input
+    ensures { λ r. ⌜ Within r (now (buf .exit)) ⌝ }
+{
+    let mut path = io::buffer();
+    let length = os::arg(i, &mut path);
+    if os::errno() != 0 {
+        os::fail(what);
+        return Input::Unreadable;
+    }
+    input::read_named(&path[..length], buf)
+}
+
+// One byte more is read than the longest file has, so that a longer one is seen to be longer.
+fn main() {
+    if os::arg_count() != 3 {
+        io::write_all(STDERR_FILENO, b"usage: checktable PLAN TABLE\n");
+        return;
+    }
+    let mut plan = [0u8; 65537];
+    let Input::Bytes(n) = read_argument(1, b"PLAN", &mut plan) else {
+        return;
+    };
+    let mut table = [0u8; 65537];
+    let Input::Bytes(m) = read_argument(2, b"TABLE", &mut table) else {
+        return;
+    };
+    let mut out = [0u8; 64];
+    let length = respond(&plan[..n], &table[..m], &mut out);
+    io::write_all(STDOUT_FILENO, &out[..length]);
+}
