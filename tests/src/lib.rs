@@ -12,6 +12,7 @@ pub mod plan;
 pub mod program;
 pub mod records;
 pub mod station;
+pub mod stored;
 pub mod vectors;
 
 pub use checker::check;

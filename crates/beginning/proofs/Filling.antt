@@ -1,6 +1,6 @@
 -- Arrays of what a station keeps, filled place by place.
 -- Assumes nothing.
-use mathlib.Core.Path.{_≡_, refl, sym, ap, _∙_}
+use mathlib.Core.Path.{_≡_, refl, ap, _∙_}
 use mathlib.Core.Bool.{Bool, true, false, cond, _&&_}
 use mathlib.Core.List.{List, [], _∷_}
 use native.Mathlib.Omega.{arith}
@@ -10,7 +10,6 @@ use lib.ListN.{length, getD, set, drop, replicate}
 use lib.Seq.{drop-length, drop-cons}
 use Prim.Native.Nat.{ℕ, suc, _+_, _-_, _*_, _/_, _%_, _≤_, _<_}
 use Rattle.laws.specs.Lists.{tab}
-use Rattle.laws.specs.Loops.{stores}
 use Rattle.laws.proofs.Bus.{table-at, table-alike, table-filled, table-stored}
 use Rattle.laws.proofs.Members.{all-getD, all-getD-or, all-weaker}
 use Rattle.laws.proofs.Turns.{Filled, filled-end}

@@ -1,1 +1,5 @@
 pub mod Filling
+pub mod Passing
+pub mod Unique
+pub mod Shown
+pub mod Zero

@@ -13,7 +13,7 @@ use Rattle.maker.specs.declared.Answer.the-variants.{Made, Refused}
 use Rattle.maker.specs.declared.Making.{Making}
 use Rattle.maker.specs.Making.{Makes, heard}
 
-heard-once : (x y : Answer) → heard x ≡ heard y → x ≡ y
+pub heard-once : (x y : Answer) → heard x ≡ heard y → x ≡ y
 heard-once (Made m) (Made n) e = ap Made (ok-injective e)
 heard-once (Made m) (Refused y) e = refuse≢ok (sym e)
 heard-once (Refused x) (Made n) e = refuse≢ok e

@@ -6,11 +6,10 @@ use mathlib.Core.Bool.{Bool, true, false, cond, not, _&&_}
 use mathlib.Core.List.{List}
 use mathlib.Core.Option.{Option, none, some}
 use native.Mathlib.Omega.{arith}
-use borrow.Author.Tests.{eqb-true, ltb-true, leb-true}
-use lib.Dec.{eqb, leb, ltb}
+use borrow.Author.Tests.{eqb-true}
+use lib.Dec.{eqb}
 use lib.ListN.{getD}
 use Prim.Native.Nat.{ℕ, _+_, _*_, _/_, _%_, _≤_, _<_}
-use Rattle.laws.specs.Lists.{all, upTo}
 use Rattle.laws.specs.Loops.{stores}
 use Rattle.laws.proofs.Stores.{stores-same, stores-idle}
 use Rattle.rules.specs.Station.{
@@ -21,7 +20,6 @@ use Rattle.rules.specs.Station.{
   landsOn,
   landedBy,
   landedAfter,
-  heldBy,
   heldAfter,
   homeNode,
   endsNow,
@@ -37,7 +35,7 @@ use Rattle.rules.specs.Playing.{Input}
 use Rattle.stationjudge.specs.Inputs.{inputOf}
 use Rattle.stationjudge.specs.declared.Given.{Given}
 use Rattle.stationjudge.specs.declared.Change.{Change}
-use Rattle.stationsteps.specs.Steps.{numberAt, outRule, heldRule}
+use Rattle.stationsteps.specs.Steps.{numberAt}
 use Rattle.stationsteps.specs.Nodes.{noNode, landingOf, landedRule, shownRule, nodeAt, nodeRule}
 use Rattle.stationsteps.specs.declared.nodes.Node.{Node}
 use Rattle.stationsteps.specs.declared.nodes.Landing.{Landing}

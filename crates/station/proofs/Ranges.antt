@@ -6,8 +6,8 @@ use mathlib.Core.Option.{Option, none, some}
 use mathlib.Core.Bool.{Bool}
 use lib.ListN.{getD}
 use Prim.Native.Nat.{ℕ}
-use Rattle.laws.specs.Lists.{firstBad, upTo}
-use Rattle.laws.specs.Res.{Res, _>>_, at}
+use Rattle.laws.specs.Lists.{upTo}
+use Rattle.laws.specs.Res.{_>>_, at}
 use Rattle.laws.proofs.Res.{then-assoc}
 use Rattle.laws.proofs.Turns.{firstBad-same}
 use Rattle.rules.specs.Frames.{mostFrames}
@@ -28,7 +28,6 @@ use Rattle.rules.specs.Station.{
   maySwitch,
 }
 use Rattle.rules.specs.StationRange.{
-  isBetween,
   mostTime,
   countsInRange,
   moduleInRange,
@@ -40,7 +39,6 @@ use Rattle.rules.specs.StationRange.{
   dataInRange,
   keptInRange,
   playInRange,
-  isValue,
   boxInRange,
   placeInRange,
   byteInRange,

@@ -1,16 +1,14 @@
 -- The steps of a tick, on the station's arrays, are the rules' own: the row that starts, and what changes beside the nodes.
 -- Assumes nothing.
-use mathlib.Core.Path.{_≡_, refl, sym, ap, _∙_}
-use mathlib.Core.Bool.{Bool, false, not, _&&_, _||_}
+use mathlib.Core.Path.{_≡_, refl}
+use mathlib.Core.Bool.{Bool, false}
 use mathlib.Core.List.{List}
 use mathlib.Core.Option.{Option, none, some}
 use native.Mathlib.Nat.{div-add-mod'}
-use lib.Dec.{eqb}
 use lib.ListN.{getD}
 use Prim.Native.Nat.{ℕ, _+_, _*_, _/_, _%_, _<_}
 use Rattle.laws.specs.Loops.{stores}
 use Rattle.laws.proofs.Stores.{stores-same}
-use Rattle.rules.specs.Station as rules
 use Rattle.rules.specs.Station.{
   Kept,
   State,
@@ -37,11 +35,11 @@ use Rattle.rules.specs.Station.{
   loadBy,
   loadAfter,
 }
-use Rattle.rules.specs.Playing.{Input, isGiven}
-use Rattle.stationjudge.specs.Inputs.{inputOf, resultAt, changeAt}
+use Rattle.rules.specs.Playing.{Input}
+use Rattle.stationjudge.specs.Inputs.{inputOf}
 use Rattle.stationjudge.specs.declared.Given.{Given}
 use Rattle.stationjudge.specs.declared.Change.{Change}
-use Rattle.stationsteps.specs.Steps.{numberAt, outRule, heldRule, modeRule, ageRule, givenRule, modeByteRule, fullRule, loadRule}
+use Rattle.stationsteps.specs.Steps.{outRule, heldRule, modeRule, ageRule, givenRule, modeByteRule, fullRule, loadRule}
 use Rattle.station.specs.Memory.{keptBy, keptOf, stateBy, stateOf, heldLaid, playLaid}
 use Rattle.station.specs.Parts.{saidBy, playBy}
 use Rattle.station.specs.Answers.{rowSaid}

@@ -41,7 +41,7 @@ use Rattle.stationsteps.specs.declared.nodes.Landing.{Landing}
 use Rattle.stationsteps.specs.declared.nodes.Landing.the-variants.{Nothing, Value}
 use Rattle.station.specs.Memory.{keptBy, keptOf, stateBy, stateOf, playLaid, nodeLaid, laid}
 use Rattle.station.specs.Parts.{Reads, refusedBy, movedBy, landingBy, nodesBy}
-use Rattle.station.specs.Answers.{Answers, answerLaid, outcome, isRefused, rowSaid}
+use Rattle.station.specs.Answers.{Answers, outcome, isRefused, rowSaid}
 use Rattle.station.specs.declared.Moved.{Moved}
 use Rattle.station.specs.declared.Play.{Play}
 use Rattle.station.specs.declared.Said.{Said}

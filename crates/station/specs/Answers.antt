@@ -1,7 +1,6 @@
 -- What a tick answers: "which refusal or row it is, with its data, beside the state".
 use mathlib.Core.Bool.{Bool, true, false}
 use mathlib.Core.Path.{_≡_}
-use Prim.Native.Nat.{ℕ}
 use Rattle.laws.specs.Res.{Res, ok, refuse}
 use Rattle.answers.specs.Refusals.{said}
 use Rattle.rules.specs.Frames as frames

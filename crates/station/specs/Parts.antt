@@ -1,5 +1,5 @@
 -- What the parts of a tick give, on the station's structs and arrays. That they are the rules' is a law (`proofs/`).
-use mathlib.Core.Bool.{Bool, true, false, _&&_}
+use mathlib.Core.Bool.{Bool, _&&_}
 use mathlib.Core.Path.{_≡_}
 use mathlib.Core.List.{List}
 use mathlib.Core.Option.{Option, none, some}

@@ -1,3 +1,5 @@
 pub mod Filling
-pub mod Rules
+pub mod FewFrames
+pub mod MakeRules
+pub mod CheckRules
 pub mod Unique

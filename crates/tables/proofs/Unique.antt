@@ -1,14 +1,24 @@
--- No second answer and no second list of lent rows say what the rules say. Assumes nothing.
+-- No second answer, no second list of lent rows and no second buffer say what the rules say. Assumes nothing.
 use mathlib.Core.Path.{_≡_, sym, _∙_}
 use mathlib.Core.List.{List}
 use Prim.Native.Nat.{ℕ}
 use Rattle.framerows.specs.declared.Frame.{Frame}
 use Rattle.framerows.proofs.Laid.{rows-once}
-use Rattle.checker.specs.declared.Answer as checking
+use Rattle.maker.specs.declared.Answer.{Answer as MakerAnswer}
+use Rattle.maker.proofs.Unique as made
+use Rattle.checker.specs.declared.Answer.{Answer as CheckerAnswer}
 use Rattle.checker.proofs.Unique as checked
-use Rattle.tables.specs.Lent.{ChecksLent}
+use Rattle.tables.specs.Lent.{MakesLent, ChecksLent}
 
-pub check-once : (a b : checking.Answer) (plan table : List ℕ) (before rows rows′ : List Frame)
+pub make-once : (a b : MakerAnswer) (plan : List ℕ) (before rows rows′ : List Frame) (old buffer buffer′ : List ℕ)
+    → MakesLent a plan before rows old buffer → MakesLent b plan before rows′ old buffer′ → (a ≡ b) × (rows ≡ rows′) × (buffer ≡ buffer′)
+make-once a b plan before rows rows′ old buffer buffer′ p q = (
+  made.heard-once a b (p .answered ∙ sym (q .answered)),
+  rows-once rows rows′ (p .left ∙ sym (q .left)),
+  p .written ∙ sym (q .written),
+)
+
+pub check-once : (a b : CheckerAnswer) (plan table : List ℕ) (before rows rows′ : List Frame)
     → ChecksLent a plan table before rows → ChecksLent b plan table before rows′ → (a ≡ b) × (rows ≡ rows′)
 check-once a b plan table before rows rows′ p q =
     (checked.heard-once a b (p .answered ∙ sym (q .answered)), rows-once rows rows′ (p .left ∙ sym (q .left)))

@@ -2,13 +2,22 @@
 use mathlib.Core.Path.{_≡_}
 use mathlib.Core.List.{List, map}
 use Prim.Native.Nat.{ℕ}
+use Rattle.rules.specs.Table.{make}
 use Rattle.rules.specs.Checker.{check}
 use Rattle.framerows.specs.declared.Frame.{Frame}
 use Rattle.framerows.specs.Frames.{rowOf}
-use Rattle.checker.specs.declared.Answer as checking
-use Rattle.checker.specs.Checking.{heard}
+use Rattle.maker.specs.declared.Answer.{Answer as MakerAnswer}
+use Rattle.maker.specs.Making.{heard as heardMaker}
+use Rattle.checker.specs.declared.Answer.{Answer as CheckerAnswer}
+use Rattle.checker.specs.Checking.{heard as heardChecker}
 
--- `check`: its answer, and every lent row.
-pub record ChecksLent (answer : checking.Answer) (plan table : List ℕ) (before after : List Frame) : Type 0 where
-  pub answered : heard answer ≡ check plan table (map rowOf before) .answer
-  pub left : map rowOf after ≡ check plan table (map rowOf before) .rows
+-- `make`: its answer, every lent row and every byte of the lent buffer.
+pub record MakesLent (answer : MakerAnswer) (plan : List ℕ) (rows rows′ : List Frame) (buffer buffer′ : List ℕ) : Type 0 where
+  pub answered : heardMaker answer ≡ make plan (map rowOf rows) buffer .answer
+  pub left : map rowOf rows′ ≡ make plan (map rowOf rows) buffer .rows
+  pub written : buffer′ ≡ make plan (map rowOf rows) buffer .buffer
+
+-- `check`: its answer and every lent row.
+pub record ChecksLent (answer : CheckerAnswer) (plan table : List ℕ) (rows rows′ : List Frame) : Type 0 where
+  pub answered : heardChecker answer ≡ check plan table (map rowOf rows) .answer
+  pub left : map rowOf rows′ ≡ check plan table (map rowOf rows) .rows

@@ -3,6 +3,7 @@
 ghost use mathlib.Core.Path.{_≡_};
 
 // Time, in ticks of one microsecond.
+#[repr(C)]
 pub struct Ticks(pub u32);
 
 impl Ticks {
@@ -94,6 +95,7 @@ impl ModeNo {
 }
 
 // The number of a task, counted from 0 in the plan's order over all modules.
+#[repr(C)]
 pub struct TaskNo(pub u8);
 
 impl TaskNo {

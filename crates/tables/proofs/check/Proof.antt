@@ -60,7 +60,7 @@ use Rattle.checker.proofs.check.Symbol as checked-def
 use Rattle.checker.proofs.check.Symbol.{name as #checked}
 use Rattle.checker.proofs.check.Met as checked-thm
 use Rattle.tables.proofs.Filling.{Fill, lentRows, calls-fill}
-use Rattle.tables.proofs.Rules.{checks-lent}
+use Rattle.tables.proofs.CheckRules.{checks-lent}
 use Rattle.tables.proofs.check.Key.{name as #check}
 use Rattle.tables.proofs.check as check
 use Rattle.tables.proofs.check.Statement as stated

@@ -1,10 +1,10 @@
 use mathlib.Core.Bool.{false}
-use mathlib.Core.Path.{_≡_, refl, sym, ap, _∙_}
+use mathlib.Core.Path.{ap}
 use Prim.Native.Nat.{_≤_, _-_}
 use native.Mathlib.Omega.{arith}
 use lib.ListN.{replicate}
 use Rattle.laws.proofs.Turns.{Filled, filled-none, filled-turn}
-use Rattle.plan.specs.Memory.{seen, modeLaid, taskLaid}
+use Rattle.plan.specs.Memory.{seen, taskLaid}
 use Rattle.rules.specs.Frames.{isBusTask}
 use Rattle.plan.specs.declared.Task.{Task}
 use Rattle.beginning.specs.Keeping.{tasksOf, taskHome, taskSize, taskWorst}

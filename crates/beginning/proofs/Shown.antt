@@ -1,0 +1,137 @@
+-- Demand 3 of the code, by the contracts of `begin`, `tick` and `shown` alone: the station that a beginning leaves keeps what the rules
+-- keep and stands at the rules' first state, at every place of a station; so behind every history of accepted ticks the values shown
+-- are the one board's.
+-- Assumes nothing.
+use mathlib.Core.Path.{_≡_, refl, sym, ap, ap₂, _∙_, subst}
+use mathlib.Core.Bool.{true, false}
+use mathlib.Core.List.{List}
+use native.Mathlib.Omega.{arith}
+use lib.ListN.{length, getD, replicate, getD-replicate}
+use Prim.Native.Nat.{ℕ, _+_, _*_, _/_, _%_, _<_}
+use Rattle.laws.specs.Lists.{tab}
+use Rattle.laws.specs.Res.{Res, ok, refuse}
+use Rattle.laws.proofs.Bus.{table-at}
+use Rattle.laws.proofs.Res.{refuse≢ok}
+use Rattle.rules.specs.Frames.{mostFrames, taskNode}
+use Rattle.rules.specs.History.{boardValue, consumes}
+use Rattle.rules.specs.Plan.{Plan, readPlan}
+use Rattle.rules.specs.Playing.{Input}
+use Rattle.rules.specs.Station as rules
+use Rattle.rules.specs.Station.{Kept}
+use Rattle.rules.proofs.StationKept.{SameKept, follows-kept}
+use Rattle.rules.proofs.StationPlaces.{Agree, Follows, transparent-follows, transparent-follows-own}
+use Rattle.stationjudge.specs.Inputs.{changeAt}
+use Rattle.stationjudge.specs.declared.Change.{Change}
+use Rattle.stationsteps.specs.Nodes.{noNode, zeroNode}
+use Rattle.station.specs.Memory.{keptBy, keptOf, laid, notBegun, stateOf}
+use Rattle.station.specs.declared.Station.{Station}
+use Rattle.station.proofs.Plays.{Plays, plays-follows}
+use Rattle.station.proofs.Sized.{Sized, laid-agrees, sized-laid}
+use Rattle.beginning.specs.declared.Answer.the-variants.{Started}
+use Rattle.beginning.specs.declared.Begun.{Begun}
+use Rattle.beginning.specs.Begins.{Begins, heard, keptLaid, runLaid, stationLaid}
+
+-- a mode and one of the 32 tasks have a place of their own
+run-place : (k : Kept) (μ t : ℕ) → μ < 32 → t < 32 → getD (tab (runLaid k) 0 1024) (μ * 32 + t) 0 ≡ k .run μ t
+unfolding runLaid
+run-place k μ t v w =
+    let m : (μ * 32 + t) / 32 ≡ μ = omega arith in
+    let n : (μ * 32 + t) % 32 ≡ t = omega arith in
+    table-at 1024 (runLaid k) (μ * 32 + t) 0 (omega arith) ∙ ap₂ (k .run) m n
+
+module _ (b : rules.Begun) where
+  abbrev k : Kept
+  k = b .kept
+
+  -- "keeps its own copy of what it needs"
+  pub same-kept : SameKept (keptOf (stationLaid b)) k
+  unfolding stationLaid laid keptLaid keptOf keptBy mostFrames
+  same-kept =
+      record {
+        modules = refl;
+        modes = refl;
+        tasks = refl;
+        period = refl;
+        moduleNode = λ m w. table-at 16 (k .moduleNode) m 0 w;
+        sends = λ m w. table-at 16 (k .sends) m false w;
+        modeHome = λ μ w. table-at 32 (k .modeHome) μ 0 w;
+        modePeriod = λ μ w. table-at 32 (k .modePeriod) μ 0 w;
+        modeSwitch = λ μ w. table-at 32 (k .modeSwitch) μ 0 w;
+        taskHome = λ t w. table-at 32 (k .taskHome) t 0 w;
+        taskSize = λ t w. table-at 32 (k .taskSize) t 0 w;
+        taskWorst = λ t w. table-at 32 (k .taskWorst) t 0 w;
+        isBus = λ t w. table-at 32 (k .isBus) t false w;
+        run = λ μ v t w. run-place k μ t v w;
+        controls = refl;
+        controlNode = λ r w. table-at 8 (k .controlNode) r 0 w;
+        controlStart = λ r w. table-at 8 (k .controlStart) r 0 w;
+        controlStop = λ r w. table-at 8 (k .controlStop) r 0 w;
+        datas = refl;
+        dataTask = λ r w. table-at 256 (k .dataTask) r 0 w;
+        dataDeadline = λ r w. table-at 256 (k .dataDeadline) r 0 w;
+        dataStart = λ r w. table-at 256 (k .dataStart) r 0 w;
+        dataStop = λ r w. table-at 256 (k .dataStop) r 0 w;
+      }
+
+  sized-kept : Sized (keptLaid k)
+  unfolding keptLaid notBegun
+  sized-kept =
+      record {
+        running = refl;
+        ages = refl;
+        bytes = refl;
+        givens = refl;
+        out = refl;
+        held = refl;
+        nodes = refl;
+        landed = λ n w. zero-node n w .0;
+        shown = λ n w. zero-node n w .1;
+      }
+    where
+      zero-node : (n : ℕ) → n < 8
+          → (length (getD (replicate 8 zeroNode) n noNode .landed) ≡ 32) × (length (getD (replicate 8 zeroNode) n noNode .shown) ≡ 32)
+      zero-node n w = rw (getD-replicate 8 n zeroNode noNode w) (refl, refl)
+
+  pub sized-begun : Sized (stationLaid b)
+  unfolding stationLaid
+  sized-begun = sized-laid (keptLaid k) sized-kept (b .state)
+
+  -- "landed and shown, all zero; each task has an out-box, zero"
+  pub same-state : Agree (stateOf (stationLaid b)) (b .state)
+  unfolding stationLaid
+  same-state = laid-agrees (keptLaid k) sized-kept (b .state)
+
+-- the rules begin, where the code does
+record Beginning (r : Begun) (rule : Res rules.Begun) : Type 0 where
+  b : rules.Begun
+  is : rule ≡ ok b
+  station : r .station ≡ stationLaid b
+
+begun-by : (r : Begun) (rule : Res rules.Begun) → Begins r rule → r .answer ≡ Started → Beginning r rule
+begun-by r (ok b) h e = record { b = b; is = refl; station = h .left }
+begun-by r (refuse n p) h e = refuse≢ok (sym (h .answered) ∙ ap heard e)
+
+-- A station that has begun, and a history of accepted ticks: what is seen of the station behind it is
+module _ (plan table : List ℕ) (starting : List Change) (r : Begun) (begins : Begins r (rules.begin plan table (changeAt starting)))
+    (started : r .answer ≡ Started) (p : Plan) (reads : readPlan plan ≡ ok p) (history : List Input) (after : Station)
+    (plays : Plays (r .station) history after) where
+  abbrev by : Beginning r (rules.begin plan table (changeAt starting))
+  by = begun-by r (rules.begin plan table (changeAt starting)) begins started
+
+  played : Plays (stationLaid (by .b)) history after
+  played = subst (λ (st : Station). Plays st history after) (by .station) plays
+
+  follows : Follows (by .b .kept) (stateOf (stationLaid (by .b))) history (stateOf after)
+  follows = follows-kept (same-kept (by .b)) (plays-follows (sized-begun (by .b)) played .follows)
+
+  -- the one board's value, on every node that consumes a task of another node
+  pub shown-consumed : (n t : ℕ) → consumes p n t ≡ true → stateOf after .shown n t ≡ boardValue p (changeAt starting) t history
+  shown-consumed n t c =
+      transparent-follows plan table (changeAt starting) (by .b) (by .is) p reads (stateOf (stationLaid (by .b))) (same-state (by .b)) history
+      (stateOf after) follows n t c
+
+  -- and on a task's own node
+  pub shown-own : (t : ℕ) → t < length (p .tasks) → stateOf after .shown (taskNode p t) t ≡ boardValue p (changeAt starting) t history
+  shown-own t w =
+      transparent-follows-own plan table (changeAt starting) (by .b) (by .is) p reads (stateOf (stationLaid (by .b))) (same-state (by .b))
+      history (stateOf after) follows t w

@@ -1,0 +1,33 @@
+-- "A refused beginning returns a station not begun, all zero, whose every tick gives 40 at 0": by the contracts of `begin` and `tick`.
+-- Assumes nothing.
+use mathlib.Core.Path.{_≡_, refl, sym, ap, _∙_}
+use mathlib.Core.List.{List}
+use Rattle.laws.specs.Res.{Res, ok, refuse}
+use Rattle.laws.proofs.Res.{refuse≢ok}
+use Rattle.answers.specs.declared.Refusal.{Refusal}
+use Rattle.rules.specs.Playing.{Input}
+use Rattle.rules.specs.Station as rules
+use Rattle.rules.specs.StationRange.{countsInRange, inRange, isBetween, keptInRange, ticked}
+use Rattle.stationjudge.specs.Inputs.{inputOf}
+use Rattle.stationjudge.specs.declared.Change.{Change}
+use Rattle.stationjudge.specs.declared.Given.{Given}
+use Rattle.station.specs.Answers.{Answers, answerOf}
+use Rattle.station.specs.Memory.{keptBy, keptOf, notBegun, stateOf}
+use Rattle.station.specs.declared.Ticked.{Ticked}
+use Rattle.beginning.specs.declared.Answer.the-variants.{Refused}
+use Rattle.beginning.specs.declared.Begun.{Begun}
+use Rattle.beginning.specs.Begins.{Begins, heard}
+
+not-begun-ticked : (i : Input) → ticked (keptOf notBegun) (stateOf notBegun) i ≡ refuse 40 0
+unfolding ticked inRange keptInRange countsInRange isBetween keptOf keptBy notBegun
+not-begun-ticked i = refl
+
+module _ (r : Begun) (why : Refusal) (refused : r .answer ≡ Refused why) where
+  pub refused-zero : (rule : Res rules.Begun) → Begins r rule → r .station ≡ notBegun
+  refused-zero (ok b) h = refuse≢ok (sym (ap heard refused) ∙ h .answered)
+  refused-zero (refuse n p) h = h .left
+
+  pub refused-forty : (rule : Res rules.Begun) → Begins r rule → (results : List Given) (changes : List Change) (x : Ticked)
+      → Answers (r .station) (ticked (keptOf (r .station)) (stateOf (r .station)) (inputOf results changes)) x → answerOf x ≡ refuse 40 0
+  refused-forty rule h results changes x a =
+      a .says ∙ rw (refused-zero rule h, not-begun-ticked (inputOf results changes))

@@ -1,0 +1,78 @@
+-- What a beginning answers, and the station that it leaves.
+use mathlib.Core.Path.{_≡_}
+use Prim.Native.Nat.{ℕ, _/_, _%_}
+use Rattle.laws.specs.Lists.{tab}
+use Rattle.laws.specs.Res.{Res, ok, refuse}
+use Rattle.answers.specs.Refusals.{said}
+use Rattle.rules.specs.Station as rules
+use Rattle.rules.specs.Station.{Kept}
+use Rattle.station.specs.Memory.{laid, notBegun}
+use Rattle.station.specs.declared.Station.{Station}
+use Rattle.beginning.specs.declared.Answer.{Answer}
+use Rattle.beginning.specs.declared.Answer.the-variants.{Started, Refused}
+use Rattle.beginning.specs.declared.Begun.{Begun}
+
+-- the period of mode j / 32 and task j % 32
+unfoldable pub runLaid : Kept → ℕ → ℕ
+runLaid k j = k .run (j / 32) (j % 32)
+
+-- "keeps its own copy of what it needs": each thing at the place of its number, and nothing played
+unfoldable pub keptLaid : Kept → Station
+keptLaid k =
+    record {
+      modules = record { count = k .modules; sites = tab (k .moduleNode) 0 16; sending = tab (k .sends) 0 16 };
+      modes =
+          record {
+            count = k .modes;
+            homes = tab (k .modeHome) 0 32;
+            periods = tab (k .modePeriod) 0 32;
+            switches = tab (k .modeSwitch) 0 32;
+          };
+      tasks =
+          record {
+            count = k .tasks;
+            homes = tab (k .taskHome) 0 32;
+            sizes = tab (k .taskSize) 0 32;
+            worsts = tab (k .taskWorst) 0 32;
+            bus = tab (k .isBus) 0 32;
+          };
+      controls =
+          record {
+            count = k .controls;
+            nodes = tab (k .controlNode) 0 8;
+            starts = tab (k .controlStart) 0 8;
+            stops = tab (k .controlStop) 0 8;
+          };
+      period = record { 0 = k .period };
+      datas = k .datas;
+      runs = tab (runLaid k) 0 1024;
+      carries = tab (k .dataTask) 0 256;
+      deadlines = tab (k .dataDeadline) 0 256;
+      starts = tab (k .dataStart) 0 256;
+      stops = tab (k .dataStop) 0 256;
+      play = notBegun .play;
+      nodes = notBegun .nodes;
+    }
+
+-- a beginning: what is kept, and the state at the start laid over it
+unfoldable pub stationLaid : rules.Begun → Station
+stationLaid b = laid (keptLaid (b .kept)) (b .state)
+
+-- the answer in the rules' words, and the rules' answer without what begins
+abbrev pub heard : Answer → Res (Unit {0})
+heard Started = ok tt
+heard (Refused x) = said x
+
+abbrev pub verdict : Res rules.Begun → Res (Unit {0})
+verdict (ok b) = ok tt
+verdict (refuse n p) = refuse n p
+
+-- "a refused beginning returns a station not begun, all zero"
+abbrev pub stationFor : Res rules.Begun → Station
+stationFor (ok b) = stationLaid b
+stationFor (refuse n p) = notBegun
+
+-- A beginning says what the rules say: the same number and place, or that the station begins; and it leaves that station.
+pub record Begins (r : Begun) (rule : Res rules.Begun) : Type 0 where
+  pub answered : heard (r .answer) ≡ verdict rule
+  pub left : r .station ≡ stationFor rule

@@ -1,0 +1,74 @@
+-- The answers to a history, each one line.
+use mathlib.Core.Bool.{Bool, true, false}
+use mathlib.Core.List.{List, [], _∷_, _++_}
+use lib.Dec.{eqb}
+use lib.ListN.{getD}
+use Prim.Native.Nat.{ℕ, zero, suc}
+use Rattle.laws.specs.Lists.{all, upTo}
+use Rattle.text.specs.Text.{decimal, lineFeed}
+use Rattle.stationsteps.specs.Nodes.{noNode}
+use Rattle.stationsteps.specs.declared.nodes.Node.{Node}
+
+-- the texts f 0, .., f (n - 1), one behind the other
+unfoldable pub texts : (ℕ → List ℕ) → ℕ → List ℕ
+texts f zero = []
+texts f (suc n) = texts f n ++ f n
+
+-- a number behind a mark
+abbrev pub marked : List ℕ → ℕ → List ℕ
+marked mark x = mark ++ decimal x
+
+-- ` NODE/TASK=VALUE`
+abbrev pub placeText : ℕ → ℕ → ℕ → List ℕ
+placeText n t v = marked (32 ∷ []) n ++ (marked (47 ∷ []) t ++ marked (61 ∷ []) v)
+
+-- "all places that are not zero"
+abbrev pub unlessZero : Bool → List ℕ → List ℕ
+unlessZero true text = []
+unlessZero false text = text
+
+abbrev pub placeShown : ℕ → ℕ → ℕ → List ℕ
+placeShown n t v = unlessZero (eqb v 0) (placeText n t v)
+
+unfoldable pub shownAt : ℕ → List ℕ → ℕ → List ℕ
+shownAt n shown t = placeShown n t (getD shown t 0)
+
+unfoldable pub nodeShown : List Node → ℕ → List ℕ
+nodeShown nodes n = texts (shownAt n (getD nodes n noNode .shown)) 32
+
+-- `shown`
+abbrev pub shownWord : List ℕ
+shownWord = 115 ∷ 104 ∷ 111 ∷ 119 ∷ 110 ∷ []
+
+-- ` -` for no place
+abbrev pub orDash : List ℕ → List ℕ
+orDash [] = 32 ∷ 45 ∷ lineFeed
+orDash (b ∷ text) = (b ∷ text) ++ lineFeed
+
+-- `shown NODE/TASK=VALUE ..`, nodes then tasks ascending
+unfoldable pub shownLine : List Node → List ℕ
+shownLine nodes = shownWord ++ orDash (texts (nodeShown nodes) 8)
+
+-- a word, a number and the line's end
+unfoldable pub numberedLine : List ℕ → ℕ → List ℕ
+numberedLine word n = marked word n ++ lineFeed
+
+-- `after K`
+unfoldable pub afterLine : ℕ → List ℕ
+afterLine k = numberedLine (97 ∷ 102 ∷ 116 ∷ 101 ∷ 114 ∷ 32 ∷ []) k
+
+-- `unreadable line L`
+unfoldable pub unreadableLine : ℕ → List ℕ
+unreadableLine l =
+    numberedLine (117 ∷ 110 ∷ 114 ∷ 101 ∷ 97 ∷ 100 ∷ 97 ∷ 98 ∷ 108 ∷ 101 ∷ 32 ∷ 108 ∷ 105 ∷ 110 ∷ 101 ∷ 32 ∷ []) l
+
+-- `begun`
+unfoldable pub begunLine : List ℕ
+begunLine = 98 ∷ 101 ∷ 103 ∷ 117 ∷ 110 ∷ lineFeed
+
+-- the same is shown on every node of every task
+abbrev pub samePlace : List ℕ → List ℕ → ℕ → Bool
+samePlace a b t = eqb (getD a t 0) (getD b t 0)
+
+unfoldable pub sameOn : List Node → List Node → ℕ → Bool
+sameOn a b n = all (samePlace (getD a n noNode .shown) (getD b n noNode .shown)) (upTo 32)
