@@ -1,0 +1,12 @@
+-- Refusal 9: a laid out plan has at most 256 frames. Assumes nothing.
+use mathlib.Core.Path.{_≡_, subst}
+use lib.ListN.{length}
+use Prim.Native.Nat.{_≤_}
+use Rattle.laws.specs.Res.{ok}
+use Rattle.rules.specs.Plan.{Plan}
+use Rattle.rules.specs.Frames.{Layout, layout, layoutOf}
+use Rattle.rules.proofs.LaidOut.{laid-out}
+
+pub few-laid : (p : Plan) (l : Layout) → layout p ≡ ok l → length (l .frames) ≤ 256
+unfolding layoutOf
+few-laid p l e = let h = laid-out p l e in subst (λ (l : Layout). length (l .frames) ≤ 256) (h .is) (h .few)

@@ -1,0 +1,4 @@
+pub mod Filling
+pub mod Few
+pub mod Checking
+pub mod Making

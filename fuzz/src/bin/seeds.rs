@@ -1,0 +1,61 @@
+//! Writes inputs to begin with into a folder: good and broken plans, tables and histories.
+
+use reference::generate::{CheckCase, History, MakeCase, PlayCase, Rng};
+use reference::generate::{check_case, make_case, play_case};
+use reference::plan;
+use std::path::Path;
+
+const CASES: u64 = 200;
+
+fn file(bytes: &[u8]) -> Vec<u8> {
+    [&(bytes.len() as u16).to_le_bytes(), bytes].concat()
+}
+
+fn make_input(rng: &mut Rng) -> Vec<u8> {
+    let MakeCase { plan, room, .. } = make_case(rng);
+    [vec![0, 0], file(&plan), vec![0x5a; room]].concat()
+}
+
+fn check_input(rng: &mut Rng) -> Vec<u8> {
+    let CheckCase { plan, table, .. } = check_case(rng);
+    [vec![1, 0], file(&plan), table].concat()
+}
+
+fn play_input(rng: &mut Rng) -> Vec<u8> {
+    let PlayCase { plan, table, modes } = play_case(rng);
+    let mut input = [vec![2, 0], file(&plan), file(&table)].concat();
+    input.extend(modes.map(|mode| mode.unwrap_or(255)));
+    let Ok(read) = plan::read(&plan) else { return input };
+    if reference::Station::begin(&plan, &table, modes).is_ok() {
+        let mut history = History::new(rng, &read, &modes, Some(50));
+        (0..200).for_each(|_| put_tick(&mut input, &history.next_tick().0));
+    }
+    input
+}
+
+/// As far as an input can say it: three small results and one change.
+fn put_tick(input: &mut Vec<u8>, tick: &reference::generate::Tick) {
+    let given: Vec<(u8, u64)> = (0..)
+        .zip(tick.results)
+        .filter_map(|(task, result)| Some((task, result?)))
+        .take(3)
+        .collect();
+    input.push(given.len() as u8);
+    given.iter().for_each(|&(task, result)| input.extend([task, 0, result as u8]));
+    let change = (0..).zip(tick.modes).find_map(|(module, mode)| Some([module, mode?]));
+    input.extend(change.unwrap_or([0, 255]));
+}
+
+fn main() -> std::io::Result<()> {
+    let folder = std::env::args().nth(1).unwrap_or("corpus".into());
+    std::fs::create_dir_all(&folder)?;
+    for seed in 0..CASES {
+        let rng = &mut Rng::new(seed);
+        for (name, input) in
+            [("make", make_input(rng)), ("check", check_input(rng)), ("play", play_input(rng))]
+        {
+            std::fs::write(Path::new(&folder).join(format!("{name}-{seed}")), input)?;
+        }
+    }
+    Ok(())
+}

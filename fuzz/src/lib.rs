@@ -1,0 +1,135 @@
+//! Hostile input for libFuzzer: the proved library and the Rust program are given the same bytes, and
+//! must answer the same. The library's code cannot be instrumented; the Rust program's is, and leads
+//! libFuzzer to inputs that go other ways. Memory that the library is lent lies against a page that
+//! nothing may touch, so that a read or a write behind it ends the run.
+//!
+//! An input is a byte that says what is done, a byte for the lent rows, a plan behind its length
+//! (two bytes), and what the rest is for: the table's buffer, a table, or a history.
+
+pub mod input;
+pub mod lent;
+
+use input::{Input, Tick};
+use lent::Lent;
+use olbiothar::{Frame, Refusal};
+use reference::{FrameRow, MOST_FRAMES};
+
+/// libFuzzer's entry.
+///
+/// # Safety
+/// `data` leads to `size` bytes.
+#[unsafe(no_mangle)]
+pub unsafe extern "C" fn LLVMFuzzerTestOneInput(data: *const u8, size: usize) -> i32 {
+    let bytes = if size == 0 { &[] } else { unsafe { std::slice::from_raw_parts(data, size) } };
+    run(bytes);
+    0
+}
+
+pub fn run(bytes: &[u8]) {
+    let mut input = Input::new(bytes);
+    let what = input.byte();
+    let rows = lent_rows(input.byte());
+    let plan = input.file();
+    match what % 3 {
+        0 => make(plan, rows, input.rest()),
+        1 => check(plan, input.rest(), rows),
+        _ => play(plan, input),
+    }
+}
+
+/// Near 256 as a rule.
+fn lent_rows(byte: u8) -> usize {
+    match byte {
+        0..128 => MOST_FRAMES,
+        128..192 => MOST_FRAMES + usize::from(byte - 128),
+        _ => MOST_FRAMES - usize::from(byte - 191),
+    }
+}
+
+type Refused = (u32, u64);
+
+fn proved<T>(answer: Result<T, Refusal>) -> Result<T, Refused> {
+    answer.map_err(|refusal| (refusal.number(), refusal.place()))
+}
+
+fn rust<T>(answer: Result<T, reference::Refusal>) -> Result<T, Refused> {
+    answer.map_err(|refusal| (refusal.number, refusal.place as u64))
+}
+
+const OLD_ROW: (Frame, FrameRow) = (
+    Frame { task: 9, release: 99, deadline: 999, start: 9_999 },
+    FrameRow { task: 9, release: 99, deadline: 999, start: 9_999 },
+);
+
+fn same_rows(proved: &[Frame], rust: &[FrameRow]) -> bool {
+    proved.iter().zip(rust).all(|(proved, rust)| {
+        let Frame { task, release, deadline, start } = *proved;
+        *rust == FrameRow { task, release, deadline, start }
+    })
+}
+
+fn make(plan: &[u8], rows: usize, old: &[u8]) {
+    let (plan_lent, mut buffer) = (Lent::copy(plan), Lent::copy(old));
+    let mut rows_lent = Lent::copy(&vec![OLD_ROW.0; rows]);
+    let made = proved(olbiothar::make(&plan_lent, &mut rows_lent, &mut buffer));
+    let (mut rust_rows, mut rust_buffer) = (vec![OLD_ROW.1; rows], old.to_vec());
+    assert_eq!(made, rust(reference::make(plan, &mut rust_rows, &mut rust_buffer)));
+    assert!(same_rows(&rows_lent, &rust_rows));
+    assert_eq!(*buffer, rust_buffer[..]);
+    assert_eq!(*plan_lent, *plan);
+    if let Ok(length) = made {
+        assert_eq!(proved(olbiothar::check(plan, &buffer[..length], &mut rows_lent)), Ok(()));
+        assert!(same_rows(&rows_lent, &rust_rows));
+    }
+}
+
+fn check(plan: &[u8], table: &[u8], rows: usize) {
+    let (plan_lent, table_lent) = (Lent::copy(plan), Lent::copy(table));
+    let mut rows_lent = Lent::copy(&vec![OLD_ROW.0; rows]);
+    let passed = proved(olbiothar::check(&plan_lent, &table_lent, &mut rows_lent));
+    let mut rust_rows = vec![OLD_ROW.1; rows];
+    assert_eq!(passed, rust(reference::check(plan, table, &mut rust_rows)));
+    assert!(same_rows(&rows_lent, &rust_rows));
+    assert_eq!((&*plan_lent, &*table_lent), (plan, table));
+}
+
+/// The table is the input's, or the plan's own if the input has none.
+fn play(plan: &[u8], mut input: Input) {
+    let own = own_table(plan);
+    let given = input.file();
+    let table = if given.is_empty() { &own } else { given };
+    let modes = input.modes();
+    let (plan_lent, table_lent) = (Lent::copy(plan), Lent::copy(table));
+    let begun = proved(olbiothar::Station::begin(&plan_lent, &table_lent, &modes));
+    let rust_begun = rust(reference::Station::begin(plan, table, modes));
+    assert_eq!(begun.as_ref().err(), rust_begun.as_ref().err());
+    let (Ok(mut station), Ok(mut rust_station)) = (begun, rust_begun) else { return };
+    while let Some(Tick { results, modes }) = input.tick() {
+        let row = proved(station.tick(&results, &modes)).map(|row| row.map(rust_row));
+        assert_eq!(row, rust(rust_station.tick(&results, &modes)));
+        let mut places = (0..8).flat_map(|node| (0..32).map(move |task| (node, task)));
+        assert!(
+            places.all(|(node, task)| {
+                station.shown(node, task) == rust_station.shown(node, task)
+            })
+        );
+    }
+}
+
+fn own_table(plan: &[u8]) -> Vec<u8> {
+    let mut table = vec![0; olbiothar::LONGEST_TABLE];
+    let length = reference::make(plan, &mut [OLD_ROW.1; MOST_FRAMES], &mut table).unwrap_or(0);
+    table.truncate(length);
+    table
+}
+
+fn rust_row(row: olbiothar::Row) -> reference::Row {
+    match row {
+        olbiothar::Row::Control { node, start, stop } => {
+            reference::Row::Control { node, start, stop }
+        }
+        olbiothar::Row::Data { task, deadline, start, stop } => {
+            reference::Row::Data { task, deadline, start, stop }
+        }
+    }
+}
