@@ -42,6 +42,7 @@ use units::TaskNo;
 use units::Ticks;
 
 // Of each module: the node that it is on, and whether it is sending.
+#[repr(C)]
 pub struct Modules {
     pub count: u8,
     pub sites: [u8; 16],
@@ -49,6 +50,7 @@ pub struct Modules {
 }
 
 // Of each mode: its module, its period and its switch period.
+#[repr(C)]
 pub struct Modes {
     pub count: u8,
     pub homes: [u8; 32],
@@ -57,6 +59,7 @@ pub struct Modes {
 }
 
 // Of each task: its module, the bytes of its message, its worst time, and whether it is a bus task.
+#[repr(C)]
 pub struct Tasks {
     pub count: u8,
     pub homes: [u8; 32],
@@ -66,6 +69,7 @@ pub struct Tasks {
 }
 
 // The control rows: node, start and stop.
+#[repr(C)]
 pub struct Controls {
     pub count: u8,
     pub nodes: [u8; 8],
@@ -76,6 +80,7 @@ pub struct Controls {
 // What a tick changes beside the nodes. `running` is each module's mode, `ages` the time since it began, `bytes` its mode byte on the
 // bus; `givens` whether a task's run has had its result; `held` the mode bytes that the nodes hold, 16 for each node; `full` and `load`
 // the data frame on the bus.
+#[repr(C)]
 pub struct Play {
     pub clock: Ticks,
     pub running: [u8; 16],
@@ -90,6 +95,7 @@ pub struct Play {
 
 // `runs` has the period of each task in each mode, 32 places for each mode; `carries`, `deadlines`, `starts` and `stops` are the data
 // rows. The arrays of numbers are lent to the steps.
+#[repr(C)]
 pub struct Station {
     pub modules: Modules,
     pub modes: Modes,

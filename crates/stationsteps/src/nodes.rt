@@ -14,6 +14,7 @@ use places::flag_at;
 use places::value_at;
 use stationjudge::Found;
 
+#[repr(C)]
 pub struct Node {
     pub landed: [u64; 32],
     pub shown: [u64; 32],
