@@ -1,4 +1,0 @@
-pub mod Filling
-pub mod Few
-pub mod Checking
-pub mod Making
