@@ -1,7 +1,5 @@
--- Frame rows as four numbers each, and what the arrays of placed frames give for them.
-use mathlib.Core.Bool.{Bool, true, false, cond}
-use mathlib.Core.List.{List, [], _∷_, map}
-use lib.Dec.{ltb}
+-- Frame rows in arrays, and what the arrays of placed frames give for them.
+use mathlib.Core.List.{List, map}
 use lib.ListN.{length, getD, set, replicate}
 use Prim.Native.Nat.{ℕ, zero, suc, _+_, _%_}
 use Rattle.laws.specs.Loops.{stores, padTo}
@@ -32,15 +30,6 @@ rowsLaid rs =
       deadline = padTo 256 0 (map rowDeadline rs);
       start = padTo 256 0 (map rowStart rs);
     }
-
--- a zero row
-abbrev pub zeros : ℕ → List ℕ
-zeros k = 0 ∷ 0 ∷ 0 ∷ 0 ∷ []
-
--- "the frames by number (task, release, deadline, the table's start), then zero rows": row k
-unfoldable pub rowIn : List ℕ → List ℕ → List ℕ → List ℕ → ℕ → ℕ → List ℕ
-rowIn task release deadline start frames k =
-    cond (ltb k frames) (getD task k 0 ∷ getD release k 0 ∷ getD deadline k 0 ∷ getD start k 0 ∷ []) (zeros k)
 
 -- the starts stored at the numbers of the frames, the last first
 abbrev pub scattered : List ℕ → List ℕ → ℕ → List ℕ → List ℕ
