@@ -7,6 +7,8 @@ ghost use Rattle.maker.specs.Making as making;
 ghost use Rattle.checker.specs.Checking as checking;
 ghost use Rattle.olbiothar.specs.Answers.{answerOf, madeOf};
 ghost use Rattle.olbiothar.specs.Lent.{ChecksRows, MakesRows, filled, withinPlaces};
+pub mod playing;
+
 use answers::Refusal;
 use rows::Rows;
 use rows::fill_rows;
