@@ -69,7 +69,7 @@ typedef struct olbiothar_answer {
 
 /* A frame, by its number: by deadline, then by task. `start` is its start in the table. */
 typedef struct olbiothar_frame {
-    uint32_t task;
+    uint8_t task;
     uint32_t release;
     uint32_t deadline;
     uint32_t start;

@@ -40,7 +40,7 @@ static uint32_t take_u32(void) {
 
 static void give_u32(uint32_t number) { give(&number, sizeof number); }
 
-enum { ROOM = 8 << 20, BEFORE = 64, MARK = 0xc3 };
+enum { ROOM = 8 << 20, BEFORE = 64, MARK = 0xc3, MOST_ROWS = 4096 };
 
 /* Memory to lend from, with a page behind it that nothing may touch. */
 typedef struct arena {
@@ -93,13 +93,27 @@ static void look_unchanged(const file *of) {
     if (memcmp(of->copy, of->memory.lent, of->length) != 0) fail("a file that is only read changed");
 }
 
+/* Rows as they stand in requests and answers: four u32 each. */
+static uint32_t numbers[MOST_ROWS][4];
+
 static olbiothar_frame *take_rows(arena *from, size_t count) {
+    if (count > MOST_ROWS) fail("a request has too many rows");
     olbiothar_frame *rows = lend(from, count * sizeof *rows);
-    take(rows, count * sizeof *rows);
+    take(numbers, count * sizeof *numbers);
+    for (size_t k = 0; k < count; k++)
+        rows[k] = (olbiothar_frame){(uint8_t)numbers[k][0], numbers[k][1], numbers[k][2], numbers[k][3]};
     return rows;
 }
 
-static void give_rows(const olbiothar_frame *rows, size_t count) { give(rows, count * sizeof *rows); }
+static void give_rows(const olbiothar_frame *rows, size_t count) {
+    for (size_t k = 0; k < count; k++) {
+        numbers[k][0] = rows[k].task;
+        numbers[k][1] = rows[k].release;
+        numbers[k][2] = rows[k].deadline;
+        numbers[k][3] = rows[k].start;
+    }
+    give(numbers, count * sizeof *numbers);
+}
 
 static void give_answer(olbiothar_answer answer) {
     give_u32(answer.number);
