@@ -7,7 +7,7 @@ use Rattle.rules.specs.Station as rules
 use Rattle.stationjudge.specs.declared.Change.{Change}
 use Rattle.stationjudge.specs.Inputs.{changeAt}
 use Rattle.beginning.specs.declared.Begun as beginning
-use Rattle.beginning.specs.Begins.{Begins, heard}
+use Rattle.beginning.specs.Begins.{Begins, heard, verdict, stationFor}
 use Rattle.olbiothar.specs.declared.playing.Begun.{Begun}
 use Rattle.olbiothar.specs.Answers.{answerOf}
 use Rattle.olbiothar.specs.Playing.{begunBy}
@@ -15,8 +15,9 @@ use Rattle.olbiothar.specs.Playing.{begunBy}
 begun-is : (rule : Res rules.Begun) (b : beginning.Begun) (r : Begun) → Begins b rule → r .answer ≡ answerOf (heard (b .answer)) → r .station ≡ b .station
     → r ≡ begunBy rule
 begun-is rule b r h a c =
-    let e : r .answer ≡ answerOf _ = a ∙ ap answerOf (h .answered) in
-    rw (← e, ← (c ∙ h .left))
+    let e : r .answer ≡ answerOf (verdict rule) = a ∙ ap answerOf (h .answered) in
+    let f : r .station ≡ stationFor rule = c ∙ h .left in
+    rw (← e, ← f)
 
 pub begun-from : (plan table : List ℕ) {m m′ : List Change} (b : beginning.Begun) (r : Begun) → m ≡ m′ → Begins b (rules.begin plan table (changeAt m))
     → r .answer ≡ answerOf (heard (b .answer)) → r .station ≡ b .station → r ≡ begunBy (rules.begin plan table (changeAt m′))
