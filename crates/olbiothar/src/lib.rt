@@ -6,6 +6,9 @@ ghost use Rattle.maker.specs.Making as making;
 ghost use Rattle.checker.specs.Checking as checking;
 ghost use Rattle.olbiothar.specs.Answers.{answerOf, madeOf};
 ghost use Rattle.olbiothar.specs.Lent.{ChecksRows, MakesRows};
+
+pub mod playing;
+
 use answers::Refusal;
 use framerows::Frame;
 

@@ -1,0 +1,3 @@
+pub mod Inputs
+pub mod Ticking
+pub mod Beginning

@@ -1,0 +1,15 @@
+use Rattle.olbiothar.proofs.Inputs.{change-none, change-some}
+use borrow.Author.Needs.{needs}
+use Rattle.olbiothar.proofs.playing.change_for.Statement.{statement}
+use Rattle.olbiothar.proofs.playing.change_for.Tie as tie
+use Rattle.olbiothar.proofs.playing.change_for.Reads as reads
+use Rattle.olbiothar.proofs.playing.change_for.Lts as lts
+
+returns : tie.Need-returns
+returns c = change-none _ _ (c .if1 .taken)
+
+returns-2 : tie.Need-returns-2
+returns-2 c = change-some _ _ (c .if1 .left)
+
+pub change-for-spec : {M : Type 1} → statement M
+change-for-spec = tie.close (tie.spec returns returns-2)

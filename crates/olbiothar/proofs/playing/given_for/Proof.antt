@@ -1,0 +1,15 @@
+use Rattle.olbiothar.proofs.Inputs.{given-none, given-some}
+use borrow.Author.Needs.{needs}
+use Rattle.olbiothar.proofs.playing.given_for.Statement.{statement}
+use Rattle.olbiothar.proofs.playing.given_for.Tie as tie
+use Rattle.olbiothar.proofs.playing.given_for.Reads as reads
+use Rattle.olbiothar.proofs.playing.given_for.Lts as lts
+
+returns : tie.Need-returns
+returns c = given-none _ _ (c .if1 .taken)
+
+returns-2 : tie.Need-returns-2
+returns-2 c = given-some _ _ (c .if1 .left)
+
+pub given-for-spec : {M : Type 1} → statement M
+given-for-spec = tie.close (tie.spec returns returns-2)
