@@ -15,7 +15,7 @@ use std::time::Instant;
 const MAKE_CASES: u64 = 40_000;
 const CHECK_CASES: u64 = 40_000;
 const NOISE_CASES: u64 = 10_000;
-const PLAY_CASES: u64 = 600;
+const PLAY_CASES: u64 = 1_200;
 const MOST_TICKS: usize = 400;
 
 /// The numbers that a run must reach, 0 for "not refused".
