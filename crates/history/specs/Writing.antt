@@ -5,7 +5,11 @@ use lib.Dec.{eqb}
 use lib.ListN.{getD}
 use Prim.Native.Nat.{ℕ, zero, suc}
 use Rattle.laws.specs.Lists.{all, upTo}
-use Rattle.text.specs.Text.{decimal, lineFeed}
+use Rattle.text.specs.Text.{decimal, lineFeed, refusedLine}
+use Rattle.answers.specs.Refusals.{numberOf, placeOf}
+use Rattle.answers.specs.declared.Refusal.{Refusal}
+use Rattle.station.specs.declared.Said.{Said}
+use Rattle.station.specs.declared.Said.the-variants.{Control, Data, Quiet, Refused}
 use Rattle.stationsteps.specs.Nodes.{noNode}
 use Rattle.stationsteps.specs.declared.nodes.Node.{Node}
 
@@ -48,6 +52,17 @@ orDash (b ∷ text) = (b ∷ text) ++ lineFeed
 -- `shown NODE/TASK=VALUE ..`, nodes then tasks ascending
 unfoldable pub shownLine : List Node → List ℕ
 shownLine nodes = shownWord ++ orDash (texts (nodeShown nodes) 8)
+
+-- `refused N at P`
+unfoldable pub refusalLine : Refusal → List ℕ
+refusalLine why = refusedLine (numberOf why) (placeOf why)
+
+-- what a tick is answered
+abbrev pub tickedLine : Said → List Node → List ℕ
+tickedLine (Control row) nodes = shownLine nodes
+tickedLine (Data row) nodes = shownLine nodes
+tickedLine Quiet nodes = shownLine nodes
+tickedLine (Refused why) nodes = refusalLine why
 
 -- a word, a number and the line's end
 unfoldable pub numberedLine : List ℕ → ℕ → List ℕ

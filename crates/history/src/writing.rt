@@ -4,11 +4,14 @@ ghost use Prim.Native.Nat.{_+_, _≤_};
 ghost use lib.ListN.{length};
 ghost use lib.Seq.{sets};
 ghost use Rattle.laws.specs.Lists.{all, upTo};
-ghost use Rattle.history.specs.Writing.{afterLine, begunLine, marked, nodeShown, numberedLine, placeShown, sameOn, samePlace, shownAt, shownLine, texts, unreadableLine};
+ghost use Rattle.history.specs.Writing.{afterLine, begunLine, marked, nodeShown, numberedLine, placeShown, refusalLine, sameOn, samePlace, shownAt, shownLine, texts, tickedLine, unreadableLine};
+use answers::Refusal;
 use places::both;
+use station::Said;
 use stationsteps::nodes::Node;
 use text::put_bytes;
 use text::put_decimal;
+use text::put_refused;
 
 // A number behind a mark.
 fn put_marked(out: &mut [u8], at: usize, mark: &[u8], x: u64) -> usize
@@ -74,6 +77,27 @@ pub fn put_shown(out: &mut [u8], nodes: [Node; 8]) -> usize
         return put_bytes(&mut *out, last, b" -\n");
     }
     put_bytes(&mut *out, last, b"\n")
+}
+
+// The line `refused N at P` of a refusal.
+pub fn put_refusal(out: &mut [u8], why: Refusal) -> usize
+    ensures { λ r. ⌜ (now (out .exit) ≡ sets (now (out .entry)) 0 (refusalLine why)) × (r ≡ length (refusalLine why)) ⌝ }
+    ensures few { λ r. ⌜ r ≤ 53 ⌝ }
+{
+    put_refused(out, why.number(), why.place())
+}
+
+// What a tick is answered: its refusal, or what is shown after it.
+pub fn put_ticked(out: &mut [u8], said: Said, nodes: [Node; 8]) -> usize
+    ensures { λ r. ⌜ (now (out .exit) ≡ sets (now (out .entry)) 0 (tickedLine said nodes)) × (r ≡ length (tickedLine said nodes)) ⌝ }
+    ensures few { λ r. ⌜ r ≤ 16136 ⌝ }
+{
+    match said {
+        Said::Control(_) => put_shown(out, nodes),
+        Said::Data(_) => put_shown(out, nodes),
+        Said::Quiet => put_shown(out, nodes),
+        Said::Refused(why) => put_refusal(out, why),
+    }
 }
 
 fn put_numbered(out: &mut [u8], word: &[u8], number: u64) -> usize

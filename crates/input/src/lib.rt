@@ -39,3 +39,16 @@ pub fn read_named(path: &[u8], buf: &mut [u8]) -> Input
     libc::close(fd);
     read
 }
+
+// The file that an argument names; `what` says on standard error which argument could not be had.
+pub fn read_argument(i: usize, what: &[u8], buf: &mut [u8]) -> Input
+    ensures { λ r. ⌜ Within r (now (buf .exit)) ⌝ }
+{
+    let mut path = io::buffer();
+    let length = os::arg(i, &mut path);
+    if os::errno() != 0 {
+        os::fail(what);
+        return Input::Unreadable;
+    }
+    read_named(&path[..length], buf)
+}

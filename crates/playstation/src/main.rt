@@ -1,0 +1,46 @@
+// Plays a history, which comes on standard input, on a station that begins with a plan file and a table file, both named on the
+// command line, and writes an answer to each line (docs/HISTORY.md), or `too long`.
+ghost use mathlib.Core.Path.{_≡_};
+ghost use Rattle.playstation.specs.Answered.{answered};
+use input::Input;
+use input::read_argument;
+use input::read_open;
+use libc::STDERR_FILENO;
+use libc::STDIN_FILENO;
+use libc::STDOUT_FILENO;
+use places::both;
+use station::Station;
+
+// Everything but the reading; the station after the history.
+fn respond(plan: &[u8], table: &[u8], history: &[u8]) -> Station
+    ensures { λ r. ⌜ r ≡ answered (now (plan .entry)) (now (table .entry)) (now (history .entry)) ⌝ }
+{
+    let files = both(plan.len() <= 65536, table.len() <= 65536);
+    if both(files, history.len() <= 262144) {
+        playing::play(plan, table, history)
+    } else {
+        io::write_all(STDOUT_FILENO, b"too long\n");
+        Station::not_begun()
+    }
+}
+
+// One byte more is read than the longest input has, so that a longer one is seen to be longer.
+fn main() {
+    if os::arg_count() != 3 {
+        io::write_all(STDERR_FILENO, b"usage: playstation PLAN TABLE <HISTORY\n");
+        return;
+    }
+    let mut plan = [0u8; 65537];
+    let Input::Bytes(n) = read_argument(1, b"PLAN", &mut plan) else {
+        return;
+    };
+    let mut table = [0u8; 65537];
+    let Input::Bytes(m) = read_argument(2, b"TABLE", &mut table) else {
+        return;
+    };
+    let mut history = [0u8; 262145];
+    let Input::Bytes(k) = read_open(STDIN_FILENO, b"standard input", &mut history) else {
+        return;
+    };
+    respond(&plan[..n], &table[..m], &history[..k]);
+}
