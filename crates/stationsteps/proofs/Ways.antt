@@ -3,15 +3,18 @@
 use mathlib.Core.Path.{_≡_, refl, sym, ap, _∙_}
 use mathlib.Core.Bool.{Bool, true, false, cond, not, _&&_}
 use mathlib.Core.List.{List}
-use lib.Dec.{eqb}
+use mathlib.Core.Option.{none}
+use lib.Dec.{eqb, leb}
 use lib.ListN.{length, getD, List·getD-eq-default}
 use borrow.Author.Tests.{eq-eqb, ne-eqb}
 use Prim.Native.Nat.{ℕ, _≤_}
 use native.Mathlib.Omega.{arith}
+use Rattle.laws.specs.Lists.{all, upTo}
 use Rattle.laws.specs.Loops.{stores}
-use Rattle.laws.proofs.Lists.{both-left, both-right}
-use Rattle.laws.proofs.Loops.{stores-at}
+use Rattle.laws.proofs.Lists.{both-left, both-right, all-upTo-true}
+use Rattle.laws.proofs.Loops.{firstBad-upTo-none, stores-at}
 use Rattle.laws.proofs.Stores.{stores-same, stores-read}
+use Rattle.rules.specs.Station.{hasOther, rowWith}
 use Rattle.stationjudge.specs.declared.Given.{Given}
 use Rattle.stationjudge.specs.declared.Given.the-variants as given
 use Rattle.stationjudge.specs.declared.Change.{Change}
@@ -21,6 +24,15 @@ use Rattle.stationsteps.specs.Nodes.{landedRule, shownRule}
 use Rattle.stationsteps.specs.declared.nodes.Node.{Node}
 use Rattle.stationsteps.specs.declared.nodes.Landing.{Landing}
 use Rattle.stationsteps.specs.declared.nodes.Landing.the-variants.{Value}
+
+-- no row has this time
+pub none-with : (times : List ℕ) (count time : ℕ) {x : Bool}
+    → x ≡ (leb count (length times) && all (hasOther (numberAt times) time) (upTo count)) → x ≡ true → none ≡ rowWith (numberAt times) count time
+unfolding rowWith
+none-with times count time e t =
+    let p = hasOther (numberAt times) time in
+    let each = both-right (leb count (length times)) (all p (upTo count)) (sym e ∙ t) in
+    sym (firstBad-upTo-none p count (λ k w. all-upTo-true p count k each w))
 
 -- a message: a bus task, with a period that divides the deadline
 module _ (f z d : Bool) where

@@ -2,11 +2,13 @@
 ghost use mathlib.Core.Path.{_≡_};
 ghost use mathlib.Core.Bool.{cond, false, not, _&&_, _||_};
 ghost use mathlib.Core.Option.{Option·getD};
-ghost use lib.ListN.{getD, replicate};
+ghost use lib.Dec.{leb};
+ghost use lib.ListN.{getD, length, replicate};
 ghost use Prim.Native.Nat.{ℕ, _<_};
+ghost use Rattle.laws.specs.Lists.{all, upTo};
 ghost use Rattle.laws.specs.Loops.{stores};
 ghost use Rattle.rules.specs.Playing.{isGiven};
-ghost use Rattle.rules.specs.Station.{oneOn, rowWith};
+ghost use Rattle.rules.specs.Station.{hasOther, oneOn, rowWith};
 ghost use Rattle.stationjudge.specs.Inputs.{changeAt, changeOf, foundOf, resultOf};
 ghost use Rattle.stationsteps.specs.Steps.{ageRule, byteFromRule, endsRule, fullRule, givenRule, heldAt, heldBy, heldRule, isByteAt, loadRule, messageIn, modeByteRule, modeRule, numberAt, outRule};
 use places::both;
@@ -25,8 +27,23 @@ use stationjudge::run_at;
 
 pub mod nodes;
 
-// The lowest of so many rows that has this time.
-pub fn row_with<'a>(times: &'a [u32], count: usize, time: u32) -> Found
+// Whether so many rows are there and none has this time. The scan does not end early, so that it is one straight pass.
+fn lacks<'a>(times: &'a [u32], count: usize, time: u32) -> bool
+    ensures { λ r. ⌜ r ≡ (leb count (length (now (times .entry))) && all (hasOther (numberAt (now (times .entry))) time) (upTo count)) ⌝ }
+{
+    if times.len() < count {
+        return false;
+    }
+    let mut other = true;
+    let mut row = 0;
+    while row < count {
+        other = both(other, times[row] != time);
+        row += 1;
+    }
+    other
+}
+
+fn first_with<'a>(times: &'a [u32], count: usize, time: u32) -> Found
     ensures { λ r. ⌜ foundOf r ≡ rowWith (numberAt (now (times .entry))) count time ⌝ }
 {
     let mut row = 0;
@@ -37,6 +54,17 @@ pub fn row_with<'a>(times: &'a [u32], count: usize, time: u32) -> Found
         row += 1;
     }
     Found::Nothing
+}
+
+// The lowest of so many rows that has this time; at most ticks none has.
+pub fn row_with<'a>(times: &'a [u32], count: usize, time: u32) -> Found
+    ensures { λ r. ⌜ foundOf r ≡ rowWith (numberAt (now (times .entry))) count time ⌝ }
+{
+    if lacks(times, count, time) {
+        Found::Nothing
+    } else {
+        first_with(times, count, time)
+    }
 }
 
 fn out_at(given: Given, old: u64) -> u64

@@ -1,56 +1,24 @@
-use borrow.Author.Tests.{eq-eqb, ne-eqb}
-use mathlib.Core.Path.{refl}
-use Prim.Native.Nat.{_≤_, _-_}
-use Rattle.laws.proofs.Turns.{Passed, passed-none, passed-turn, passed-hit, passed-end}
-use Rattle.rules.specs.Station.{hasOther, rowWith}
-use Rattle.stationsteps.specs.Steps.{numberAt}
+use denote.Ref.{now}
+use Rattle.stationsteps.proofs.Ways.{none-with}
 use borrow.Author.Needs.{needs}
 use Rattle.stationsteps.proofs.row_with.Statement.{statement}
 use Rattle.stationsteps.proofs.row_with.Tie as tie
 use Rattle.stationsteps.proofs.row_with.Reads as reads
 use Rattle.stationsteps.proofs.row_with.Lts as lts
-use Rattle.places.proofs.number_at.Reads as number-at-reads
+use Rattle.stationsteps.proofs.first_with.Reads as first-with-reads
+use Rattle.stationsteps.proofs.lacks.Reads as lacks-reads
 
-abbrev Inv-loop : tie.InvT-loop
-Inv-loop times count time row₀ row = (row ≤ count) × Passed (hasOther (numberAt times) time) row
+lacks-requires : tie.Need-lacks-requires
+lacks-requires c κs = search needs
 
-abbrev μ-loop : tie.MeasureT-loop
-μ-loop times count time row₀ row = count - row
+first-with-requires : tie.Need-first-with-requires
+first-with-requires c κs = search needs
 
-loop-holds : tie.Need-loop-holds Inv-loop μ-loop
-loop-holds c = (search needs, passed-none)
+returns : tie.Need-returns
+returns c = let a = c .before .before .before .args in none-with (now (a .times)) (a .count) (a .time) (c .before .lacks .ensures) (c .if1 .taken)
 
-number-at-requires : tie.Need-number-at-requires Inv-loop μ-loop
-number-at-requires c κs = search needs
-
-returns : tie.Need-returns Inv-loop μ-loop
-unfolding rowWith hasOther
-returns c = passed-hit (c .before .before .before .loop .inv .1) (c .before .before .loop-test .taken) refl (rw (← c .before .number-at .ensures, eq-eqb _ _ (c .if1 .taken)))
-
-add-row : tie.Need-add-row Inv-loop μ-loop
-add-row c = search needs
-
-loop-less : tie.Need-loop-less Inv-loop μ-loop
-loop-less c = search needs
-
-loop-again : tie.Need-loop-again Inv-loop μ-loop
-unfolding hasOther
-loop-again c = (search needs, passed-turn (c .before .before .before .loop .inv .1) refl (rw (← c .before .number-at .ensures, ne-eqb _ _ (c .if1 .left))))
-
-returns-2 : tie.Need-returns-2 Inv-loop μ-loop
-unfolding rowWith
-returns-2 c = passed-end (c .before .loop .inv .1) (c .before .loop .inv .0) (c .loop-test .left)
+returns-2 : tie.Need-returns-2
+returns-2 c = search needs
 
 pub row-with-spec : {M : Type 1} → statement M
-row-with-spec =
-    tie.close
-    (tie.spec
-    Inv-loop
-    μ-loop
-    loop-holds
-    number-at-requires
-    returns
-    add-row
-    loop-less
-    loop-again
-    returns-2)
+row-with-spec = tie.close (tie.spec lacks-requires first-with-requires returns returns-2)
