@@ -214,11 +214,20 @@ fn refused(why: Refusal) -> Laid
 }
 
 // The line of a plan that passed refusals 1 to 11.
-fn line_of(p: Plan, period: u32, end: Span, control: Control, frames: Frames) -> Line
+fn line_of<'a>(
+    p: Plan,
+    period: u32,
+    end: Span,
+    control: Control,
+    count: usize,
+    tasks: &'a [u8; 256],
+    releases: &'a [u32; 256],
+    deadlines: &'a [u32; 256],
+) -> Line
     requires { ⌜ PlanKept (seen p) ⌝ }
     requires { ⌜ (period ≡ busPeriod (seen p)) × (end .0 ≡ controlEnd (seen p)) × (end .0 < 2 ^ 32) ⌝ }
     requires { ⌜ control ≡ controlLaid (controlRows (seen p)) ⌝ }
-    requires { ⌜ (frames ≡ framesLaid (rules.frames (seen p))) × (length (rules.frames (seen p)) ≤ 256) ⌝ }
+    requires { ⌜ (framesLaid (rules.frames (seen p)) ≡ record { count = count; tasks = now tasks; releases = now releases; deadlines = now deadlines }) × (length (rules.frames (seen p)) ≤ 256) ⌝ }
     ensures { λ r. ⌜ r ≡ lineOf (layoutOf (seen p)) ⌝ }
 {
     let bus = p.bus;
@@ -227,9 +236,9 @@ fn line_of(p: Plan, period: u32, end: Span, control: Control, frames: Frames) ->
     let nodes = control_nodes(control);
     let starts = control_starts(control);
     let stops = control_stops(control);
-    let task = frames.tasks;
-    let release = frames.releases;
-    let deadline = frames.deadlines;
+    let task = *tasks;
+    let release = *releases;
+    let deadline = *deadlines;
     Line {
         period: Ticks(period),
         resolution: Ticks(bus.resolution.0),
@@ -240,7 +249,7 @@ fn line_of(p: Plan, period: u32, end: Span, control: Control, frames: Frames) ->
         nodes: nodes,
         starts: starts,
         stops: stops,
-        frames: frames.count,
+        frames: count,
         task: task,
         release: release,
         deadline: deadline,
@@ -248,11 +257,19 @@ fn line_of(p: Plan, period: u32, end: Span, control: Control, frames: Frames) ->
 }
 
 // Refusals 10 and 11 of a plan to which 6 to 9 do not apply, and its line.
-fn closed(p: Plan, senders: Senders, period: u32, frames: Frames) -> Laid
+fn closed<'a>(
+    p: Plan,
+    senders: Senders,
+    period: u32,
+    count: usize,
+    task: &'a [u8; 256],
+    release: &'a [u32; 256],
+    deadline: &'a [u32; 256],
+) -> Laid
     requires { ⌜ PlanKept (seen p) ⌝ }
     requires { ⌜ senders ≡ sendersOf (seen p) ⌝ }
     requires { ⌜ (period ≡ busPeriod (seen p)) × (period ≤ 1000000) ⌝ }
-    requires { ⌜ (frames ≡ framesLaid (rules.frames (seen p))) × (length (rules.frames (seen p)) ≤ 256) ⌝ }
+    requires { ⌜ (framesLaid (rules.frames (seen p)) ≡ record { count = count; tasks = now task; releases = now release; deadlines = now deadline }) × (length (rules.frames (seen p)) ≤ 256) ⌝ }
     requires { ⌜ layout (seen p) ≡ closing (seen p) ⌝ }
     ensures { λ r. ⌜ Lays r (layout (seen p)) ⌝ }
 {
@@ -269,7 +286,7 @@ fn closed(p: Plan, senders: Senders, period: u32, frames: Frames) -> Laid
         return refused(Refusal::ControlTooLong);
     }
     let control = control_rows(p, payloads);
-    let line = line_of(p, period, end, control, frames);
+    let line = line_of(p, period, end, control, count, task, release, deadline);
     Laid {
         answer: Answer::Sound,
         line: line,
@@ -288,7 +305,15 @@ fn framed(p: Plan, senders: Senders, runs: Runs, period: u32) -> Laid
     if Frames::MOST < frames.count {
         return refused(Refusal::TooManyFrames);
     }
-    closed(p, senders, period, frames)
+    closed(
+        p,
+        senders,
+        period,
+        frames.count,
+        &frames.tasks,
+        &frames.releases,
+        &frames.deadlines,
+    )
 }
 
 // Refusals 6 to 11 of a plan that was read, and its line. P is not computed before each period was tried against the grid.
