@@ -19,9 +19,9 @@ use Rattle.rules.specs.Frames.{ControlRow, noControlRow}
 use Rattle.rules.specs.Table.{DataRow}
 use Rattle.rules.specs.Checker.{rowAt, deadlineKept, stopBefore, firstRow, rowsKeep}
 use Rattle.judging.specs.declared.table.Table.{Table}
-use Rattle.judging.specs.declared.rows.Row.{Row}
-use Rattle.judging.specs.declared.rows.Rule.the-variants.{Time, Release, Deadline, Gap}
-use Rattle.judging.specs.declared.rows.Bounds.{Bounds}
+use Rattle.judging.specs.declared.rowrules.Row.{Row}
+use Rattle.judging.specs.declared.rowrules.Rule.the-variants.{Time, Release, Deadline, Gap}
+use Rattle.judging.specs.declared.rowrules.Bounds.{Bounds}
 use Rattle.judging.specs.Places.{Numbered, lookIn, beforeIn, numberOf, numberAt, marks, isNew}
 use Rattle.judging.specs.Memory.{controlIn, rowSeen, seen}
 use Rattle.judging.specs.Rows.{noRow, rowKeeps, keepsAt, byRule, byRules, heldRow}

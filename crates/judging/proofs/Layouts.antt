@@ -24,7 +24,7 @@ use Rattle.rules.specs.Frames.{Frame, ControlRow, noControlRow, Layout, layout,
 use Rattle.rules.specs.Table.{DataRow}
 use Rattle.rules.specs.LatestRelease.{noFrame, frameTime}
 use Rattle.rules.specs.Checker.{TableRead, noDataRow, rowAt, isFrameOf, samePair, namedIn, firstRow, rowsKeep, headerRight, controlKept, namesNewFrame, frameOfRow, timeKept, releaseKept, gapKept, judged}
-use Rattle.judging.specs.declared.rows.Bounds.{Bounds}
+use Rattle.judging.specs.declared.rowrules.Bounds.{Bounds}
 use Rattle.judging.specs.declared.judge.Judgement.{Judgement}
 use Rattle.judging.specs.Places.{lookIn, keyAt, Numbered}
 use Rattle.judging.specs.Memory.{nodeOf, beginOf, endOf, taskOf, deadlineOf, startOf, stopOf, layOut, controlIn, rowSeen, seen}

@@ -22,8 +22,8 @@ use Rattle.answers.specs.Refusals.{numberOf, placeOf, said}
 use Rattle.judging.specs.declared.table.Table.{Table}
 use Rattle.judging.specs.declared.naming.Spot.{Spot}
 use Rattle.judging.specs.declared.naming.Spot.the-variants.{At, Nowhere}
-use Rattle.judging.specs.declared.rows.Row.{Row}
-use Rattle.judging.specs.declared.rows.Bounds.{Bounds}
+use Rattle.judging.specs.declared.rowrules.Row.{Row}
+use Rattle.judging.specs.declared.rowrules.Bounds.{Bounds}
 use Rattle.judging.specs.declared.judge.Verdict.{Verdict}
 use Rattle.judging.specs.declared.judge.Verdict.the-variants.{Passed, Refused}
 use Rattle.judging.specs.declared.judge.Judgement.{Judgement}

@@ -7,10 +7,10 @@ use Prim.Native.Nat.{ℕ, _+_}
 use Rattle.laws.specs.Res.{Res, _>>_, at}
 use Rattle.laws.specs.Lists.{firstBad, upTo}
 use Rattle.laws.specs.Numbers.{divides}
-use Rattle.judging.specs.declared.rows.Row.{Row}
-use Rattle.judging.specs.declared.rows.Rule.{Rule}
-use Rattle.judging.specs.declared.rows.Rule.the-variants.{Time, Release, Deadline, Gap}
-use Rattle.judging.specs.declared.rows.Bounds.{Bounds}
+use Rattle.judging.specs.declared.rowrules.Row.{Row}
+use Rattle.judging.specs.declared.rowrules.Rule.{Rule}
+use Rattle.judging.specs.declared.rowrules.Rule.the-variants.{Time, Release, Deadline, Gap}
+use Rattle.judging.specs.declared.rowrules.Bounds.{Bounds}
 use Rattle.judging.specs.declared.table.Table.{Table}
 use Rattle.judging.specs.Places.{lookIn, beforeIn}
 

@@ -1,9 +1,9 @@
--- `judging::rows::keeps` meets its contract: each rule has its own test.
+-- `judging::rowrules::keeps` meets its contract: each rule has its own test.
 -- Assumes nothing.
 use Rattle.judging.specs.Rows.{rowKeeps}
 use borrow.Author.Needs.{needs}
-use Rattle.judging.proofs.rows.keeps.Statement.{statement}
-use Rattle.judging.proofs.rows.keeps.Tie as tie
+use Rattle.judging.proofs.rowrules.keeps.Statement.{statement}
+use Rattle.judging.proofs.rowrules.keeps.Tie as tie
 
 enum-told : tie.Need-enum-told
 enum-told c = search needs

@@ -1,10 +1,10 @@
--- `judging::rows::time_kept` meets its contract: nothing wraps in 64 bits.
+-- `judging::rowrules::time_kept` meets its contract: nothing wraps in 64 bits.
 -- Assumes nothing.
 use mathlib.Core.Path.{sym}
 use borrow.Author.Tests.{eq-eqb, ne-eqb}
 use borrow.Author.Needs.{needs}
-use Rattle.judging.proofs.rows.time_kept.Statement.{statement}
-use Rattle.judging.proofs.rows.time_kept.Tie as tie
+use Rattle.judging.proofs.rowrules.time_kept.Statement.{statement}
+use Rattle.judging.proofs.rowrules.time_kept.Tie as tie
 
 wide-requires : tie.Need-wide-requires
 wide-requires c κs = search needs

@@ -1,4 +1,4 @@
--- `judging::rows::first_bad` meets its contract: the part already seen breaks nothing.
+-- `judging::rowrules::first_bad` meets its contract: the part already seen breaks nothing.
 -- Assumes nothing.
 use mathlib.Core.Path.{_≡_, refl, sym, _∙_}
 use mathlib.Core.Option.{none}
@@ -10,8 +10,8 @@ use Rattle.laws.proofs.Loops.{firstBad-upTo-more}
 use Rattle.judging.specs.Rows.{keepsAt}
 use Rattle.judging.proofs.Places.{scan-hit, scan-end}
 use borrow.Author.Needs.{needs}
-use Rattle.judging.proofs.rows.first_bad.Statement.{statement}
-use Rattle.judging.proofs.rows.first_bad.Tie as tie
+use Rattle.judging.proofs.rowrules.first_bad.Statement.{statement}
+use Rattle.judging.proofs.rowrules.first_bad.Tie as tie
 
 abbrev Inv-loop : tie.InvT-loop
 Inv-loop rule count bounds rows k₀ k = (k ≤ count) × (firstBad (keepsAt rule bounds rows) (upTo k) ≡ none)

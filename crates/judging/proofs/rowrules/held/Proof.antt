@@ -1,4 +1,4 @@
--- `judging::rows::held` meets its contract: one store for each row.
+-- `judging::rowrules::held` meets its contract: one store for each row.
 -- Assumes nothing.
 use mathlib.Core.Path.{_≡_}
 use Prim.Native.Nat.{_-_, _≤_}
@@ -8,8 +8,8 @@ use Rattle.laws.specs.Loops.{stores}
 use Rattle.laws.proofs.Loops.{stores-turn}
 use Rattle.judging.specs.Rows.{noRow, heldRow}
 use borrow.Author.Needs.{needs}
-use Rattle.judging.proofs.rows.held.Statement.{statement}
-use Rattle.judging.proofs.rows.held.Tie as tie
+use Rattle.judging.proofs.rowrules.held.Statement.{statement}
+use Rattle.judging.proofs.rowrules.held.Tie as tie
 
 abbrev Inv-loop : tie.InvT-loop
 Inv-loop numbers releases times last t count rows₀ k₀ rows k = (k ≤ count) × (rows ≡ stores (replicate 256 noRow) (heldRow t numbers releases times last) k)

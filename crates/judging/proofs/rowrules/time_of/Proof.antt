@@ -1,11 +1,11 @@
--- `judging::rows::time_of` meets its contract.
+-- `judging::rowrules::time_of` meets its contract.
 -- Assumes nothing.
 use mathlib.Core.Path.{sym}
 use borrow.Author.Tests.{lt-ltb, le-ltb}
 use Rattle.judging.specs.Places.{lookIn}
 use borrow.Author.Needs.{needs}
-use Rattle.judging.proofs.rows.time_of.Statement.{statement}
-use Rattle.judging.proofs.rows.time_of.Tie as tie
+use Rattle.judging.proofs.rowrules.time_of.Statement.{statement}
+use Rattle.judging.proofs.rowrules.time_of.Tie as tie
 
 place-requires : tie.Need-place-requires
 place-requires c κs = search needs

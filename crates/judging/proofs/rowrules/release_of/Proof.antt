@@ -1,10 +1,10 @@
--- `judging::rows::release_of` meets its contract.
+-- `judging::rowrules::release_of` meets its contract.
 -- Assumes nothing.
 use borrow.Author.Tests.{lt-ltb, le-ltb}
 use Rattle.judging.specs.Places.{lookIn}
 use borrow.Author.Needs.{needs}
-use Rattle.judging.proofs.rows.release_of.Statement.{statement}
-use Rattle.judging.proofs.rows.release_of.Tie as tie
+use Rattle.judging.proofs.rowrules.release_of.Statement.{statement}
+use Rattle.judging.proofs.rowrules.release_of.Tie as tie
 
 mul-result : tie.Need-mul-result
 mul-result c = search needs

@@ -1,9 +1,9 @@
--- `judging::rows::stop_before` meets its contract.
+-- `judging::rowrules::stop_before` meets its contract.
 -- Assumes nothing.
 use Rattle.judging.proofs.Places.{before-at}
 use borrow.Author.Needs.{needs}
-use Rattle.judging.proofs.rows.stop_before.Statement.{statement}
-use Rattle.judging.proofs.rows.stop_before.Tie as tie
+use Rattle.judging.proofs.rowrules.stop_before.Statement.{statement}
+use Rattle.judging.proofs.rowrules.stop_before.Tie as tie
 
 sub-result : tie.Need-sub-result
 sub-result c = search needs
