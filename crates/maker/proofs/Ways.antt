@@ -50,7 +50,7 @@ pub makes-refused : (x : Refusal) (r : Making) (before after : List ℕ) (rule :
 makes-refused x r before after rule e b q = record { answered = rw (e, q); left = rw (e, q); written = rw (b, q) }
 
 -- the table at the front is the table stored there
-table-stored : (table old : List ℕ) → length table ≤ length old → sets old 0 table ≡ table ++ drop (length table) old
+pub table-stored : (table old : List ℕ) → length table ≤ length old → sets old 0 table ≡ table ++ drop (length table) old
 table-stored table old h =
     let room : 0 + length table ≤ length old = omega arith in
     sets-eq table old 0 room ∙ ap (λ (k : ℕ). table ++ drop k old) (zero-add (length table))
