@@ -2,7 +2,8 @@
 // as 0, and is not stored.
 ghost use mathlib.Core.Path.{_≡_};
 ghost use Prim.Native.Nat.{_+_, _*_, _≤_};
-ghost use lib.ListN.{getD, take, drop, set};
+ghost use lib.Dec.{leb};
+ghost use lib.ListN.{length, getD, take, drop, set};
 ghost use lib.Seq.{sets};
 ghost use Rattle.laws.specs.Numbers.{number, bytes};
 
@@ -24,48 +25,47 @@ pub fn read8(s: &[u8], at: usize) -> u8
     byte(s, at, 0)
 }
 
-pub fn read16(s: &[u8], at: usize) -> u16
-    ensures { λ r. ⌜ r ≡ number (take 2 (drop at (now (s .entry)))) ⌝ }
+fn two(low: u8, high: u8) -> u16
+    ensures { λ r. ⌜ r ≡ low + 256 * high ⌝ }
 {
-    let low = byte(s, at, 0);
-    let high = byte(s, at, 1);
     (low as u16) + 256 * (high as u16)
 }
 
-fn joined(a: u8, b: u8, c: u8, d: u8) -> u32
+fn four(a: u8, b: u8, c: u8, d: u8) -> u32
     ensures { λ r. ⌜ r ≡ a + 256 * (b + 256 * (c + 256 * d)) ⌝ }
 {
     (a as u32) + 256 * ((b as u32) + 256 * ((c as u32) + 256 * (d as u32)))
 }
 
-// Four bytes that are all there: the compiler reads them at once.
-fn read_whole(s: &[u8], at: usize) -> u32
-    requires { do ⌜ at + 4 ≤ (← ⟦s.len()⟧) ⌝ }
-    ensures { λ r. ⌜ r ≡ number (take 4 (drop at (now (s .entry)))) ⌝ }
+// Whether n bytes stand at a place: those are read without a test for each.
+fn holds(s: &[u8], at: usize, n: usize) -> bool
+    ensures { λ r. ⌜ r ≡ leb (at + n) (length (now (s .entry))) ⌝ }
 {
-    joined(s[at], s[at + 1], s[at + 2], s[at + 3])
+    let end = s.len();
+    if n <= end { at <= end - n } else { false }
 }
 
-fn read_each(s: &[u8], at: usize) -> u32
-    ensures { λ r. ⌜ r ≡ number (take 4 (drop at (now (s .entry)))) ⌝ }
+pub fn read16(s: &[u8], at: usize) -> u16
+    ensures { λ r. ⌜ r ≡ number (take 2 (drop at (now (s .entry)))) ⌝ }
 {
-    joined(
-        byte(s, at, 0),
-        byte(s, at, 1),
-        byte(s, at, 2),
-        byte(s, at, 3),
-    )
+    if holds(s, at, 2) {
+        return two(s[at], s[at + 1]);
+    }
+    two(byte(s, at, 0), byte(s, at, 1))
 }
 
 pub fn read32(s: &[u8], at: usize) -> u32
     ensures { λ r. ⌜ r ≡ number (take 4 (drop at (now (s .entry)))) ⌝ }
 {
-    if 4 <= s.len() {
-        if at <= s.len() - 4 {
-            return read_whole(s, at);
-        }
+    if holds(s, at, 4) {
+        return four(s[at], s[at + 1], s[at + 2], s[at + 3]);
     }
-    read_each(s, at)
+    four(
+        byte(s, at, 0),
+        byte(s, at, 1),
+        byte(s, at, 2),
+        byte(s, at, 3),
+    )
 }
 
 // Stores a byte `k` places behind `at`.
