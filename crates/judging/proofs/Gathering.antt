@@ -6,11 +6,13 @@ use mathlib.Core.List.{List, [], _∷_, _++_, map, append-assoc}
 use native.Mathlib.Omega.{arith}
 use lib.Dec.{eqb, leb}
 use lib.ListN.{length, getD, take, drop, replicate, length-map}
+use lib.Seq.{take-take, drop-drop}
 use borrow.Author.Tests.{ne-eqb, eqb-true, eqb-false, leb-true}
-use Prim.Native.Nat.{ℕ, zero, suc, _+_, _≤_}
+use Prim.Native.Nat.{ℕ, zero, suc, _+_, _-_, _≤_}
 use Rattle.laws.specs.Res.{Res, ok, refuse}
 use Rattle.laws.specs.Loops.{padTo}
 use Rattle.laws.specs.Numbers.{number}
+use Rattle.laws.proofs.Gather.{drop-take}
 use Rattle.laws.proofs.Lists.{map-snoc, length-snoc, both-left, both-right}
 use Rattle.laws.proofs.Res.{refuse≢ok, ok-injective}
 use Rattle.rules.specs.Records.{Rec, kinds, fields, bodyLength, decoded, recordOf, tableFollows, before, records}
@@ -197,6 +199,17 @@ module _ (s : List ℕ) where
 gathered-before : (m : memory.Table) (r : Rec) (w : Res (List Rec)) → gatheredFrom m (before tableFollows 20 r w) ≡ gatheredFrom (withRecord m r) w
 gathered-before m r (ok rs) = refl
 gathered-before m r (refuse n p) = refl
+
+-- a body that is cut out of the file says what the file says there
+module _ (s : List ℕ) (body n : ℕ) where
+  pub front-number : (m : ℕ) → m ≤ n → number (take m (take (body + n - body) (drop body s))) ≡ number (take m (drop body s))
+  front-number m h = rw (take-take m (body + n - body) (drop body s) (omega arith))
+
+  pub part-number : (j m : ℕ) → j + m ≤ n
+      → number (take m (drop j (take (body + n - body) (drop body s)))) ≡ number (take m (drop (body + j) s))
+  part-number j m h =
+      let cut : body + n - body ≡ j + (n - j) = omega arith in
+      rw (cut, drop-take j (n - j) (drop body s), take-take m (n - j) (drop j (drop body s)) (omega arith), drop-drop j body s)
 
 module _ (s : List ℕ) (body : ℕ) where
   pub header-numbers : headerOf (recordOf 16 (drop body s) .numbers)
