@@ -252,9 +252,12 @@ module _ (s : List ℕ) (whole : Reading) (previous at : ℕ) (inside : at ≤ l
     facts = found Table s previous at kind body next (sym e ∙ r)
 
     -- the body of each kind is whole
-    pub row-fits : kind ≡ 18 → body + 13 ≤ length s
+    pub row-next : kind ≡ 18 → next ≡ body + 13
     unfolding bodyLength fields kinds
-    row-fits k = let n : next ≡ at + 1 + 13 = rw k at (facts .next-place) in omega (arith, facts .body-place, facts .fits)
+    row-next k = let n : next ≡ at + 1 + 13 = rw k at (facts .next-place) in omega (arith, facts .body-place)
+
+    pub row-fits : kind ≡ 18 → body + 13 ≤ length s
+    row-fits k = omega (arith, row-next k, facts .fits)
 
     pub control-fits : kind ≡ 17 → body + 9 ≤ length s
     unfolding bodyLength fields kinds
@@ -276,9 +279,10 @@ module _ (s : List ℕ) (whole : Reading) (previous at : ℕ) (inside : at ≤ l
         → deadlines′ ≡ placed 256 deadlines rows (number (take 4 (drop (body + 1) s)))
         → starts′ ≡ placed 256 starts rows (number (take 4 (drop (body + 5) s)))
         → stops′ ≡ placed 256 stops rows (number (take 4 (drop (body + 9) s)))
-        → whole ≡ gatheredFrom (tableFrom head control (rows + 1) nodes begins ends tasks′ deadlines′ starts′ stops′) (from Table 20 s kind next)
+        → whole ≡ gatheredFrom (tableFrom head control (rows + 1) nodes begins ends tasks′ deadlines′ starts′ stops′) (from Table 20 s kind (body + 13))
     unfolding withRecord withRow tableFrom recordOf
-    row-turn k a b c d = turned (rw (k, row-numbers s body, sym a, sym b, sym c, sym d))
+    row-turn k a b c d =
+        rw (sym (row-next k)) (turned (rw (k, row-numbers s body, sym a, sym b, sym c, sym d)))
 
     pub control-turn : {nodes′ begins′ ends′ : List ℕ} → kind ≡ 17
         → nodes′ ≡ placed 8 nodes control (number (take 1 (drop body s)))

@@ -166,14 +166,17 @@ fn gather(
                 if kind == 18 {
                     data_row(s, body, rows, tasks, deadlines, starts, stops);
                     rows += 1;
+                    // This is `next`; but no row waits for the length of the row before it to be looked up.
+                    at = body + 13;
                 } else if kind == 17 {
                     control_row(s, body, control, nodes, begins, ends);
                     control += 1;
+                    at = next;
                 } else {
                     head = first_record(s, body);
+                    at = next;
                 }
                 previous = kind;
-                at = next;
             }
             Step::End => {
                 return Gathered {
