@@ -26,7 +26,7 @@ use Rattle.rules.specs.Checker.{
 }
 use Rattle.answers.specs.Refusals.{said}
 use Rattle.judging.specs.declared.table.Header.{Header}
-use Rattle.judging.specs.declared.rows.Bounds.{Bounds}
+use Rattle.judging.specs.declared.rowrules.Bounds.{Bounds}
 use Rattle.judging.specs.declared.judge.Verdict.{Verdict}
 use Rattle.judging.specs.declared.judge.Verdict.the-variants.{Passed, Refused}
 use Rattle.judging.specs.declared.judge.Judgement.{Judgement}

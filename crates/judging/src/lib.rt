@@ -1,5 +1,5 @@
 // A table read into memory and judged: refusals 20 to 27.
 pub mod judge;
 pub mod naming;
-pub mod rows;
+pub mod rowrules;
 pub mod table;
