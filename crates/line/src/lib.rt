@@ -5,7 +5,6 @@ ghost use lib.Dec.{leb};
 ghost use lib.ListN.{length};
 ghost use Prim.Native.Nat.{_≤_, _<_, _^_};
 ghost use Rattle.laws.specs.Lists.{any, all, tab, upTo};
-ghost use Rattle.rules.specs.Plan.{theTask};
 ghost use Rattle.rules.proofs.PlanKept.{PlanKept};
 ghost use Rattle.plan.specs.Memory.{seen};
 ghost use Rattle.bus.specs.Senders.{byNumber};
@@ -35,8 +34,8 @@ use cycle::period::switch_grid;
 use cycle::runs::Runs;
 use frames::laid::Frames;
 use plan::Plan;
-use plan::look::task_at;
 use plan::look::task_count;
+use units::ByteCount;
 use units::Ticks;
 
 // `floor` is C; `time` is by task; `nodes`, `starts` and `stops` are the control rows, `controls` of them; `task`, `release` and
@@ -95,12 +94,11 @@ fn some_bus_task(tasks: [bool; 256], count: usize) -> bool
 }
 
 // Whether the message of a bus task fits the largest payload; other tasks send none.
-fn message_keeps(p: Plan, sends: bool, t: usize) -> bool
-    ensures { λ r. ⌜ r ≡ cond sends (leb (theTask (seen p) t .size) (seen p .bus .most)) true ⌝ }
+fn message_keeps(sends: bool, size: u32, most: u32) -> bool
+    ensures { λ r. ⌜ r ≡ cond sends (leb size most) true ⌝ }
 {
     if sends {
-        let task = task_at(p, t);
-        return task.size.0 <= p.bus.most.0;
+        return size <= most;
     }
     true
 }
@@ -111,7 +109,7 @@ fn messages_fit(p: Plan, tasks: [bool; 256]) -> bool
     let count = task_count(p);
     let mut t = 0;
     while t < count {
-        if !message_keeps(p, tasks[t], t) {
+        if !message_keeps(tasks[t], p.tasks[t].size.0, p.bus.most.0) {
             return false;
         }
         t += 1;
@@ -177,16 +175,18 @@ fn control_stops(control: Control) -> [u32; 8]
     stops
 }
 
-// The sending time of each task's message, by task.
+// The sending time of each task's message, by task; a task that the plan does not have would send no bytes.
 fn times(p: Plan) -> [u32; 32]
     requires { ⌜ PlanKept (seen p) ⌝ }
     ensures { λ r. ⌜ r ≡ tab (taskTime (seen p)) 0 32 ⌝ }
 {
     let bus = p.bus;
-    let mut time = [0; 32];
+    let count = task_count(p);
+    let none = sending_time(bus, ByteCount(0)).0 as u32;
+    let mut time = [none; 32];
     let mut t = 0;
-    while t < 32 {
-        let task = task_at(p, t);
+    while t < count {
+        let task = p.tasks[t];
         time[t] = sending_time(bus, task.size).0 as u32;
         t += 1;
     }

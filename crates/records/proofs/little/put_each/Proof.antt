@@ -1,11 +1,11 @@
--- `records::little::put32` meets its contract: the bytes stored one by one are the number's.
+-- `records::little::put_each` meets its contract: the bytes stored one by one are the number's.
 -- Assumes nothing.
 use denote.Ref.{now}
 use Rattle.laws.specs.Numbers.{bytes}
 use Rattle.laws.proofs.Little.{stored-sets}
 use borrow.Author.Needs.{needs}
-use Rattle.records.proofs.little.put32.Statement.{statement}
-use Rattle.records.proofs.little.put32.Tie as tie
+use Rattle.records.proofs.little.put_each.Statement.{statement}
+use Rattle.records.proofs.little.put_each.Tie as tie
 
 cast-store : tie.Need-cast-store
 cast-store c = search needs
@@ -39,8 +39,8 @@ returns c =
     let a = c .before .before .before .before .before .before .before .before .before .before .before .before .before .before .before .before .before .args in
     rw (c .before .before .store4 .ensures, c .before .before .before .before .before .before .store3 .ensures, c .before .before .before .before .before .before .before .before .before .before .store2 .ensures, c .before .before .before .before .before .before .before .before .before .before .before .before .before .before .store .ensures) (stored-sets (now (a .buf)) (a .at) (bytes 4 (a .x)))
 
-pub put32-spec : {M : Type 1} → statement M
-put32-spec =
+pub put-each-spec : {M : Type 1} → statement M
+put-each-spec =
     tie.close
     (tie.spec
     cast-store

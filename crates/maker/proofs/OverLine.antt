@@ -1,59 +1,24 @@
--- The arrays of a line stand for its layout: the frames, their order, their times, the control rows.
-use mathlib.Core.Path.{_≡_, refl, ap, _∙_, subst}
+-- The latest-release rule over the arrays of a line is the rule over its layout.
+use mathlib.Core.Path.{_≡_, refl, ap, _∙_}
 use mathlib.Core.Bool.{Bool, true, false, cond}
 use mathlib.Core.List.{List, [], _∷_}
 use mathlib.Core.Logic.{_⊎_, inl, inr}
-use native.Mathlib.Nat.{le-refl, zero-add, eq-or-lt-of-le}
+use native.Mathlib.Nat.{le-refl, eq-or-lt-of-le}
 use native.Mathlib.Omega.{arith}
 use lib.Dec.{lit≤}
 use lib.ListN.{length, getD}
 use Prim.Native.Nat.{ℕ, zero, suc, _-_, _≤_, _<_}
-use Rattle.laws.specs.Res.{Res, ok, refuse}
+use Rattle.laws.specs.Res.{Res, refuse}
 use Rattle.laws.specs.Lists.{keep, tab}
-use Rattle.laws.proofs.Lists.{getD-tab}
-use Rattle.laws.proofs.Arrays.{tab-list, getD-laid}
-use Rattle.laws.proofs.Members.{All, empty, also, all-keep, all-weaker}
-use Rattle.rules.specs.Plan.{Plan, readPlan}
-use Rattle.rules.specs.Frames.{Frame, noControlRow, Layout, layout, layoutOf, frames, busPeriod, payload, gapTime}
+use Rattle.laws.proofs.Members.{All, empty, also, all-keep, pairs-getD}
+use Rattle.rules.specs.Frames.{Frame, Layout, payload, gapTime}
 use Rattle.rules.specs.LatestRelease.{Numbered, Placed, noFrame, noNumbered, numberedFrom, latestOf, latest, isLater, isCandidate, isOther, lowered, taken, startOf, fits, place, frameTime, firstEnd, latestRelease}
-use Rattle.rules.proofs.PlanKept.{PlanKept, readable-kept}
-use Rattle.rules.proofs.LaidOut.{LaidOut, laid-out, frames-kept, control-count, period-kept}
-use Rattle.rules.proofs.FramesOf.{before-case, plan-frames, frames-in-order}
+use Rattle.rules.proofs.FramesOf.{before-case}
 use Rattle.placing.specs.Placing.{frameAt, timeOf}
 use Rattle.tablebytes.specs.Rows.{controlIn}
 use Rattle.line.specs.Line as line
-use Rattle.line.specs.Line.{taskTime, nodeOf, stopOf, taskOf, releaseOf, deadlineOf}
-
--- What holds of a layout that comes from a plan that was read.
-pub record Lined (l : Layout) : Type 0 where
-  pub few : length (l .frames) ≤ 256
-  pub rising : (i j : ℕ) → i ≤ j → j < length (l .frames) → getD (l .frames) i noFrame .deadline ≤ getD (l .frames) j noFrame .deadline
-  pub tasks : All (λ f. f .task < 32) (l .frames)
-  pub due : All (λ f. f .deadline ≤ 1000000) (l .frames)
-  pub controls : length (l .control) ≤ 8
-
-pub lined : (file : List ℕ) (p : Plan) (l : Layout) → readPlan file ≡ ok p → layout p ≡ ok l → Lined l
-unfolding layoutOf
-lined file p l r e =
-    subst Lined (o .is)
-    (record {
-      few = o .few;
-      rising = λ i j h w. in-order i j w (eq-or-lt-of-le h);
-      tasks = all-weaker (λ f h. let t : f .task < length (p .tasks) = h .task in let m : length (p .tasks) ≤ 32 = k .taskCount .most in omega arith) (frames-kept p k);
-      due = all-weaker (λ f h. let t : f .deadline ≤ busPeriod p = h .deadline in let m : busPeriod p ≤ 1000000 = period-kept p k o .most in omega arith) (frames-kept p k);
-      controls = let c = control-count p in let m : p .nodes ≤ 8 = k .nodeCount .most in omega arith;
-    })
-  where
-    k : PlanKept p
-    k = readable-kept file p r
-
-    o : LaidOut p l
-    o = laid-out p l e
-
-    in-order : (i j : ℕ) → j < length (frames p) → (i ≡ j) ⊎ (i < j) → getD (frames p) i noFrame .deadline ≤ getD (frames p) j noFrame .deadline
-    in-order i j w (inl q) = rw q (le-refl _)
-    in-order i j w (inr q) =
-        before-case (getD (frames p) i noFrame) (getD (frames p) j noFrame) (frames-in-order (plan-frames p) noFrame i j q w) (λ d. omega arith) (λ d t. omega arith)
+use Rattle.line.specs.Line.{taskTime}
+use Rattle.line.proofs.Drawn.{Drawn, frameOf, controlOf, frame-drawn, frames-drawn, controls-drawn, time-drawn}
 
 -- ---- the rule over the arrays is the rule over the layout
 
@@ -118,27 +83,27 @@ module _ (resolution gap floor : ℕ) (s s′ : Frame → ℕ) (same : (f : Fram
       go true e = e
       go false e = refl
 
-module _ (l : Layout) (h : Lined l) where
-  frame-at : (k : ℕ) → k < length (l .frames)
-      → frameAt (line.lineOf l .task) (line.lineOf l .release) (line.lineOf l .deadline) k ≡ getD (l .frames) k noFrame
-  unfolding frameAt line.lineOf
-  frame-at k w =
-      let f : length (l .frames) ≤ 256 = h .few in
-      rw (getD-laid taskOf (l .frames) noFrame 256 k refl (omega arith), getD-laid releaseOf (l .frames) noFrame 256 k refl (omega arith), getD-laid deadlineOf (l .frames) noFrame 256 k refl (omega arith))
-
+module _ (l : Layout) (d : Drawn l) where
   pub frames-are : tab (frameAt (line.lineOf l .task) (line.lineOf l .release) (line.lineOf l .deadline)) 0 (line.lineOf l .frames) ≡ l .frames
-  unfolding line.lineOf
-  frames-are = tab-list _ (l .frames) noFrame (length (l .frames)) refl frame-at
+  unfolding line.lineOf frameAt frameOf
+  frames-are = frames-drawn l d
 
   pub time-is : (f : Frame) → f .task < 32 → timeOf (line.lineOf l .time) f ≡ frameTime l f
-  unfolding timeOf line.lineOf frameTime payload taskTime
-  time-is f w = getD-tab (taskTime (l .plan)) 0 32 (f .task) 0 w ∙ rw zero-add
+  unfolding timeOf frameTime payload taskTime
+  time-is f w = time-drawn l d f w
 
   pub deadlines-rise : (i j : ℕ) → i ≤ j → j < line.lineOf l .frames → getD (line.lineOf l .deadline) i 0 ≤ getD (line.lineOf l .deadline) j 0
-  unfolding line.lineOf
-  deadlines-rise i j w v =
-      let f : length (l .frames) ≤ 256 = h .few in
-      rw (getD-laid deadlineOf (l .frames) noFrame 256 i refl (omega arith), getD-laid deadlineOf (l .frames) noFrame 256 j refl (omega arith)) (h .rising i j w v)
+  unfolding line.lineOf frameOf
+  deadlines-rise i j h w = in-order (eq-or-lt-of-le h)
+    where
+      at : (k : ℕ) → k < length (l .frames) → getD (line.lineOf l .deadline) k 0 ≡ getD (l .frames) k noFrame .deadline
+      at k v = ap (λ (f : Frame). f .deadline) (frame-drawn l d k v)
+
+      in-order : (i ≡ j) ⊎ (i < j) → getD (line.lineOf l .deadline) i 0 ≤ getD (line.lineOf l .deadline) j 0
+      in-order (inl q) = rw q (le-refl _)
+      in-order (inr q) =
+          rw (at i (omega arith), at j w)
+          (before-case (getD (l .frames) i noFrame) (getD (l .frames) j noFrame) (pairs-getD noFrame (d .sorted) i j q w) (λ e. omega arith) (λ e t. omega arith))
 
   numbered-all : {P : Frame → Type 0} (k : ℕ) {fs : List Frame} → All P fs → All (λ x. P (x .frame)) (numberedFrom k fs)
   unfolding numberedFrom
@@ -153,11 +118,8 @@ module _ (l : Layout) (h : Lined l) where
   rule-is =
       ap (λ (fs : List Frame). place (l .plan .bus .resolution) (gapTime (l .plan .bus)) (l .afterControl) (timeOf (line.lineOf l .time)) (length (l .frames)) (l .period) (numberedFrom 0 fs) []) frames-are
       ∙ place-same (l .plan .bus .resolution) (gapTime (l .plan .bus)) (l .afterControl) (timeOf (line.lineOf l .time)) (frameTime l) time-is
-      (length (l .frames)) (l .period) (numberedFrom 0 (l .frames)) [] (numbered-all 0 (h .tasks))
+      (length (l .frames)) (l .period) (numberedFrom 0 (l .frames)) [] (numbered-all 0 (d .tasks))
 
   pub controls-are : tab (controlIn (line.lineOf l .nodes) (line.lineOf l .starts) (line.lineOf l .stops)) 0 (line.lineOf l .controls) ≡ l .control
-  unfolding line.lineOf controlIn
-  controls-are =
-      tab-list _ (l .control) noControlRow (length (l .control)) refl λ k w.
-      let f : length (l .control) ≤ 8 = h .controls in
-      rw (getD-laid nodeOf (l .control) noControlRow 8 k refl (omega arith), getD-laid line.startOf (l .control) noControlRow 8 k refl (omega arith), getD-laid stopOf (l .control) noControlRow 8 k refl (omega arith))
+  unfolding line.lineOf controlIn controlOf
+  controls-are = controls-drawn l d
