@@ -177,21 +177,20 @@ typedef struct olbiothar_row {
     uint32_t stop;
 } olbiothar_row;
 
-/* A tick: the answer, the row that starts at it, and the station beside them. */
+/* A tick: the answer, and the row that starts at it. */
 typedef struct olbiothar_ticked {
     olbiothar_answer answer;
     olbiothar_row row;
-    olbiothar_station station;
 } olbiothar_ticked;
 
-/* Plays one tick. The task t is given the result `results[t]` if `given[t]` is not 0; the module m changes to mode `modes[m]` if
- * `changed[m]` is not 0.
+/* Plays one tick, in place. The task t is given the result `results[t]` if `given[t]` is not 0; the module m changes to mode
+ * `modes[m]` if `changed[m]` is not 0. None of the four may lie within the station.
  *
- * number 0: the tick is accepted; `station` is the station after it.
+ * number 0: the tick is accepted; `*station` is the station after it.
  * number 40 at 0: the station has not begun, or holds a number outside its range. number 41 to 44: a result or a change that is not
- *   allowed. `station` is then the station that was given: the same tick may be tried again with other results and changes.
+ *   allowed. `*station` is then as it stood: the same tick may be tried again with other results and changes.
  */
-olbiothar_ticked olbiothar_tick(olbiothar_station station, const uint64_t results[OLBIOTHAR_TASKS],
+olbiothar_ticked olbiothar_tick(olbiothar_station *station, const uint64_t results[OLBIOTHAR_TASKS],
                                 const uint8_t given[OLBIOTHAR_TASKS], const uint8_t modes[OLBIOTHAR_MODULES],
                                 const uint8_t changed[OLBIOTHAR_MODULES]);
 

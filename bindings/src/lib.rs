@@ -103,9 +103,8 @@ impl Station {
     pub fn tick(&mut self, results: &Results, changes: &Modes) -> Result<Option<Row>, Refusal> {
         let (values, given) = split(results);
         let (modes, changed) = split(changes);
-        let ticked = raw::olbiothar_tick(self.0, &values, &given, &modes, &changed);
+        let ticked = raw::olbiothar_tick(&mut self.0, &values, &given, &modes, &changed);
         Refusal::of(ticked.answer)?;
-        self.0 = ticked.station;
         let raw::Row { kind, sender, deadline, start, stop } = ticked.row;
         Ok(match kind {
             17 => Some(Row::Control { node: sender, start, stop }),

@@ -103,7 +103,6 @@ pub struct Row {
 pub struct Ticked {
     pub answer: Answer,
     pub row: Row,
-    pub station: Station,
 }
 
 unsafe extern "C" {
@@ -135,7 +134,7 @@ unsafe extern "C" {
     ) -> Begun;
 
     pub safe fn olbiothar_tick(
-        station: Station,
+        station: &mut Station,
         results: &[u64; TASKS],
         given: &[u8; TASKS],
         modes: &[u8; MODULES],

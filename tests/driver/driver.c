@@ -175,8 +175,7 @@ static void tick(void) {
     take(given, sizeof given);
     take(modes, sizeof modes);
     take(changed, sizeof changed);
-    olbiothar_ticked ticked = olbiothar_tick(station, results, given, modes, changed);
-    station = ticked.station;
+    olbiothar_ticked ticked = olbiothar_tick(&station, results, given, modes, changed);
     give_answer(ticked.answer);
     give(&ticked.row.kind, 1);
     give(&ticked.row.sender, 1);

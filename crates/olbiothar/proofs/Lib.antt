@@ -1,3 +1,4 @@
 pub mod Inputs
 pub mod Ticking
 pub mod Beginning
+pub mod Stored

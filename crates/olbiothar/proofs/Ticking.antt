@@ -6,27 +6,24 @@ use Prim.Native.Nat.{ℕ}
 use Rattle.laws.specs.Res.{Res, ok, refuse}
 use Rattle.laws.proofs.Res.{refuse≢ok, ok-injective, refuse-number, refuse-place}
 use Rattle.rules.specs.Station as rules
-use Rattle.answers.specs.declared.Refusal.{Refusal}
-use Rattle.answers.specs.Refusals.{numberOf, placeOf}
 use Rattle.station.specs.declared.Said.{Said}
 use Rattle.station.specs.declared.Said.the-variants.{Control, Data, Quiet, Refused}
 use Rattle.station.specs.declared.Station.{Station}
 use Rattle.station.specs.declared.Ticked as station
 use Rattle.station.specs.Answers as said
 use Rattle.station.specs.Answers.{Answers, outcome, isRefused}
-use Rattle.station.specs.Memory.{keptOf, stateOf}
 use Rattle.rules.specs.StationRange.{ticked}
+use Rattle.station.specs.Memory.{keptOf, stateOf}
+use Rattle.station.specs.Turns.{Turns}
+use Rattle.station.specs.declared.Turn.{Turn}
 use Rattle.stationjudge.specs.declared.Given.{Given}
 use Rattle.stationjudge.specs.declared.Change.{Change}
 use Rattle.stationjudge.specs.Inputs.{inputOf}
 use Rattle.olbiothar.specs.declared.Answer.{Answer}
+use Rattle.olbiothar.specs.declared.playing.Row.{Row}
 use Rattle.olbiothar.specs.declared.playing.Ticked.{Ticked}
 use Rattle.olbiothar.specs.Answers.{answerOf}
-use Rattle.olbiothar.specs.Playing.{answerSaid, rowSaid, rowFor, rowStarted, tickedBy}
-
--- a tick's answer, in C's numbers
-abbrev pub tickedOf : station.Ticked → Ticked
-tickedOf t = record { answer = answerSaid (t .said); row = rowSaid (t .said); station = t .station }
+use Rattle.olbiothar.specs.Playing.{TurnsFor, answerSaid, rowSaid, rowFor, rowStarted, stationAfter, tickedBy, tickedSaid}
 
 row-started : (w : rules.Started) → rowSaid (said.rowSaid w) ≡ rowStarted w
 row-started (rules.control w) = refl
@@ -67,17 +64,31 @@ module _ (t : station.Ticked) (n p : ℕ) where
   refused-is Quiet e = refuse≢ok (sym e)
   refused-is (Refused x) e = refl
 
-pub ticked-is : (st : Station) (rule : Res rules.Ticked) (t : station.Ticked) → Answers st rule t → tickedOf t ≡ tickedBy st rule
-ticked-is st (ok x) t h = ap tickedOf (accepted (t .said) t _ (h .says)) ∙ rw (row-started (x .row), answer-started (x .row))
-ticked-is st (refuse n p) t h =
-    rw (refused-answer t n p (t .said) (h .says), refused-row t n p (t .said) (h .says), h .unchanged (refused-is t n p (t .said) (h .says)))
+answer-is : (st : Station) (rule : Res rules.Ticked) (t : station.Ticked) → Answers st rule t → tickedSaid (t .said) ≡ tickedBy rule
+answer-is st (ok x) t h =
+    ap (λ (r : station.Ticked). tickedSaid (r .said)) (accepted (t .said) t _ (h .says)) ∙ rw (row-started (x .row), answer-started (x .row))
+answer-is st (refuse n p) t h = rw (refused-answer t n p (t .said) (h .says), refused-row t n p (t .said) (h .says))
 
--- what it was given, and the parts of its answer, computed one by one
-pub ticked-from : (st : Station) {g g′ : List Given} {m m′ : List Change} (t : station.Ticked) (r : Ticked) → g ≡ g′ → m ≡ m′
-    → Answers st (ticked (keptOf st) (stateOf st) (inputOf g m)) t → r .answer ≡ answerSaid (t .said) → r .row ≡ rowSaid (t .said) → r .station ≡ t .station
-    → r ≡ tickedBy st (ticked (keptOf st) (stateOf st) (inputOf g′ m′))
-ticked-from st t r eg em h a b c =
-    parts a b c ∙ ticked-is st _ t h ∙ rw (eg, em)
+station-is : (st : Station) (rule : Res rules.Ticked) (t : station.Ticked) → Answers st rule t → t .station ≡ stationAfter st rule
+station-is st (ok x) t h = ap (λ (r : station.Ticked). r .station) (accepted (t .said) t _ (h .says))
+station-is st (refuse n p) t h = h .unchanged (refused-is t n p (t .said) (h .says))
+
+-- ---- the parts of an answer, computed one by one
+
+pub turns-for : {st : Station} {g g′ : List Given} {m m′ : List Change} {w : Said} {t : Turn} {a : Answer} {b : Row} → g ≡ g′ → m ≡ m′
+    → Turns st g m w t → a ≡ answerSaid w → b ≡ rowSaid w
+    → TurnsFor st (ticked (keptOf st) (stateOf st) (inputOf g′ m′)) (record { ticked = record { answer = a; row = b }; turn = t })
+turns-for {st} {g} {g′} {m} {m′} {w} {t} {a} {b} eg em turns ea eb =
+    record {
+      idle = λ i. (made ∙ answer-is st _ _ (turns .idle i) ∙ given, station-is st _ _ (turns .idle i) ∙ after);
+      moves = λ i. (made ∙ answer-is st _ _ (turns .moves i) ∙ given, station-is st _ _ (turns .moves i) ∙ after);
+    }
   where
-    parts : r .answer ≡ answerSaid (t .said) → r .row ≡ rowSaid (t .said) → r .station ≡ t .station → r ≡ tickedOf t
-    parts a b c = rw (← a, ← b, ← c)
+    made : _≡_ {A = Ticked} (record { answer = a; row = b }) (tickedSaid w)
+    made = rw (ea, eb)
+
+    given : tickedBy (ticked (keptOf st) (stateOf st) (inputOf g m)) ≡ tickedBy (ticked (keptOf st) (stateOf st) (inputOf g′ m′))
+    given = rw (eg, em)
+
+    after : stationAfter st (ticked (keptOf st) (stateOf st) (inputOf g m)) ≡ stationAfter st (ticked (keptOf st) (stateOf st) (inputOf g′ m′))
+    after = rw (eg, em)

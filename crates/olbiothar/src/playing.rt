@@ -1,19 +1,31 @@
-// The played station for C: it is passed and returned by value.
+// The played station for C: a tick changes it in place. The prover's walk covers no function over a reference to a struct, so
+// `olbiothar_tick` is thin: covered functions do all the work, and it stores what they give.
 ghost use mathlib.Core.Path.{_≡_};
+ghost use mathlib.Core.List.{List};
 ghost use Rattle.rules.specs.Station.{begin};
 ghost use Rattle.rules.specs.StationRange.{ticked};
 ghost use Rattle.stationjudge.specs.Inputs.{changeAt, inputOf};
 ghost use Rattle.station.specs.Memory.{keptOf, stateOf};
+ghost use Rattle.station.specs.Turns.{Valued, stationBy};
+ghost use Rattle.stationsteps.specs.declared.nodes.Node.{Node};
 ghost use Rattle.beginning.specs.Begins.{heard};
-ghost use Rattle.olbiothar.specs.Playing.{answerSaid, begunBy, changeFor, changesFor, givenFor, givensFor, rowFor, rowSaid, tickedBy};
+ghost use Rattle.olbiothar.specs.Playing.{answerSaid, begunBy, changeFor, changesFor, givenFor, givensFor, TurnsFor, rowFor, rowSaid, stationAfter, tickedBy};
 ghost use Rattle.olbiothar.specs.Answers.{answerOf};
 use crate::Answer;
 use crate::refused;
+use station::Controls;
+use station::Modes;
+use station::Modules;
+use station::Play;
 use station::Said;
 use station::Station;
+use station::Tasks;
+use station::Turn;
+use station::nodes_turned;
 use stationjudge::Change;
 use stationjudge::Given;
 use units::ModeNo;
+use units::Ticks;
 
 // A beginning: the answer, and the station beside it.
 #[repr(C)]
@@ -36,7 +48,6 @@ pub struct Row {
 pub struct Ticked {
     pub answer: Answer,
     pub row: Row,
-    pub station: Station,
 }
 
 fn given_for(given: u8, result: u64) -> Given
@@ -167,23 +178,99 @@ pub extern "C" fn olbiothar_begin(
     }
 }
 
-// One tick. A task's result counts where `given` is not 0, a module's change of mode where `changed` is not 0.
+// What a tick answers, and what it makes of all but the nodes.
+pub struct Answered {
+    pub ticked: Ticked,
+    pub turn: Turn,
+}
+
+// A tick but for the nodes, in the numbers that C has. The station may hold any nodes.
+fn turn_for<'a>(
+    modules: Modules,
+    running: Modes,
+    tasks: Tasks,
+    controls: Controls,
+    datas: u16,
+    period: Ticks,
+    play: Play,
+    runs: &'a [u32; 1024],
+    carries: &'a [u8; 256],
+    deadlines: &'a [u32; 256],
+    starts: &'a [u32; 256],
+    stops: &'a [u32; 256],
+    results: &[u64; 32],
+    given: &[u8; 32],
+    modes: &[u8; 16],
+    changed: &[u8; 16],
+) -> Answered
+    ensures { λ r. ⌜ ((nodes : List Node) → Valued nodes → TurnsFor (stationBy modules running tasks controls datas period (now (runs .entry)) (now (carries .entry)) (now (deadlines .entry)) (now (starts .entry)) (now (stops .entry)) play nodes) (ticked (keptOf (stationBy modules running tasks controls datas period (now (runs .entry)) (now (carries .entry)) (now (deadlines .entry)) (now (starts .entry)) (now (stops .entry)) play nodes)) (stateOf (stationBy modules running tasks controls datas period (now (runs .entry)) (now (carries .entry)) (now (deadlines .entry)) (now (starts .entry)) (now (stops .entry)) play nodes)) (inputOf (givensFor (now (results .entry)) (now (given .entry))) (changesFor (now (modes .entry)) (now (changed .entry))))) r) ⌝ }
+{
+    let turned = station::turned_by(
+        givens_for(results, given),
+        changes_for(modes, changed),
+        modules,
+        running,
+        tasks,
+        controls,
+        datas,
+        period,
+        play,
+        runs,
+        carries,
+        deadlines,
+        starts,
+        stops,
+    );
+    let said = turned.said;
+    let turn = turned.turn;
+    Answered {
+        ticked: Ticked {
+            answer: answer_said(said),
+            row: row_said(said),
+        },
+        turn,
+    }
+}
+
+// One tick, in place; a refused one leaves the station as it stood. A task's result counts where `given` is not 0, a module's change of
+// mode where `changed` is not 0.
 #[no_mangle]
 pub extern "C" fn olbiothar_tick(
-    station: Station,
+    station: &mut Station,
     results: &[u64; 32],
     given: &[u8; 32],
     modes: &[u8; 16],
     changed: &[u8; 16],
 ) -> Ticked
-    ensures { λ r. ⌜ r ≡ tickedBy station (ticked (keptOf station) (stateOf station) (inputOf (givensFor (now (results .entry)) (now (given .entry))) (changesFor (now (modes .entry)) (now (changed .entry))))) ⌝ }
+    ensures { λ r. ⌜ (r ≡ tickedBy (ticked (keptOf (now (station .entry))) (stateOf (now (station .entry))) (inputOf (givensFor (now (results .entry)) (now (given .entry))) (changesFor (now (modes .entry)) (now (changed .entry)))))) × (now (station .exit) ≡ stationAfter (now (station .entry)) (ticked (keptOf (now (station .entry))) (stateOf (now (station .entry))) (inputOf (givensFor (now (results .entry)) (now (given .entry))) (changesFor (now (modes .entry)) (now (changed .entry)))))) ⌝ }
 {
-    let t = station.tick(givens_for(results, given), changes_for(modes, changed));
-    let said = t.said;
-    let after = t.station;
-    Ticked {
-        answer: answer_said(said),
-        row: row_said(said),
-        station: after,
+    let t = turn_for(
+        station.modules,
+        station.modes,
+        station.tasks,
+        station.controls,
+        station.datas,
+        station.period,
+        station.play,
+        &station.runs,
+        &station.carries,
+        &station.deadlines,
+        &station.starts,
+        &station.stops,
+        results,
+        given,
+        modes,
+        changed,
+    );
+    station.play = t.turn.play;
+    if t.turn.idle {} else {
+        station.nodes = nodes_turned(
+            station.nodes,
+            station.modules,
+            station.tasks,
+            t.turn,
+            &station.runs,
+        );
     }
+    t.ticked
 }

@@ -6,3 +6,5 @@ pub mod Ticking
 pub mod Unique
 pub mod Sized
 pub mod Plays
+pub mod Values
+pub mod Lent

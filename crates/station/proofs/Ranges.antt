@@ -1,12 +1,13 @@
 -- Refusals 40 to 44: the tests on the station's arrays are the rules' own.
 -- Assumes nothing.
 use mathlib.Core.Path.{_≡_, refl, ap, _∙_}
-use mathlib.Core.List.{List}
+use mathlib.Core.List.{List, [], _∷_}
 use mathlib.Core.Option.{Option, none, some}
-use mathlib.Core.Bool.{Bool}
+use mathlib.Core.Bool.{Bool, true}
 use lib.ListN.{getD}
 use Prim.Native.Nat.{ℕ}
-use Rattle.laws.specs.Lists.{upTo}
+use Rattle.laws.specs.Lists.{all, upTo}
+use Rattle.laws.proofs.Lists.{all-each}
 use Rattle.laws.specs.Res.{_>>_, at}
 use Rattle.laws.proofs.Res.{then-assoc}
 use Rattle.laws.proofs.Turns.{firstBad-same}
@@ -51,7 +52,8 @@ use Rattle.stationjudge.specs.Judging.{awaitedTest, fitsTest, inTimeTest, allow
 use Rattle.stationjudge.specs.declared.Given.{Given}
 use Rattle.stationjudge.specs.declared.Change.{Change}
 use Rattle.station.specs.Memory.{keptBy, keptOf, stateBy, stateOf}
-use Rattle.station.specs.Parts.{keptTest, nodesTest, stateTest, judgedBy}
+use Rattle.station.specs.Parts.{keptTest, heldTest, stateTest, judgedBy}
+use Rattle.station.specs.Turns.{Valued}
 use Rattle.station.specs.declared.Station.{Station}
 
 -- the refusals one after the other, whichever two are taken together
@@ -68,9 +70,24 @@ module _ (st : Station) where
   unfolding keptTest keptInRange keptOf keptBy mostTime countsInRange moduleInRange modeInRange taskInRange runInRange runsInRange controlInRange dataInRange runsTest mostFrames
   kept-range = refl
 
-  pub state-range : stateTest (st .modules) (st .modes) (st .period) (st .play) (st .nodes) ≡ stateInRange (keptOf st) (stateOf st)
-  unfolding stateTest stateInRange keptOf keptBy stateOf stateBy playInRange boxInRange placeInRange byteInRange nodeInRange nodesTest
-  state-range = refl
+  -- a node whose places are in range is in range by the mode bytes that it holds
+  module _ (valued : Valued (st .nodes)) where
+    places-range : (n : ℕ) → all (placeInRange (stateOf st) n) (upTo 32) ≡ true
+    unfolding stateOf stateBy placeInRange
+    places-range n = all-each (placeInRange (stateOf st) n) (upTo 32) 0 (λ i w. valued n (getD (upTo 32) i 0))
+
+    node-range : (n : ℕ) → heldTest (st .play .held) (st .modes .count) n ≡ nodeInRange (keptOf st) (stateOf st) n
+    unfolding nodeInRange byteInRange keptOf keptBy stateOf stateBy
+    node-range n = rw (places-range n)
+
+    nodes-range : (l : List ℕ)
+        → all (heldTest (st .play .held) (st .modes .count)) l ≡ all (nodeInRange (keptOf st) (stateOf st)) l
+    nodes-range [] = refl
+    nodes-range (n ∷ l) = rw (node-range n, nodes-range l)
+
+    pub state-range : stateTest (st .modules) (st .modes) (st .period) (st .play) ≡ stateInRange (keptOf st) (stateOf st)
+    unfolding stateTest stateInRange keptOf keptBy stateOf stateBy playInRange boxInRange
+    state-range = rw (nodes-range (upTo 8))
 
   module _ (results : List Given) (changes : List Change) where
     abbrev awaited : ℕ → Bool

@@ -1,4 +1,4 @@
--- The two ways of a tick over plain variables: what the parts of a tick give makes up the rules' answer.
+-- The two ways of a turn over plain variables: what the parts of a tick give makes up the rules' answer.
 -- Assumes nothing.
 use mathlib.Core.Path.{_≡_, refl, sym, ap, _∙_}
 use mathlib.Core.Bool.{Bool, true, false, not, _&&_}
@@ -42,34 +42,17 @@ use Rattle.stationsteps.specs.declared.nodes.Landing.the-variants.{Nothing, Val
 use Rattle.station.specs.Memory.{keptBy, keptOf, stateBy, stateOf, playLaid, nodeLaid, laid}
 use Rattle.station.specs.Parts.{Reads, refusedBy, movedBy, landingBy, nodesBy}
 use Rattle.station.specs.Answers.{Answers, outcome, isRefused, rowSaid}
+use Rattle.station.specs.Turns.{Turns, Valued, moved}
 use Rattle.station.specs.declared.Moved.{Moved}
 use Rattle.station.specs.declared.Play.{Play}
 use Rattle.station.specs.declared.Said.{Said}
 use Rattle.station.specs.declared.Said.the-variants.{Refused}
 use Rattle.station.specs.declared.Station.{Station}
 use Rattle.station.specs.declared.Ticked.{Ticked}
+use Rattle.station.specs.declared.Turn.{Turn}
 use Rattle.station.proofs.Ranges.{kept-range, state-range, judged-same}
 use Rattle.station.proofs.Steps.{said-same, play-same}
 use Rattle.station.proofs.Nodes.{nodes-same, nodes-stay}
-
--- a station with what a tick changes
-abbrev pub moved : Station → Play → List Node → Station
-moved st play nodes =
-    record {
-      modules = st .modules;
-      modes = st .modes;
-      tasks = st .tasks;
-      controls = st .controls;
-      period = st .period;
-      datas = st .datas;
-      runs = st .runs;
-      carries = st .carries;
-      deadlines = st .deadlines;
-      starts = st .starts;
-      stops = st .stops;
-      play = play;
-      nodes = nodes;
-    }
 
 -- a row that starts is an accepted answer
 row-outcome : (w : rules.Started) (r : Ticked) → outcome (rowSaid w) r ≡ ok r
@@ -86,7 +69,7 @@ no-landing : (l : Landing) → isLanding l ≡ false → l ≡ Nothing
 no-landing Nothing e = refl
 no-landing (Value task sender v) e = true-false e
 
-module _ (st : Station) (results : List Given) (changes : List Change) where
+module _ (st : Station) (results : List Given) (changes : List Change) (valued : Valued (st .nodes)) where
   abbrev k : Kept
   k = keptOf st
 
@@ -98,20 +81,37 @@ module _ (st : Station) (results : List Given) (changes : List Change) where
 
   abbrev refusal : Res (Unit {0})
   refusal =
-      refusedBy results changes (st .modules) (st .modes) (st .tasks) (st .controls) (st .datas) (st .period) (st .play) (st .nodes)
+      refusedBy results changes (st .modules) (st .modes) (st .tasks) (st .controls) (st .datas) (st .period) (st .play)
       (st .runs) (st .carries) (st .deadlines) (st .starts) (st .stops)
 
   -- 40 to 44
   refusal-same : refusal ≡ _>>_ (unless 40 0 (inRange k s)) (judgedTick k s i)
   unfolding refusedBy inRange
-  refusal-same = rw (kept-range st, state-range st, judged-same st results changes)
+  refusal-same = rw (kept-range st, state-range st valued, judged-same st results changes)
 
   ticked-same : ticked k s i ≡ _>>_ refusal (ok (record { row = started k s; state = tick k s i }))
   unfolding ticked step
   ticked-same = rw refusal-same (sym (then-assoc (unless 40 0 (inRange k s)) (judgedTick k s i) (ok (record { row = started k s; state = tick k s i }))))
 
-  pub refused-way : (x : Refusal) → said x ≡ refusal → Answers st (ticked k s i) (record { said = Refused x; station = st })
-  refused-way x e = record { says = rw (ticked-same, ← e); unchanged = λ q. refl }
+  -- ---- a refused tick
+
+  module _ (x : Refusal) (refused : said x ≡ refusal) where
+    abbrev refusing : List Bool → Turn
+    refusing ends =
+        record {
+          play = st .play;
+          idle = true;
+          clock = st .play .clock;
+          landing = Nothing;
+          ends = ends;
+        }
+
+    pub refused-way : (ends : List Bool) → Turns st results changes (Refused x) (refusing ends)
+    refused-way ends =
+        record {
+          idle = λ i. record { says = rw (ticked-same, ← refused); unchanged = λ q. refl };
+          moves = λ i. true-false i;
+        }
 
   -- ---- an accepted tick
 
@@ -154,21 +154,40 @@ module _ (st : Station) (results : List Given) (changes : List Change) where
       play-is = ap (λ n. n .play) moving ∙ play-same st results changes ends ends-at
 
       -- nothing lands and no run ends: the nodes stay
-      pub idle-way : {self : Station} {b : Bool} → b ≡ (not (isLanding l) && all (quietAt ends) (upTo 32)) → b ≡ true → self ≡ st
-          → Answers st (ticked k s i) (record { said = next .said; station = moved self (next .play) (self .nodes) })
-      idle-way e t q =
-          let idle : (not (isLanding l) && all (quietAt ends) (upTo 32)) ≡ true = sym e ∙ t in
+      idle-way : (not (isLanding l) && all (quietAt ends) (upTo 32)) ≡ true
+          → Answers st (ticked k s i) (record { said = next .said; station = moved st (next .play) (st .nodes) })
+      idle-way idle =
           let still = no-landing l (not-true _ (both-left _ _ idle)) in
           let quiet = both-right (not (isLanding l)) _ idle in
-          rw q
-          (accepted said-is play-is
+          accepted said-is play-is
           (nodes-stay st results changes (sym landing ∙ still)
-          (λ t w. sym (ends-at t w) ∙ not-true _ (all-upTo-true (quietAt ends) 32 t quiet w))))
+          (λ t w. sym (ends-at t w) ∙ not-true _ (all-upTo-true (quietAt ends) 32 t quiet w)))
 
-      pub moved-way : {self : Station} {nodes : List Node} → Reads results (st .modules) (st .controls) (st .play) (next .play)
-          → nodes ≡ nodesBy (st .modules) (st .tasks) (next .play) (st .play .clock .0) l ends (st .runs) (st .nodes)
-          → self ≡ moved st (st .play) nodes
-          → Answers st (ticked k s i) (record { said = next .said; station = moved self (next .play) (self .nodes) })
-      moved-way reads e q =
-          rw (q, e, landing)
-          (accepted said-is play-is (nodes-same st results changes (next .play) ends reads ends-at within))
+      moved-way : Reads results (st .modules) (st .controls) (st .play) (next .play)
+          → Answers st (ticked k s i)
+          (record {
+            said = next .said;
+            station = moved st (next .play) (nodesBy (st .modules) (st .tasks) (next .play) (st .play .clock .0) l ends (st .runs) (st .nodes));
+          })
+      moved-way reads = rw landing (accepted said-is play-is (nodes-same st results changes (next .play) ends reads ends-at within))
+
+      pub accepted-way : {b : Bool} → b ≡ (not (isLanding l) && all (quietAt ends) (upTo 32))
+          → Reads results (st .modules) (st .controls) (st .play) (next .play)
+          → Turns st results changes (next .said)
+          (record { play = next .play; idle = b; clock = st .play .clock; landing = l; ends = ends })
+      accepted-way e reads = record { idle = λ t. idle-way (sym e ∙ t); moves = λ t. moved-way reads }
+
+-- ---- the turn, and the nodes after it
+
+module _ {st self : Station} {results : List Given} {changes : List Change} {sd : Said} {t : Turn} (turn : Turns st results changes sd t) where
+  pub idle-turn : t .idle ≡ true → self ≡ st
+      → Answers st (ticked (keptOf st) (stateOf st) (inputOf results changes))
+      (record { said = sd; station = moved self (t .play) (self .nodes) })
+  idle-turn i q = rw q (turn .idle i)
+
+  pub moving-turn : {nodes : List Node} → t .idle ≡ false
+      → nodes ≡ nodesBy (st .modules) (st .tasks) (t .play) (t .clock .0) (t .landing) (t .ends) (st .runs) (st .nodes)
+      → self ≡ moved st (st .play) nodes
+      → Answers st (ticked (keptOf st) (stateOf st) (inputOf results changes))
+      (record { said = sd; station = moved self (t .play) (self .nodes) })
+  moving-turn i e q = rw (q, e) (turn .moves i)

@@ -1,3 +1,4 @@
 pub mod Memory
 pub mod Parts
 pub mod Answers
+pub mod Turns

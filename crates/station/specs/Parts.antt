@@ -11,12 +11,12 @@ use Rattle.laws.specs.Loops.{stores}
 use Rattle.laws.specs.Res.{Res, _>>_, unless}
 use Rattle.rules.specs.Station.{oneOn, rowWith}
 use Rattle.rules.specs.StationRange.{isValue}
-use Rattle.stationrange.specs.Ranges.{countsTest, moduleTest, modeTest, taskTest, runsTest, controlTest, dataTest, playTest, boxTest, placeTest, byteTest}
+use Rattle.stationrange.specs.Ranges.{countsTest, moduleTest, modeTest, taskTest, runsTest, controlTest, dataTest, playTest, boxTest, byteTest}
 use Rattle.stationjudge.specs.Judging.{resultsJudged, changesJudged}
 use Rattle.stationjudge.specs.declared.Given.{Given}
 use Rattle.stationjudge.specs.declared.Change.{Change}
 use Rattle.stationsteps.specs.Steps.{numberAt, outRule, heldRule, modeRule, ageRule, givenRule, modeByteRule, fullRule, loadRule}
-use Rattle.stationsteps.specs.Nodes.{noNode, landingOf, nodeRule}
+use Rattle.stationsteps.specs.Nodes.{landingOf, nodeRule}
 use Rattle.stationsteps.specs.declared.nodes.Node.{Node}
 use Rattle.stationsteps.specs.declared.nodes.Landing.{Landing}
 use Rattle.units.specs.declared.Ticks.{Ticks}
@@ -42,18 +42,15 @@ keptTest modules modes tasks controls datas period runs carries deadlines starts
     && (all (controlTest (period .0) (controls .nodes) (controls .starts) (controls .stops)) (upTo 8)
     && all (dataTest (tasks .count) (period .0) carries deadlines starts stops) (upTo 256)))
 
--- 40: the state
-abbrev pub nodeTest : List ℕ → ℕ → Node → ℕ → Bool
-nodeTest held modes node n = all (placeTest (node .landed) (node .shown)) (upTo 32) && all (byteTest held modes n) (upTo 16)
+-- 40: the state, but for the places of the nodes
+abbrev pub heldTest : List ℕ → ℕ → ℕ → Bool
+heldTest held modes n = all (byteTest held modes n) (upTo 16)
 
-unfoldable pub nodesTest : List ℕ → ℕ → List Node → ℕ → Bool
-nodesTest held modes nodes n = nodeTest held modes (getD nodes n noNode) n
-
-unfoldable pub stateTest : Modules → Modes → Ticks → Play → List Node → Bool
-stateTest modules modes period play nodes =
+unfoldable pub stateTest : Modules → Modes → Ticks → Play → Bool
+stateTest modules modes period play =
     (leb (play .clock .0) (period .0) && isValue (play .load))
     && (all (playTest (modules .count) (modes .count) (modes .homes) (modes .periods) (play .running) (play .ages) (play .bytes)) (upTo 16)
-    && (all (boxTest (play .out)) (upTo 32) && all (nodesTest (play .held) (modes .count) nodes) (upTo 8)))
+    && (all (boxTest (play .out)) (upTo 32) && all (heldTest (play .held) (modes .count)) (upTo 8)))
 
 -- 41 to 44
 unfoldable pub judgedBy : List Given → List Change → Modules → Modes → Tasks → Play → List ℕ → Res (Unit {0})
@@ -63,12 +60,12 @@ judgedBy results changes modules modes tasks play runs =
     changes (modules .count) (modes .count) (modes .homes) (modes .switches) (play .running) (play .ages)
 
 -- 40 to 44
-unfoldable pub refusedBy : List Given → List Change → Modules → Modes → Tasks → Controls → ℕ → Ticks → Play → List Node → List ℕ
-    → List ℕ → List ℕ → List ℕ → List ℕ → Res (Unit {0})
-refusedBy results changes modules modes tasks controls datas period play nodes runs carries deadlines starts stops = do
+unfoldable pub refusedBy : List Given → List Change → Modules → Modes → Tasks → Controls → ℕ → Ticks → Play → List ℕ → List ℕ
+    → List ℕ → List ℕ → List ℕ → Res (Unit {0})
+refusedBy results changes modules modes tasks controls datas period play runs carries deadlines starts stops = do
   unless 40 0
       (keptTest modules modes tasks controls datas period runs carries deadlines starts stops
-      && stateTest modules modes period play nodes)
+      && stateTest modules modes period play)
   judgedBy results changes modules modes tasks play runs
 
 -- the row that starts

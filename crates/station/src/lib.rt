@@ -3,11 +3,14 @@ ghost use mathlib.Core.Path.{_≡_};
 ghost use Prim.Native.Nat.{_<_};
 ghost use Rattle.laws.specs.Lists.{all, upTo};
 ghost use Rattle.rules.specs.StationRange.{ticked};
+ghost use mathlib.Core.List.{List};
+ghost use Rattle.stationsteps.specs.declared.nodes.Node.{Node as AnyNode};
 ghost use Rattle.stationjudge.specs.Inputs.{foundOf, inputOf};
 ghost use Rattle.stationjudge.specs.Judging.{judgedOf};
 ghost use Rattle.station.specs.Memory.{keptOf, notBegun, stateOf};
-ghost use Rattle.station.specs.Parts.{Reads, controlAt, dataAt, judgedBy, keptTest, landingBy, movedBy, nodeTest, nodesBy, nodesTest, playBy, refusedBy, saidBy, stateTest};
+ghost use Rattle.station.specs.Parts.{Reads, controlAt, dataAt, judgedBy, keptTest, landingBy, heldTest, movedBy, nodesBy, playBy, refusedBy, saidBy, stateTest};
 ghost use Rattle.station.specs.Answers.{Answers};
+ghost use Rattle.station.specs.Turns.{Turns, Valued, stationBy};
 use answers::Refusal;
 use places::both;
 use places::byte_at;
@@ -143,6 +146,21 @@ pub struct Moved {
     pub play: Play,
 }
 
+// What a tick makes of all but the nodes. Where it is not `idle` the nodes change, by `clock`, the time before it, by what lands and
+// by the runs that end.
+pub struct Turn {
+    pub play: Play,
+    pub idle: bool,
+    pub clock: Ticks,
+    pub landing: Landing,
+    pub ends: [bool; 32],
+}
+
+pub struct Turned {
+    pub said: Said,
+    pub turn: Turn,
+}
+
 fn kept_in_range<'a>(
     modules: Modules,
     modes: Modes,
@@ -193,37 +211,21 @@ fn kept_in_range<'a>(
     both(both(counted, moded), both(tasked, rowed))
 }
 
-fn node_in_range<'a>(node: Node, held: &'a [u8; 128], modes: u8, n: usize) -> bool
-    requires { ⌜ n < 8 ⌝ }
-    ensures { λ r. ⌜ r ≡ nodeTest (now (held .entry)) modes node n ⌝ }
-{
-    both(
-        stationrange::places(&node.landed, &node.shown),
-        stationrange::bytes(held, modes, n),
-    )
-}
-
-fn nodes_in_range<'a>(nodes: [Node; 8], held: &'a [u8; 128], modes: u8) -> bool
-    ensures { λ r. ⌜ r ≡ all (nodesTest (now (held .entry)) modes nodes) (upTo 8) ⌝ }
+fn bytes_in_range<'a>(held: &'a [u8; 128], modes: u8) -> bool
+    ensures { λ r. ⌜ r ≡ all (heldTest (now (held .entry)) modes) (upTo 8) ⌝ }
 {
     let mut good = true;
     let mut n = 0;
     while n < 8 {
-        let node = nodes[n];
-        good = both(good, node_in_range(node, held, modes, n));
+        good = both(good, stationrange::bytes(held, modes, n));
         n += 1;
     }
     good
 }
 
-fn state_in_range(
-    modules: Modules,
-    modes: Modes,
-    period: Ticks,
-    play: Play,
-    nodes: [Node; 8],
-) -> bool
-    ensures { λ r. ⌜ r ≡ stateTest modules modes period play nodes ⌝ }
+// But for what the nodes hold landed and shown: each of those numbers is of its type's range.
+fn state_in_range(modules: Modules, modes: Modes, period: Ticks, play: Play) -> bool
+    ensures { λ r. ⌜ r ≡ stateTest modules modes period play ⌝ }
 {
     let timed = both(play.clock.0 <= period.0, stationrange::is_value(play.load));
     let played = stationrange::plays(
@@ -237,7 +239,7 @@ fn state_in_range(
     );
     let placed = both(
         stationrange::boxes(&play.out),
-        nodes_in_range(nodes, &play.held, modes.count),
+        bytes_in_range(&play.held, modes.count),
     );
     both(timed, both(played, placed))
 }
@@ -287,14 +289,13 @@ fn refused<'a>(
     datas: u16,
     period: Ticks,
     play: Play,
-    nodes: [Node; 8],
     runs: &'a [u32; 1024],
     carries: &'a [u8; 256],
     deadlines: &'a [u32; 256],
     starts: &'a [u32; 256],
     stops: &'a [u32; 256],
 ) -> Judged
-    ensures { λ r. ⌜ judgedOf r ≡ refusedBy results changes modules modes tasks controls datas period play nodes (now (runs .entry)) (now (carries .entry)) (now (deadlines .entry)) (now (starts .entry)) (now (stops .entry)) ⌝ }
+    ensures { λ r. ⌜ judgedOf r ≡ refusedBy results changes modules modes tasks controls datas period play (now (runs .entry)) (now (carries .entry)) (now (deadlines .entry)) (now (starts .entry)) (now (stops .entry)) ⌝ }
 {
     let kept = kept_in_range(
         modules,
@@ -309,7 +310,7 @@ fn refused<'a>(
         starts,
         stops,
     );
-    if both(kept, state_in_range(modules, modes, period, play, nodes)) {
+    if both(kept, state_in_range(modules, modes, period, play)) {
         judged(results, changes, modules, modes, tasks, play, runs)
     } else {
         Judged::Refused(Refusal::NotBegun(ModuleNo(0)))
@@ -509,30 +510,111 @@ fn what_lands<'a>(
     )
 }
 
+// A tick but for the nodes: a refusal, or (a) to (f). The station may hold any nodes.
+pub fn turned_by<'a>(
+    results: [Given; 32],
+    changes: [Change; 16],
+    modules: Modules,
+    modes: Modes,
+    tasks: Tasks,
+    controls: Controls,
+    datas: u16,
+    period: Ticks,
+    play: Play,
+    runs: &'a [u32; 1024],
+    carries: &'a [u8; 256],
+    deadlines: &'a [u32; 256],
+    starts: &'a [u32; 256],
+    stops: &'a [u32; 256],
+) -> Turned
+    ensures { λ r. ⌜ ((nodes : List AnyNode) → Valued nodes → Turns (stationBy modules modes tasks controls datas period (now (runs .entry)) (now (carries .entry)) (now (deadlines .entry)) (now (starts .entry)) (now (stops .entry)) play nodes) results changes (r .said) (r .turn)) ⌝ }
+{
+    match refused(
+        results,
+        changes,
+        modules,
+        modes,
+        tasks,
+        controls,
+        datas,
+        period,
+        play,
+        runs,
+        carries,
+        deadlines,
+        starts,
+        stops,
+    ) {
+        Judged::Refused(x) => Turned {
+            said: Said::Refused(x),
+            turn: Turn {
+                play,
+                idle: true,
+                clock: play.clock,
+                landing: Landing::Nothing,
+                ends: [false; 32],
+            },
+        },
+        Judged::Fine => {
+            let ends = ends_now(runs, &play.running, &play.ages, &tasks.homes);
+            let next = moves(
+                results,
+                changes,
+                modules,
+                modes,
+                tasks,
+                controls,
+                datas,
+                period,
+                play,
+                &ends,
+                runs,
+                carries,
+                deadlines,
+                starts,
+                stops,
+            );
+            let landing = what_lands(modules, tasks, datas, play, carries, stops);
+            let idle = is_idle(landing, &ends);
+            let said = next.said;
+            let after = next.play;
+            Turned {
+                said,
+                turn: Turn {
+                    play: after,
+                    idle,
+                    clock: play.clock,
+                    landing,
+                    ends,
+                },
+            }
+        }
+    }
+}
+
 // Steps (b) and (c) on the nodes, by what has moved already.
-fn nodes_moved<'a>(
+pub fn nodes_turned<'a>(
     nodes: [Node; 8],
     modules: Modules,
     tasks: Tasks,
-    next: Play,
-    clock: Ticks,
-    landing: Landing,
-    ends: &'a [bool; 32],
+    turn: Turn,
     runs: &'a [u32; 1024],
 ) -> [Node; 8]
-    ensures { λ r. ⌜ r ≡ nodesBy modules tasks next (clock .0) landing (now (ends .entry)) (now (runs .entry)) nodes ⌝ }
+    ensures { λ r. ⌜ r ≡ nodesBy modules tasks (turn .play) (turn .clock .0) (turn .landing) (turn .ends) (now (runs .entry)) nodes ⌝ }
 {
+    let next = turn.play;
+    let landing = turn.landing;
     nodes_after(
         nodes,
         landing,
-        ends,
+        &turn.ends,
         &tasks.homes,
         &modules.sites,
         &next.out,
         &next.held,
         &tasks.bus,
         runs,
-        clock.0,
+        turn.clock.0,
     )
 }
 
@@ -597,8 +679,7 @@ impl Station {
         let tasks = self.tasks;
         let controls = self.controls;
         let play = self.play;
-        let nodes = self.nodes;
-        match refused(
+        let turned = turned_by(
             results,
             changes,
             modules,
@@ -608,65 +689,24 @@ impl Station {
             self.datas,
             self.period,
             play,
-            nodes,
             &self.runs,
             &self.carries,
             &self.deadlines,
             &self.starts,
             &self.stops,
-        ) {
-            Judged::Refused(x) => Ticked {
-                said: Said::Refused(x),
-                station: self,
-            },
-            Judged::Fine => {
-                let ends = ends_now(&self.runs, &play.running, &play.ages, &tasks.homes);
-                let next = moves(
-                    results,
-                    changes,
-                    modules,
-                    modes,
-                    tasks,
-                    controls,
-                    self.datas,
-                    self.period,
-                    play,
-                    &ends,
-                    &self.runs,
-                    &self.carries,
-                    &self.deadlines,
-                    &self.starts,
-                    &self.stops,
-                );
-                let after = next.play;
-                let value = what_lands(
-                    modules,
-                    tasks,
-                    self.datas,
-                    play,
-                    &self.carries,
-                    &self.stops,
-                );
-                if is_idle(value, &ends) {} else {
-                    let shown = nodes_moved(
-                        nodes,
-                        modules,
-                        tasks,
-                        after,
-                        play.clock,
-                        value,
-                        &ends,
-                        &self.runs,
-                    );
-                    self.nodes = shown;
-                }
-                self.play = after;
-                let said = next.said;
-                Ticked {
-                    said,
-                    station: self,
-                }
-            }
+        );
+        let turn = turned.turn;
+        if turn.idle {} else {
+            let nodes = self.nodes;
+            let shown = nodes_turned(nodes, modules, tasks, turn, &self.runs);
+            self.nodes = shown;
+        }
+        let after = turn.play;
+        self.play = after;
+        let said = turned.said;
+        Ticked {
+            said,
+            station: self,
         }
     }
 

@@ -6,7 +6,7 @@ ghost use Prim.Native.Nat.{_<_};
 ghost use lib.Dec.{eqb, leb, ltb};
 ghost use Rattle.laws.specs.Lists.{all, upTo};
 ghost use Rattle.rules.specs.StationRange.{isBetween, isValue};
-ghost use Rattle.stationrange.specs.Ranges.{boxTest, byteTest, controlTest, countsTest, dataTest, modeTest, moduleTest, placeTest, playTest, runTest, runsTest, taskTest, thingTest};
+ghost use Rattle.stationrange.specs.Ranges.{boxTest, byteTest, controlTest, countsTest, dataTest, modeTest, moduleTest, playTest, runTest, runsTest, taskTest, thingTest};
 use places::both;
 use places::byte_at;
 use places::if_so;
@@ -263,18 +263,6 @@ pub fn boxes<'a>(out: &'a [u64; 32]) -> bool
     let mut t = 0;
     while t < 32 {
         good = both(good, is_value(out[t]));
-        t += 1;
-    }
-    good
-}
-
-pub fn places<'a>(landed: &'a [u64; 32], shown: &'a [u64; 32]) -> bool
-    ensures { λ r. ⌜ r ≡ all (placeTest (now (landed .entry)) (now (shown .entry))) (upTo 32) ⌝ }
-{
-    let mut good = true;
-    let mut t = 0;
-    while t < 32 {
-        good = both(good, both(is_value(landed[t]), is_value(shown[t])));
         t += 1;
     }
     good

@@ -7,7 +7,7 @@ use Rattle.station.proofs.state_in_range.Tie as tie
 use Rattle.station.proofs.state_in_range.Reads as reads
 use Rattle.station.proofs.state_in_range.Lts as lts
 use Rattle.places.proofs.both.Reads as both-reads
-use Rattle.station.proofs.nodes_in_range.Reads as nodes-in-range-reads
+use Rattle.station.proofs.bytes_in_range.Reads as bytes-in-range-reads
 use Rattle.stationrange.proofs.boxes.Reads as boxes-reads
 use Rattle.stationrange.proofs.is_value.Reads as is-value-reads
 use Rattle.stationrange.proofs.plays.Reads as plays-reads
@@ -24,8 +24,8 @@ plays-requires c κs = search needs
 boxes-requires : tie.Need-boxes-requires
 boxes-requires c κs = search needs
 
-nodes-in-range-requires : tie.Need-nodes-in-range-requires
-nodes-in-range-requires c κs = search needs
+bytes-in-range-requires : tie.Need-bytes-in-range-requires
+bytes-in-range-requires c κs = search needs
 
 both-requires-2 : tie.Need-both-requires-2
 both-requires-2 c κs = search needs
@@ -38,7 +38,7 @@ both-requires-4 c κs = search needs
 
 returns : tie.Need-returns
 unfolding stateTest
-returns c = let a = c .before .before .before .before .before .before .before .before .before .before .before .before .before .before .before .before .before .before .before .before .args in state-all (leb (a .t4 .clock .0) (a .period .0)) (c .before .before .before .before .before .before .before .before .before .before .before .before .before .before .before .before .before .before .is-value .ensures) (c .before .before .before .before .before .before .before .before .before .before .before .before .before .before .before .before .before .both .ensures) (c .before .before .before .before .before .before .before .before .before .plays .ensures) (c .before .before .before .before .before .before .boxes .ensures) (c .before .before .before .nodes-in-range .ensures) (c .before .before .both2 .ensures) (c .before .both3 .ensures) (c .both4 .ensures)
+returns c = let a = c .before .before .before .before .before .before .before .before .before .before .before .before .before .before .before .before .before .before .before .before .args in state-all (leb (a .t4 .clock .0) (a .period .0)) (c .before .before .before .before .before .before .before .before .before .before .before .before .before .before .before .before .before .before .is-value .ensures) (c .before .before .before .before .before .before .before .before .before .before .before .before .before .before .before .before .before .both .ensures) (c .before .before .before .before .before .before .before .before .before .plays .ensures) (c .before .before .before .before .before .before .boxes .ensures) (c .before .before .before .bytes-in-range .ensures) (c .before .before .both2 .ensures) (c .before .both3 .ensures) (c .both4 .ensures)
 
 pub state-in-range-spec : {M : Type 1} → statement M
 state-in-range-spec =
@@ -48,7 +48,7 @@ state-in-range-spec =
     both-requires
     plays-requires
     boxes-requires
-    nodes-in-range-requires
+    bytes-in-range-requires
     both-requires-2
     both-requires-3
     both-requires-4

@@ -1,0 +1,68 @@
+-- A tick in two parts: all but the nodes, then the nodes. What the first part gives, whatever the nodes hold.
+use mathlib.Core.Bool.{true, false}
+use mathlib.Core.Path.{_≡_}
+use mathlib.Core.List.{List}
+use lib.ListN.{getD}
+use Prim.Native.Nat.{ℕ}
+use Rattle.rules.specs.StationRange.{ticked}
+use Rattle.stationrange.specs.Ranges.{placeTest}
+use Rattle.stationjudge.specs.Inputs.{inputOf}
+use Rattle.stationjudge.specs.declared.Given.{Given}
+use Rattle.stationjudge.specs.declared.Change.{Change}
+use Rattle.stationsteps.specs.Nodes.{noNode}
+use Rattle.stationsteps.specs.declared.nodes.Node.{Node}
+use Rattle.units.specs.declared.Ticks.{Ticks}
+use Rattle.station.specs.declared.Modules.{Modules}
+use Rattle.station.specs.declared.Modes.{Modes}
+use Rattle.station.specs.declared.Tasks.{Tasks}
+use Rattle.station.specs.declared.Controls.{Controls}
+use Rattle.station.specs.declared.Play.{Play}
+use Rattle.station.specs.declared.Said.{Said}
+use Rattle.station.specs.declared.Station.{Station}
+use Rattle.station.specs.declared.Turn.{Turn}
+use Rattle.station.specs.Memory.{keptOf, stateOf}
+use Rattle.station.specs.Parts.{nodesBy}
+use Rattle.station.specs.Answers.{Answers}
+
+abbrev pub stationBy : Modules → Modes → Tasks → Controls → ℕ → Ticks → List ℕ → List ℕ → List ℕ → List ℕ → List ℕ → Play → List Node
+    → Station
+stationBy modules modes tasks controls datas period runs carries deadlines starts stops play nodes =
+    record {
+      modules = modules;
+      modes = modes;
+      tasks = tasks;
+      controls = controls;
+      period = period;
+      datas = datas;
+      runs = runs;
+      carries = carries;
+      deadlines = deadlines;
+      starts = starts;
+      stops = stops;
+      play = play;
+      nodes = nodes;
+    }
+
+-- a station with what a tick changes
+abbrev pub moved : Station → Play → List Node → Station
+moved st play nodes =
+    stationBy (st .modules) (st .modes) (st .tasks) (st .controls) (st .datas) (st .period) (st .runs) (st .carries) (st .deadlines)
+    (st .starts) (st .stops) play nodes
+
+-- each number that the nodes hold landed and shown is below 2 ^ 64
+abbrev pub Valued : List Node → Type 0
+Valued nodes = (n t : ℕ) → placeTest (getD nodes n noNode .landed) (getD nodes n noNode .shown) t ≡ true
+
+-- With the nodes as they were, where the turn is idle, or as steps (b) and (c) make them, the answer is the rules'.
+pub record Turns (st : Station) (results : List Given) (changes : List Change) (said : Said) (t : Turn) : Type 0 where
+  pub idle : t .idle ≡ true
+      → Answers st (ticked (keptOf st) (stateOf st) (inputOf results changes))
+      (record { said = said; station = moved st (t .play) (st .nodes) })
+  pub moves : t .idle ≡ false
+      → Answers st (ticked (keptOf st) (stateOf st) (inputOf results changes))
+      (record {
+        said = said;
+        station =
+            moved st (t .play)
+            (nodesBy (st .modules) (st .tasks) (t .play) (t .clock .0) (t .landing) (t .ends) (st .runs) (st .nodes));
+      })
