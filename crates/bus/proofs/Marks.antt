@@ -4,13 +4,14 @@ use mathlib.Core.Bool.{Bool, true, false, not, _&&_, _||_, cond}
 use mathlib.Core.List.{List, []}
 use borrow.Author.Tests.{eq-eqb, ne-eqb}
 use native.Mathlib.Nat.{add-zero}
+use native.Mathlib.Omega.{arith}
 use lib.Dec.{eqb}
-use lib.ListN.{length, getD, set, take, replicate, length-append}
+use lib.ListN.{length, getD, set, take, replicate, length-append, List·getD-eq-default}
 use Prim.Native.Nat.{ℕ, _+_, _≤_, _<_}
 use Rattle.laws.specs.Lists.{consIf, keep, any, upTo}
 use Rattle.laws.proofs.Lists.{any-more, any-append, keep-upTo-more, length-keep, length-upTo}
 use Rattle.plan.specs.Memory.{noConnection}
-use Rattle.rules.specs.Plan.{Plan, Invocation, Connection, noInvocation, theTask}
+use Rattle.rules.specs.Plan.{Plan, Task, Invocation, Connection, noTask, noInvocation, theTask}
 use Rattle.rules.specs.Frames.{invokes, leaves, taskNode, isBusTask, isSending, livesIn, standsOn, moduleNode}
 use Rattle.bus.specs.Senders.{byNumber, taskHome, invokedBy, busTaskBy, sendingBy, payloadBy}
 use Rattle.bus.proofs.Tables.{stored, all-alike, at-number}
@@ -149,6 +150,12 @@ module _ (q : Plan) where
   unfolding taskNode taskHome
   node-there {nodes} {homes} {m} t e f w v h =
       rw e (at-number (moduleNode q) m 0 v ∙ ap (moduleNode q) (h ∙ rw f (at-number (taskHome q) t 0 w)))
+
+  -- a task that the plan does not have is of module 0
+  pub node-behind : {nodes : List ℕ} (t : ℕ) → nodes ≡ byNumber (moduleNode q) → length (q .tasks) ≤ t → taskNode q t ≡ getD nodes 0 0
+  unfolding taskNode theTask
+  node-behind t e h =
+      ap (λ (x : Task). moduleNode q (x .home)) (List·getD-eq-default (q .tasks) noTask h) ∙ sym (rw e (at-number (moduleNode q) 0 0 (omega arith)))
 
   pub bus-tasks-turn : {tasks inv : List Bool} {nodes : List ℕ} {v : Bool} (i t u : ℕ) → tasks ≡ byNumber (busTaskBy q (take i (q .connections))) → inv ≡ byNumber (invokedBy (q .invocations)) → nodes ≡ byNumber (taskNode q) → i < length (q .connections) → getD (q .connections) i noConnection .producer ≡ t → getD (q .connections) i noConnection .consumer ≡ u → t < 256 → u < 256 → v ≡ (getD tasks t false || (getD inv t false && not (eqb (getD nodes u 0) (getD nodes t 0)))) → set tasks t v ≡ byNumber (busTaskBy q (take (i + 1) (q .connections)))
   bus-tasks-turn i t u e f g h a b w v k =

@@ -30,10 +30,9 @@ pub fn divides(a: u32, b: u32) -> bool
 pub fn lcm(a: u32, b: u32) -> u64
     ensures { λ r. ⌜ r ≡ laws.lcm a b ⌝ }
 {
-    let g = gcd(a, b);
-    if g == 0 {
-        return 0;
+    if divides(a, b) {
+        return b as u64;
     }
-    let times = a / g;
+    let times = a / gcd(a, b);
     times as u64 * b as u64
 }

@@ -67,14 +67,16 @@ fn invoked(p: Plan) -> [bool; 256]
     found
 }
 
-fn task_nodes(p: Plan) -> [u8; 256]
+// A task that the plan does not have would be of module 0.
+fn task_nodes(p: Plan, nodes: &[u8; 256], homes: &[u8; 256]) -> [u8; 256]
+    requires { ⌜ now nodes ≡ byNumber (moduleNode (seen p)) ⌝ }
+    requires { ⌜ now homes ≡ byNumber (taskHome (seen p)) ⌝ }
     ensures { λ r. ⌜ r ≡ byNumber (taskNode (seen p)) ⌝ }
 {
-    let nodes = module_nodes(p);
-    let homes = task_homes(p);
-    let mut found: [u8; 256] = [0; 256];
+    let n = task_count(p);
+    let mut found: [u8; 256] = [nodes[0]; 256];
     let mut t = 0;
-    while t < 256 {
+    while t < n {
         let m = place(homes[t]);
         found[t] = nodes[m];
         t += 1;
@@ -89,12 +91,12 @@ fn marked(before: bool, invoked: bool, here: u8, there: u8) -> bool
     before || (invoked && there != here)
 }
 
-fn bus_tasks(p: Plan) -> [bool; 256]
+fn bus_tasks(p: Plan, nodes: &[u8; 256], invoked: &[bool; 256]) -> [bool; 256]
+    requires { ⌜ now nodes ≡ byNumber (taskNode (seen p)) ⌝ }
+    requires { ⌜ now invoked ≡ byNumber (invokedBy (seen p .invocations)) ⌝ }
     ensures { λ r. ⌜ r ≡ byNumber (isBusTask (seen p)) ⌝ }
 {
     let n = connection_count(p);
-    let nodes = task_nodes(p);
-    let invoked = invoked(p);
     let mut tasks: [bool; 256] = [false; 256];
     let mut i = 0;
     while i < n {
@@ -112,12 +114,12 @@ fn either(a: bool, b: bool) -> bool
     a || b
 }
 
-fn sending_modules(p: Plan, tasks: [bool; 256]) -> [bool; 256]
-    requires { ⌜ tasks ≡ byNumber (isBusTask (seen p)) ⌝ }
+fn sending_modules(p: Plan, homes: &[u8; 256], tasks: &[bool; 256]) -> [bool; 256]
+    requires { ⌜ now homes ≡ byNumber (taskHome (seen p)) ⌝ }
+    requires { ⌜ now tasks ≡ byNumber (isBusTask (seen p)) ⌝ }
     ensures { λ r. ⌜ r ≡ byNumber (isSending (seen p)) ⌝ }
 {
     let n = task_count(p);
-    let homes = task_homes(p);
     let mut modules: [bool; 256] = [false; 256];
     let mut t = 0;
     while t < n {
@@ -135,12 +137,12 @@ fn one_more(count: u8, counts: bool) -> u8
     if counts { count + 1 } else { count }
 }
 
-fn control_payloads(p: Plan, modules: [bool; 256]) -> [u8; 256]
-    requires { ⌜ modules ≡ byNumber (isSending (seen p)) ⌝ }
+fn control_payloads(p: Plan, nodes: &[u8; 256], modules: &[bool; 256]) -> [u8; 256]
+    requires { ⌜ now nodes ≡ byNumber (moduleNode (seen p)) ⌝ }
+    requires { ⌜ now modules ≡ byNumber (isSending (seen p)) ⌝ }
     ensures { λ r. ⌜ r ≡ byNumber (controlPayload (seen p)) ⌝ }
 {
     let n = module_count(p);
-    let nodes = module_nodes(p);
     let mut payloads: [u8; 256] = [0; 256];
     let mut m = 0;
     while m < n {
@@ -155,9 +157,13 @@ impl Senders {
     pub fn of(p: Plan) -> Senders
         ensures { λ r. ⌜ r ≡ sendersOf (seen p) ⌝ }
     {
-        let tasks = bus_tasks(p);
-        let modules = sending_modules(p, tasks);
-        let payloads = control_payloads(p, modules);
+        let nodes = module_nodes(p);
+        let homes = task_homes(p);
+        let there = task_nodes(p, &nodes, &homes);
+        let invoked = invoked(p);
+        let tasks = bus_tasks(p, &there, &invoked);
+        let modules = sending_modules(p, &homes, &tasks);
+        let payloads = control_payloads(p, &nodes, &modules);
         Senders {
             tasks: tasks,
             modules: modules,
@@ -169,7 +175,7 @@ impl Senders {
 pub fn is_bus_task(p: Plan, t: TaskNo) -> bool
     ensures { λ r. ⌜ r ≡ isBusTask (seen p) (t .0) ⌝ }
 {
-    let tasks = bus_tasks(p);
+    let senders = Senders::of(p);
     let k = place(t.0);
-    tasks[k]
+    senders.tasks[k]
 }

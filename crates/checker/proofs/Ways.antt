@@ -30,7 +30,8 @@ use Rattle.judging.specs.declared.judge.Verdict.the-variants as judge
 use Rattle.judging.specs.Places.{Numbered}
 use Rattle.judging.specs.Memory.{layOut, seen, readingOf}
 use Rattle.judging.specs.Judged.{framesOn, lineJudged, verdictSays, Right}
-use Rattle.judging.proofs.Layouts.{Drawn, drawn, line-numbered, line-controls, line-right}
+use Rattle.line.proofs.Drawn.{Drawn, drawn}
+use Rattle.judging.proofs.Layouts.{line-numbered, line-controls, line-right}
 use Rattle.rows.specs.declared.Rows.{Rows}
 use Rattle.rows.specs.Rows.{rowTask, rowRelease, rowDeadline, rowStart, rowsLaid}
 use Rattle.checker.specs.declared.Answer.the-variants.{Passed, Refused}

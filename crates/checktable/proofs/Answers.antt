@@ -5,7 +5,6 @@ use mathlib.Core.List.{List}
 use mathlib.Core.Path.{_≡_, refl, sym, ap, ap₂, _∙_}
 use native.Mathlib.Omega.{arith}
 use lib.ListN.{length}
-use lib.Seq.{sets, length-sets, length-take-le}
 use borrow.Author.Tests.{le-leb, lt-leb}
 use Prim.Native.Nat.{ℕ, _≤_, _<_}
 use Rattle.io.specs.Counts.{Counts}
@@ -21,36 +20,27 @@ use Rattle.checker.specs.Checking.{Checks, heard, verdict, lentPassed}
 use Rattle.checker.proofs.Rules.{enough-is}
 use Rattle.text.specs.Text.{passedLine, refusedLine, tooLongLine}
 use Rattle.text.proofs.Decimals.{refused-line-most}
+use Rattle.text.proofs.Fronts.{Front, front-counts}
 use Rattle.checktable.specs.Answer.{lineFor, isShort, answerFor}
-
--- what a line leaves in the lent bytes, with its length, which counts bytes of them
-abbrev Line : List ℕ → List ℕ → List ℕ → ℕ → Type 0
-Line line old out n = (out ≡ sets old 0 line) × (n ≡ length line)
-
-line-counts : (line old out : List ℕ) (n : ℕ) → Line line old out n → length line ≤ length old → Counts n out
-line-counts line old out n a h =
-    let long : length out ≡ length old = ap length (a .0) ∙ length-sets old 0 line in
-    let within : n ≤ length out = omega arith in
-    (within, sym (length-take-le n out within))
 
 -- what `respond` says of its result
 abbrev Responds : List ℕ → List ℕ → List ℕ → List ℕ → ℕ → Type 0
-Responds plan table old out n = Line (answerFor plan table) old out n × (53 ≤ length old → Counts n out)
+Responds plan table old out n = Front (answerFor plan table) old out n × (53 ≤ length old → Counts n out)
 
 both-false : (a : Bool) → (a && false) ≡ false
 both-false true = refl
 both-false false = refl
 
 module _ (plan table old out : List ℕ) (n : ℕ) where
-  too-long : answerFor plan table ≡ tooLongLine → Line tooLongLine old out n → Responds plan table old out n
+  too-long : answerFor plan table ≡ tooLongLine → Front tooLongLine old out n → Responds plan table old out n
   unfolding tooLongLine
-  too-long e a = (rw e a, λ room. line-counts tooLongLine old out n a (omega arith))
+  too-long e a = (rw e a, λ room. front-counts tooLongLine old out n a (omega arith))
 
-  pub long-plan : 65536 < length plan → Line tooLongLine old out n → Responds plan table old out n
+  pub long-plan : 65536 < length plan → Front tooLongLine old out n → Responds plan table old out n
   unfolding answerFor isShort
   long-plan h a = too-long (rw (lt-leb (length plan) 65536 h)) a
 
-  pub long-table : 65536 < length table → Line tooLongLine old out n → Responds plan table old out n
+  pub long-table : 65536 < length table → Front tooLongLine old out n → Responds plan table old out n
   unfolding answerFor isShort
   long-table h a = too-long (rw (lt-leb (length table) 65536 h, both-false)) a
 
@@ -70,16 +60,16 @@ module _ (plan table old out : List ℕ) (n : ℕ) where
     refused-line k q (ok c) e = refuse≢ok e
     refused-line k q (refuse i j) e = sym (ap₂ refusedLine (refuse-number e) (refuse-place e))
 
-    pub passed-response : r .answer ≡ Passed → Line passedLine old out n → Responds plan table old out n
+    pub passed-response : r .answer ≡ Passed → Front passedLine old out n → Responds plan table old out n
     unfolding passedLine
     passed-response e a =
         let is : answerFor plan table ≡ passedLine = short ∙ passed-line (passed plan table) (sym (ap heard e) ∙ says) in
-        (rw is a, λ room. line-counts passedLine old out n a (omega arith))
+        (rw is a, λ room. front-counts passedLine old out n a (omega arith))
 
     pub refused-response : (why : Refusal) (k q : ℕ) → r .answer ≡ Refused why → k ≡ numberOf why → q ≡ placeOf why
-        → k < 18446744073709551616 → q < 18446744073709551616 → Line (refusedLine k q) old out n → Responds plan table old out n
+        → k < 18446744073709551616 → q < 18446744073709551616 → Front (refusedLine k q) old out n → Responds plan table old out n
     refused-response why k q e number place kw qw a =
         let same : refuse k q ≡ verdict (passed plan table) = ap₂ refuse number place ∙ (sym (ap heard e) ∙ says) in
         let is : answerFor plan table ≡ refusedLine k q = short ∙ refused-line k q (passed plan table) same in
         let few : length (refusedLine k q) ≤ 53 = refused-line-most k q kw qw in
-        (rw is a, λ room. line-counts (refusedLine k q) old out n a (omega arith))
+        (rw is a, λ room. front-counts (refusedLine k q) old out n a (omega arith))

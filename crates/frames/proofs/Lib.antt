@@ -1,3 +1,4 @@
+pub mod Trees
 pub mod Meeting
 pub mod Storing
 pub mod Walking

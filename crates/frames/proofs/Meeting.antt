@@ -1,22 +1,26 @@
--- Fair runs, and the runs that end at one deadline met one after the other: the start, a run that does not end, a run that does, the end.
-use mathlib.Core.Path.{_≡_, refl, sym, ap, ap₂, _∙_}
+-- Fair runs; the runs as they wait in a tree; and the messages of one place of the frames' order taken one after the other: the start,
+-- a turn, the end.
+use mathlib.Core.Path.{_≡_, sym, ap, _∙_}
 use mathlib.Core.Bool.{true, false, _&&_}
-use mathlib.Core.List.{List, [], _∷_, _++_}
+use mathlib.Core.List.{List}
 use mathlib.Core.Logic.{_⊎_, inl, inr}
-use native.Mathlib.Nat.{zero-add, max-zero, not-suc-le-zero, eq-or-lt-of-le, le-of-dvd}
+use native.Mathlib.Nat.{zero-add, eq-or-lt-of-le, dvd-refl, dvd-add}
 use native.Mathlib.Omega.{arith}
-use borrow.Author.Tests.{eq-eqb, ne-eqb, ltb-true, leb-true}
-use lib.Dec.{ltb, leb}
-use lib.ListN.{getD, length, set, replicate, length-set}
+use borrow.Author.Tests.{eq-eqb, eqb-true, ltb-true, leb-true}
+use lib.Dec.{eqb, ltb, leb}
+use lib.ListN.{getD, length, set, replicate, length-set, length-replicate, getD-replicate}
 use lib.Seq.{getD-set-same, getD-set-other}
-use Prim.Native.Nat.{ℕ, suc, _+_, _-_, _≤_, _<_, max}
+use Prim.Native.Nat.{ℕ, zero, suc, _+_, _-_, _*_, _%_, _≤_, _<_, _∣_, max}
 use Rattle.laws.specs.Lists.{all, tab}
 use Rattle.laws.specs.Numbers.{divides}
-use Rattle.laws.proofs.Lists.{both-left, both-right, all-true, length-tab, getD-tab, tab-more}
-use Rattle.laws.proofs.Laid.{tab-same, set-tab}
+use Rattle.laws.proofs.Lists.{both-left, both-right, all-true, length-tab, getD-tab, tested}
+use Rattle.laws.proofs.Orders.{le-or-lt}
+use Rattle.laws.proofs.Divisors.{divides-is}
 use Rattle.rules.specs.Frames.{Run}
-use Rattle.rules.proofs.Grid.{ends, latest, latest-snoc, Next, next-on, next-more, next-divides}
-use Rattle.frames.specs.Walk.{runAt, runsIn, isFair, Due, Ready, Met, latestOf}
+use Rattle.rules.proofs.Grid.{ends, latest, next-divides}
+use Rattle.frames.specs.Tree.{Grown, Raised}
+use Rattle.frames.specs.Walk.{runAt, runsIn, isFair, Ready, codeOf, keyOf, limitOf, Planted, Waits, Waiting, CellMet}
+use Rattle.frames.proofs.Trees.{AtLeaf, root-under, root-leaf}
 
 -- ---- fair runs
 
@@ -47,120 +51,319 @@ module _ (task period worst : List ℕ) where
       let f = fair-run cycle (runAt task period worst i) (ap (isFair cycle) (sym e) ∙ all-true (isFair cycle) (tab (runAt task period worst) 0 n) (runAt task period worst i) i h k) in
       record { place = f .0; positive = f .1; within = f .2; slow = f .3 }
 
-  pub runs-more : (i : ℕ) → runsIn task period worst (i + 1) ≡ runsIn task period worst i ++ (runAt task period worst i ∷ [])
-  unfolding runsIn
-  runs-more i =
-      tab-more (runAt task period worst) 0 i
-      ∙ ap (λ (k : ℕ). tab (runAt task period worst) 0 i ++ (runAt task period worst k ∷ [])) (zero-add i)
+  -- ---- the greatest release of a place
 
-  -- ---- the runs that end at d are met
+  ends-zero : (i d t : ℕ) → (divides (getD period i 0) d ≡ true → getD task i 0 ≡ t → ⊥) → ends (runAt task period worst i) d t ≡ 0
+  unfolding runAt
+  ends-zero i d t h = which (tested (divides (getD period i 0) d)) (tested (eqb (getD task i 0) t))
+    where
+      which : (divides (getD period i 0) d ≡ true) ⊎ (divides (getD period i 0) d ≡ false) → (eqb (getD task i 0) t ≡ true) ⊎ (eqb (getD task i 0) t ≡ false) → ends (runAt task period worst i) d t ≡ 0
+      which (inl a) (inl b) = absurd (h a (eqb-true (getD task i 0) t b))
+      which (inl a) (inr b) = rw (a, b)
+      which (inr a) b = rw a
 
-  module _ (runs d : ℕ) where
-    abbrev MetAt : List ℕ → List ℕ → ℕ → Type 0
-    MetAt = Met task period worst runs d
+  ends-here : (i d t : ℕ) → getD period i 0 ∣ d → getD task i 0 ≡ t → ends (runAt task period worst i) d t ≡ suc (d - getD period i 0 + getD worst i 0)
+  unfolding runAt
+  ends-here i d t h e = rw (divides-is (getD period i 0) d h, eq-eqb (getD task i 0) t e)
 
-    latest-more : (i u : ℕ) → latest (runsIn task period worst (i + 1)) d u ≡ max (latest (runsIn task period worst i) d u) (ends (runAt task period worst i) d u)
-    latest-more i u = ap (λ (rs : List Run). latest rs d u) (runs-more i) ∙ latest-snoc (runsIn task period worst i) (runAt task period worst i) d u
+  latest-over : (d t lo n i : ℕ) → lo ≤ i → i < lo + n → ends (runAt task period worst i) d t ≤ latest (tab (runAt task period worst) lo n) d t
+  latest-over d t lo zero i a b = absurd (omega arith)
+  latest-over d t lo (suc n) i a b = which (latest-over d t (suc lo) n i) (eq-or-lt-of-le a)
+    where
+      which : (suc lo ≤ i → i < suc lo + n → ends (runAt task period worst i) d t ≤ latest (tab (runAt task period worst) (suc lo) n) d t)
+          → (lo ≡ i) ⊎ (lo < i) → ends (runAt task period worst i) d t ≤ max (ends (runAt task period worst lo) d t) (latest (tab (runAt task period worst) (suc lo) n) d t)
+      which go (inl e) = rw e (omega arith)
+      which go (inr l) = let h : ends (runAt task period worst i) d t ≤ latest (tab (runAt task period worst) (suc lo) n) d t = go l (omega arith) in omega arith
 
-    pub met-start : (next : List ℕ) → length next ≡ 64 → Due period next runs d → MetAt next (replicate 32 0) 0
+  latest-under : (d t b lo n : ℕ) → ((i : ℕ) → lo ≤ i → i < lo + n → ends (runAt task period worst i) d t ≤ b) → latest (tab (runAt task period worst) lo n) d t ≤ b
+  latest-under d t b lo zero h = omega arith
+  latest-under d t b lo (suc n) h =
+      let x : ends (runAt task period worst lo) d t ≤ b = h lo (omega arith) (omega arith) in
+      let y : latest (tab (runAt task period worst) (suc lo) n) d t ≤ b = latest-under d t b (suc lo) n (λ i u v. h i (omega arith) (omega arith)) in
+      omega arith
+
+  -- ---- the first messages at the leaves
+
+  module _ (runs size cycle : ℕ) where
+    pub record Planting (tree : List ℕ) (i : ℕ) : Type 0 where
+      pub within : i ≤ runs
+      pub places : length tree ≡ 128
+      pub firsts : (j : ℕ) → j < i → getD tree (size + j) 0 ≡ keyOf (getD period j 0) (getD task j 0) j
+      pub rest : (k : ℕ) → size + i ≤ k → k < 128 → getD tree k 0 ≡ limitOf cycle
+
+    pub planting-none : (v : ℕ) → v ≡ limitOf cycle → Planting (replicate 128 v) 0
+    planting-none v e =
+        record {
+          within = omega arith;
+          places = length-replicate 128 v;
+          firsts = λ j a. absurd (omega arith);
+          rest = λ k a b. getD-replicate 128 k v 0 b ∙ e;
+        }
+
+    pub planting-more : {tree : List ℕ} {i v : ℕ} → Planting tree i → Ready task period worst runs size cycle → i < runs → v ≡ keyOf (getD period i 0) (getD task i 0) i
+        → Planting (set tree (size + i) v) (i + 1)
+    planting-more {tree} {i} {v} p r h e =
+        record {
+          within = omega arith;
+          places = length-set tree (size + i) v ∙ p .places;
+          firsts = λ j a. which j (eq-or-lt-of-le (omega arith));
+          rest = λ k a b. getD-set-other tree (size + i) k v 0 (λ q. omega arith) ∙ p .rest k (omega arith) b;
+        }
+      where
+        which : (j : ℕ) → (j ≡ i) ⊎ (j < i) → getD (set tree (size + i) v) (size + j) 0 ≡ keyOf (getD period j 0) (getD task j 0) j
+        which j (inl q) = rw q (getD-set-same tree (size + i) v 0 (omega (arith, p .places, r .few, r .small)) ∙ e)
+        which j (inr q) = getD-set-other tree (size + i) (size + j) v 0 (λ u. omega arith) ∙ p .firsts j q
+
+    pub planting-all : {tree : List ℕ} {i : ℕ} → Planting tree i → Ready task period worst runs size cycle → runs ≤ i → Planted task period runs size cycle tree
+    planting-all p r h =
+        record {
+          places = p .places;
+          firsts = λ j a. p .firsts j (omega arith);
+          rest = λ k a b. p .rest (size + k) (omega (arith, p .within)) (omega (arith, r .small));
+        }
+
+    pub waiting-start : {old tree : List ℕ} → Ready task period worst runs size cycle → Planted task period runs size cycle old → Grown old size tree → Waiting task period runs size cycle 32 32 tree
+    waiting-start {old} {tree} r p g =
+        record {
+          whole = g .whole;
+          each = λ i h. each i h (fair-at cycle runs i (r .fair) h);
+          rest = λ i a b. g .leaves (size + i) (omega arith) ∙ p .rest i a b;
+        }
+      where
+        each : (i : ℕ) → i < runs → Fair task period worst cycle i → Waits task period 32 32 i (getD tree (size + i) 0)
+        each i h f =
+            record {
+              next = getD period i 0;
+              is = g .leaves (size + i) (omega arith) ∙ p .firsts i h;
+              multiple = dvd-refl (getD period i 0);
+              reached = omega (arith, f .positive);
+              first = omega (arith, f .place);
+            }
+
+    -- ---- the run at the root
+
+    pub record AtRoot (tree : List ℕ) (root i : ℕ) : Type 0 where
+      pub run : i < runs
+      pub here : getD tree (size + i) 0 ≡ root
+
+    pub at-root : {lo hi : ℕ} {tree : List ℕ} {root i : ℕ} → Ready task period worst runs size cycle → Waiting task period runs size cycle lo hi tree
+        → root ≡ getD tree 1 0 → root < limitOf cycle → i ≡ root % 64 → AtRoot tree root i
+    at-root {lo} {hi} {tree} {root} {i} r w e l q = which (le-or-lt runs (leaf .place))
+      where
+        leaf : AtLeaf tree size (getD tree 1 0)
+        leaf = root-leaf (w .whole) (r .some)
+
+        is : getD tree (size + leaf .place) 0 ≡ root
+        is = leaf .is ∙ sym e
+
+        which : (runs ≤ leaf .place) ⊎ (leaf .place < runs) → AtRoot tree root i
+        which (inl h) = let z : getD tree (size + leaf .place) 0 ≡ limitOf cycle = w .rest (leaf .place) h (leaf .within) in absurd (omega (arith, is, z))
+        which (inr h) =
+            let v : getD tree (size + leaf .place) 0 ≡ keyOf (w .each (leaf .place) h .next) (getD task (leaf .place) 0) (leaf .place) = w .each (leaf .place) h .is in
+            let j : i ≡ leaf .place = omega (arith, is, v, q, leaf .within, r .small) in
+            record { run = omega arith; here = rw j is }
+
+    -- ---- the messages of one place
+
+    -- a run whose message comes later has none at this place
+    none-ends : {lo hi i key : ℕ} (d t : ℕ) (w : Waits task period lo hi i key) → hi ≤ codeOf d t → codeOf d t < codeOf (w .next) (getD task i 0) → ends (runAt task period worst i) d t ≡ 0
+    none-ends {lo} {hi} {i} {key} d t w h l =
+        ends-zero i d t
+        (λ a e.
+        let f : codeOf (w .next) (getD task i 0) < hi + 32 * getD period i 0 = w .first in
+        let b : divides (getD period i 0) d ≡ eqb (w .next) d = next-divides {d = d} d (record { multiple = w .multiple; reached = omega arith; first = omega arith }) (omega arith) (omega arith) in
+        let n : w .next ≡ d = eqb-true (w .next) d (sym b ∙ a) in
+        omega arith)
+
+    -- no message waits before a root, so there is nothing at the places before it
+    pub nothing-before : {lo : ℕ} {tree : List ℕ} (d t : ℕ) → Ready task period worst runs size cycle → Waiting task period runs size cycle lo lo tree → lo ≤ codeOf d t → suc (codeOf d t) * 64 ≤ getD tree 1 0
+        → latest (runsIn task period worst runs) d t ≡ 0
     unfolding runsIn
-    met-start next l h =
-        record {
-          within = omega arith;
-          places = l;
-          bests = refl;
-          done = λ k a. absurd (not-suc-le-zero a);
-          left = λ k a b. h k b;
-        }
-
-    pub met-misses : (next best : List ℕ) (i : ℕ) → MetAt next best i → i < runs → (getD next i 0 ≡ d → ⊥) → MetAt next best (i + 1)
-    unfolding runAt
-    met-misses next best i m w h =
-        record {
-          within = omega arith;
-          places = m .places;
-          bests =
-              m .bests
-              ∙ tab-same (latest (runsIn task period worst i) d) (latest (runsIn task period worst (i + 1)) d) 0 32
-              (λ u a b. sym (latest-more i u ∙ rw no-end (max-zero (latest (runsIn task period worst i) d u))));
-          done = λ k a. done k (eq-or-lt-of-le (omega arith));
-          left = λ k a b. m .left k (omega arith) b;
-        }
+    nothing-before {lo} {tree} d t r w h l =
+        let z : latest (tab (runAt task period worst) 0 runs) d t ≤ 0 = latest-under d t 0 0 runs (λ i a b. none i (omega arith)) in
+        omega arith
       where
-        due : Next (getD period i 0) d (getD next i 0)
-        due = m .left i (omega arith) w
+        none : (i : ℕ) → i < runs → ends (runAt task period worst i) d t ≤ 0
+        none i b =
+            let u : getD tree 1 0 ≤ getD tree (size + i) 0 = root-under (w .whole) i (omega (arith, r .few)) in
+            let v : getD tree (size + i) 0 ≡ keyOf (w .each i b .next) (getD task i 0) i = w .each i b .is in
+            let e : ends (runAt task period worst i) d t ≡ 0 = none-ends d t (w .each i b) h (omega (arith, u, v, r .few, r .small)) in
+            omega arith
 
-        no-end : divides (getD period i 0) d ≡ false
-        no-end = next-divides d due (omega arith) (due .reached) ∙ ne-eqb (getD next i 0) d h
+    module _ (d t : ℕ) where
+      -- the messages that come before the root are taken
+      pub record Taking (tree : List ℕ) (root best : ℕ) : Type 0 where
+        pub waiting : Waiting task period runs size cycle (codeOf d t) (suc (codeOf d t)) tree
+        pub root-is : root ≡ getD tree 1 0
+        pub counted : (i : ℕ) → i < runs → suc (codeOf d t) * 64 ≤ getD tree (size + i) 0 → ends (runAt task period worst i) d t ≤ best
+        pub under : best ≤ latest (runsIn task period worst runs) d t
 
-        done : (k : ℕ) → (k ≡ i) ⊎ (k < i) → Next (getD period k 0) (suc d) (getD next k 0)
-        done k (inl e) =
-            let r : d ≤ getD next i 0 = due .reached in
-            rw e (next-on (suc d) due (omega arith) (omega arith))
-        done k (inr l) = m .done k l
+      pub taking-start : {tree : List ℕ} {root : ℕ} → Ready task period worst runs size cycle → Waiting task period runs size cycle (codeOf d t) (codeOf d t) tree → root ≡ getD tree 1 0 → Taking tree root 0
+      taking-start {tree} {root} r w e =
+          record {
+            waiting = record { whole = w .whole; each = λ i h. later (w .each i h); rest = w .rest };
+            root-is = e;
+            counted = counted;
+            under = omega arith;
+          }
+        where
+          later : {i key : ℕ} → Waits task period (codeOf d t) (codeOf d t) i key → Waits task period (codeOf d t) (suc (codeOf d t)) i key
+          later v = record { next = v .next; is = v .is; multiple = v .multiple; reached = v .reached; first = omega (arith, v .first) }
 
-    met-raised : (cycle : ℕ) (next best : List ℕ) (i : ℕ) (v x : ℕ) → Ready task period worst runs cycle d → MetAt next best i → i < runs → getD next i 0 ≡ d
-        → v ≡ max (getD best (getD task i 0) 0) (suc (d - getD period i 0 + getD worst i 0)) → x ≡ d + getD period i 0
-        → MetAt (set next i x) (set best (getD task i 0) v) (i + 1)
-    unfolding runAt
-    met-raised cycle next best i v x r m w h ev ex =
-        record {
-          within = omega arith;
-          places = length-set next i x ∙ m .places;
-          bests = ap (λ (b : List ℕ). set b t v) (m .bests) ∙ set-tab before after 0 32 t v here elsewhere;
-          done = λ k a. done k (eq-or-lt-of-le (omega arith));
-          left = λ k a b. rw (getD-set-other next i k x 0 (λ e. omega arith)) (m .left k (omega arith) b);
-        }
-      where
-        t : ℕ
-        t = getD task i 0
+          counted : (i : ℕ) → i < runs → suc (codeOf d t) * 64 ≤ getD tree (size + i) 0 → ends (runAt task period worst i) d t ≤ 0
+          counted i h l =
+              let v : getD tree (size + i) 0 ≡ keyOf (w .each i h .next) (getD task i 0) i = w .each i h .is in
+              let z : ends (runAt task period worst i) d t ≡ 0 = none-ends d t (w .each i h) (omega arith) (omega (arith, v, r .few, r .small)) in
+              omega arith
 
-        before : ℕ → ℕ
-        before = latest (runsIn task period worst i) d
+      -- the run at the root ends at this place
+      pub record Ending (root i : ℕ) : Type 0 where
+        pub run : i < runs
+        pub key-is : root ≡ keyOf d t i
+        pub task-is : getD task i 0 ≡ t
+        pub multiple : getD period i 0 ∣ d
+        pub fair : Fair task period worst cycle i
 
-        after : ℕ → ℕ
-        after = latest (runsIn task period worst (i + 1)) d
+      module _ {tree : List ℕ} {root best i : ℕ} (r : Ready task period worst runs size cycle) (inside : d ≤ cycle) (short : t < 32) (g : Taking tree root best) (l : root < suc (codeOf d t) * 64)
+          (q : i ≡ root % 64) where
+        found : AtRoot tree root i
+        found = at-root r (g .waiting) (g .root-is) (omega arith) q
+
+        waits : Waits task period (codeOf d t) (suc (codeOf d t)) i (getD tree (size + i) 0)
+        waits = g .waiting .each i (found .run)
 
         fair : Fair task period worst cycle i
-        fair = fair-at cycle runs i (r .fair) w
+        fair = fair-at cycle runs i (r .fair) (found .run)
 
-        due : Next (getD period i 0) d d
-        due = rw h at (m .left i (omega arith) w)
+        pub ending : Ending root i
+        ending =
+            let v : root ≡ keyOf (waits .next) (getD task i 0) i = sym (found .here) ∙ waits .is in
+            let c : codeOf d t ≤ codeOf (waits .next) (getD task i 0) = waits .reached in
+            let s : getD task i 0 < 32 = fair .place in
+            let n : waits .next ≡ d = omega arith in
+            let e : getD task i 0 ≡ t = omega arith in
+            record {
+              run = found .run;
+              key-is = rw (n, e) at v;
+              task-is = e;
+              multiple = rw n at (waits .multiple);
+              fair = fair;
+            }
 
-        ending : divides (getD period i 0) d ≡ true
-        ending = next-divides d due (omega arith) (omega arith) ∙ eq-eqb d d refl
+        module _ {tree′ : List ℕ} {root′ : ℕ} (u : Raised tree size (size + i) (root + getD period i 0 * 2048) tree′ root′) where
+          leaf-here : getD tree′ (size + i) 0 ≡ root + getD period i 0 * 2048
+          leaf-here = u .leaves (size + i) (omega arith) ∙ getD-set-same tree (size + i) (root + getD period i 0 * 2048) 0 (omega (arith, g .waiting .whole .places, found .run, r .few, r .small))
 
-        best-is : getD best t 0 ≡ before (0 + t)
-        best-is = ap (λ (b : List ℕ). getD b t 0) (m .bests) ∙ getD-tab before 0 32 t 0 (fair .place)
+          leaf-other : (k : ℕ) → (k ≡ i → ⊥) → getD tree′ (size + k) 0 ≡ getD tree (size + k) 0
+          leaf-other k n = u .leaves (size + k) (omega arith) ∙ getD-set-other tree (size + i) (size + k) (root + getD period i 0 * 2048) 0 (λ e. n (omega arith))
 
-        here : v ≡ after (0 + t)
-        here =
-            ev ∙ ap (λ (b : ℕ). max b (suc (d - getD period i 0 + getD worst i 0))) best-is
-            ∙ sym (latest-more i (0 + t) ∙ rw (ending, zero-add t, eq-eqb t t refl))
+          -- each turn goes on to a later message
+          pub root-rises : root < root′
+          root-rises = which (le-or-lt (leaf .place) i) (le-or-lt i (leaf .place))
+            where
+              leaf : AtLeaf tree′ size (getD tree′ 1 0)
+              leaf = root-leaf (u .whole) (r .some)
 
-        elsewhere : (u : ℕ) → (u ≡ 0 + t → ⊥) → before u ≡ after u
-        elsewhere u ne =
-            sym (latest-more i u ∙ rw (ending, ne-eqb t u (λ e. ne (sym e ∙ sym (zero-add t)))) (max-zero (before u)))
+              is : getD tree′ (size + leaf .place) 0 ≡ root′
+              is = leaf .is ∙ sym (u .root-is)
 
-        done : (k : ℕ) → (k ≡ i) ⊎ (k < i) → Next (getD period k 0) (suc d) (getD (set next i x) k 0)
-        done k (inl e) =
-            let f : runs ≤ 64 = r .few in
-            let l : length next ≡ 64 = m .places in
-            rw (e, getD-set-same next i x 0 (omega arith), ex) (next-more due)
-        done k (inr l) = rw (getD-set-other next i k x 0 (λ e. omega arith)) (m .done k l)
+              other : (leaf .place ≡ i → ⊥) → root < root′
+              other n = below (le-or-lt runs (leaf .place))
+                where
+                  o : getD tree (size + leaf .place) 0 ≡ root′
+                  o = sym (leaf-other (leaf .place) n) ∙ is
 
-    pub met-ends : (cycle : ℕ) (next best : List ℕ) (i t b v x : ℕ) → Ready task period worst runs cycle d → MetAt next best i → i < runs → getD next i 0 ≡ d
-        → t ≡ getD task i 0 → b ≡ suc (d - getD period i 0 + getD worst i 0) → v ≡ max (getD best t 0) b → x ≡ d + getD period i 0
-        → MetAt (set next i x) (set best t v) (i + 1)
-    met-ends cycle next best i t b v x r m w h et eb ev ex =
-        rw et (met-raised cycle next best i v x r m w h (ev ∙ ap₂ (λ (u y : ℕ). max (getD best u 0) y) et eb) ex)
+                  v : root ≤ getD tree (size + leaf .place) 0
+                  v = rw (g .root-is) (root-under (g .waiting .whole) (leaf .place) (leaf .within))
 
-    -- a run that ends at d has begun its period by then
-    pub period-ended : (cycle : ℕ) (next best : List ℕ) (i : ℕ) → Ready task period worst runs cycle d → MetAt next best i → i < runs → getD next i 0 ≡ d → getD period i 0 ≤ d
-    period-ended cycle next best i r m w h = le-of-dvd (r .begun) (rw h at (m .left i (omega arith) w .multiple))
+                  below : (runs ≤ leaf .place) ⊎ (leaf .place < runs) → root < root′
+                  below (inl h) = let z : getD tree (size + leaf .place) 0 ≡ limitOf cycle = g .waiting .rest (leaf .place) h (leaf .within) in omega (arith, o, z, l, inside, short)
+                  below (inr h) = less (eq-or-lt-of-le v)
+                    where
+                      less : (root ≡ getD tree (size + leaf .place) 0) ⊎ (root < getD tree (size + leaf .place) 0) → root < root′
+                      less (inl e) = absurd (n (omega (arith, g .waiting .each (leaf .place) h .is, ending .key-is, e, leaf .within, found .run, r .few, r .small)))
+                      less (inr w) = omega (arith, o)
 
-    pub met-all : (next best : List ℕ) (i : ℕ) → MetAt next best i → runs ≤ i → (best ≡ latestOf (runsIn task period worst runs) d) × ((length next ≡ 64) × Due period next runs (suc d))
-    unfolding latestOf
-    met-all next best i m h =
-        let e : i ≡ runs = let w : i ≤ runs = m .within in omega arith in
-        (rw e at (m .bests), (m .places, rw e at (m .done)))
+              which : (leaf .place ≤ i) ⊎ (i < leaf .place) → (i ≤ leaf .place) ⊎ (leaf .place < i) → root < root′
+              which (inl a) (inl b) =
+                  let e : leaf .place ≡ i = omega arith in
+                  let y : getD tree′ (size + i) 0 ≡ root′ = rw e at is in
+                  omega (arith, y, leaf-here, fair .positive)
+              which (inl a) (inr b) = other (λ e. omega arith)
+              which (inr a) (inl b) = other (λ e. omega arith)
+              which (inr a) (inr b) = other (λ e. omega arith)
+
+          pub taking-turn : {b best′ : ℕ} → b ≡ suc (d - getD period i 0 + getD worst i 0) → best′ ≡ max best b → Taking tree′ root′ best′
+          unfolding runsIn
+          taking-turn {b} {best′} eb em =
+              record {
+                waiting =
+                    record {
+                      whole = u .whole;
+                      each = λ k h. each k h (le-or-lt k i) (le-or-lt i k);
+                      rest = λ k h a. leaf-other k (λ e. omega (arith, found .run)) ∙ g .waiting .rest k h a;
+                    };
+                root-is = u .root-is;
+                counted = λ k h a. counted k h a (le-or-lt k i) (le-or-lt i k);
+                under = omega (arith, g .under, top, eb, em, is-end);
+              }
+            where
+              is-end : ends (runAt task period worst i) d t ≡ suc (d - getD period i 0 + getD worst i 0)
+              is-end = ends-here i d t (ending .multiple) (ending .task-is)
+
+              top : ends (runAt task period worst i) d t ≤ latest (tab (runAt task period worst) 0 runs) d t
+              top = latest-over d t 0 runs i (omega arith) (omega (arith, found .run))
+
+              again : Waits task period (codeOf d t) (suc (codeOf d t)) i (getD tree′ (size + i) 0)
+              again =
+                  record {
+                    next = d + getD period i 0;
+                    is = omega (arith, leaf-here, ending .key-is, ending .task-is);
+                    multiple = dvd-add (getD period i 0) (ending .multiple) (dvd-refl (getD period i 0));
+                    reached = omega (arith, ending .task-is);
+                    first = omega (arith, ending .task-is);
+                  }
+
+              as-before : (k : ℕ) → k < runs → (k ≡ i → ⊥) → Waits task period (codeOf d t) (suc (codeOf d t)) k (getD tree′ (size + k) 0)
+              as-before k h n = rw (leaf-other k n) (g .waiting .each k h)
+
+              each : (k : ℕ) → k < runs → (k ≤ i) ⊎ (i < k) → (i ≤ k) ⊎ (k < i) → Waits task period (codeOf d t) (suc (codeOf d t)) k (getD tree′ (size + k) 0)
+              each k h (inl a) (inl c) = let e : k ≡ i = omega arith in rw e again
+              each k h (inl a) (inr c) = as-before k h (λ e. omega arith)
+              each k h (inr a) c = as-before k h (λ e. omega arith)
+
+              still : (k : ℕ) → k < runs → suc (codeOf d t) * 64 ≤ getD tree′ (size + k) 0 → (k ≡ i → ⊥) → ends (runAt task period worst k) d t ≤ best′
+              still k h a n =
+                  let z : ends (runAt task period worst k) d t ≤ best = g .counted k h (rw (leaf-other k n) at a) in
+                  omega arith
+
+              counted : (k : ℕ) → k < runs → suc (codeOf d t) * 64 ≤ getD tree′ (size + k) 0 → (k ≤ i) ⊎ (i < k) → (i ≤ k) ⊎ (k < i) → ends (runAt task period worst k) d t ≤ best′
+              counted k h a (inl x) (inl y) = let e : k ≡ i = omega arith in rw e (omega (arith, is-end, eb, em))
+              counted k h a (inl x) (inr y) = still k h a (λ e. omega arith)
+              counted k h a (inr x) y = still k h a (λ e. omega arith)
+
+      pub taking-end : {tree : List ℕ} {root best : ℕ} → Ready task period worst runs size cycle → Taking tree root best → suc (codeOf d t) * 64 ≤ root
+          → CellMet task period worst runs size cycle d t tree best root
+      unfolding runsIn
+      taking-end {tree} {root} {best} r g l =
+          record {
+            is = omega (arith, g .under, all-counted);
+            waiting = record { whole = g .waiting .whole; each = each; rest = g .waiting .rest };
+            root-is = g .root-is;
+            past = l;
+          }
+        where
+          later : (i : ℕ) → i < runs → suc (codeOf d t) * 64 ≤ getD tree (size + i) 0
+          later i h =
+              let u : getD tree 1 0 ≤ getD tree (size + i) 0 = root-under (g .waiting .whole) i (omega (arith, r .few)) in
+              omega (arith, u, g .root-is)
+
+          all-counted : latest (tab (runAt task period worst) 0 runs) d t ≤ best
+          all-counted = latest-under d t best 0 runs (λ i a b. g .counted i (omega arith) (later i (omega arith)))
+
+          each : (i : ℕ) → i < runs → Waits task period (suc (codeOf d t)) (suc (codeOf d t)) i (getD tree (size + i) 0)
+          each i h =
+              let w = g .waiting .each i h in
+              let v : getD tree (size + i) 0 ≡ keyOf (w .next) (getD task i 0) i = w .is in
+              let u : suc (codeOf d t) * 64 ≤ getD tree (size + i) 0 = later i h in
+              record { next = w .next; is = w .is; multiple = w .multiple; reached = omega (arith, u, v, r .few, r .small); first = w .first }

@@ -1,18 +1,17 @@
--- Frames stored one after the other: nothing, one, one that has no place left, a row behind a row; and rows put together.
+-- Frames stored one after the other: nothing, one, one that has no place left, frames behind frames; and the ways of a place.
 use mathlib.Core.Path.{_≡_, refl, sym, ap, ap₂, _∙_}
-use mathlib.Core.List.{List, [], _∷_, _++_, map, append-assoc, append-nil}
+use mathlib.Core.List.{List, [], _∷_, _++_, map}
 use mathlib.Core.Logic.{_⊎_, inl, inr}
-use native.Mathlib.Nat.{zero-add}
 use native.Mathlib.Omega.{arith}
-use lib.ListN.{getD, length, set, take, length-append, length-map}
+use lib.ListN.{length, set, take, length-append, length-map}
 use lib.Seq.{sets, take-nil, take-all, take-append-le, take-append-add}
 use Prim.Native.Nat.{ℕ, zero, suc, _+_, _-_, _≤_, _<_, min}
 use Rattle.laws.proofs.Lists.{map-append}
 use Rattle.laws.proofs.Laid.{sets-append}
 use Rattle.laws.proofs.Orders.{le-or-lt}
 use Rattle.rules.specs.Frames.{Frame}
-use Rattle.rules.proofs.Grid.{frame, cell, row}
-use Rattle.frames.specs.Walk.{most, placeOf, frameAt, framesAt, taskOf, releaseOf, deadlineOf, stored, Stored, Derived}
+use Rattle.rules.proofs.Grid.{frame, cell}
+use Rattle.frames.specs.Walk.{most, frameAt, taskOf, releaseOf, deadlineOf, stored, Stored, Derived}
 
 -- ---- one number of each frame
 
@@ -120,22 +119,6 @@ derived {n = n} {fs} a =
       count = let e : n ≡ min (suc most) (0 + length fs) = a .count in omega arith;
     }
 
--- ---- rows
-
-pub row-append : (f : ℕ → ℕ) (d t j k : ℕ) → row f d t (j + k) ≡ row f d t j ++ row f d (t + j) k
-row-append f d t zero k = let p : zero + k ≡ k = omega arith in let q : t + zero ≡ t = omega arith in rw (p, q)
-row-append f d t (suc j) k =
-    let p : suc j + k ≡ suc (j + k) = omega arith in
-    let q : t + suc j ≡ suc t + j = omega arith in
-    rw (p, q) (ap (λ (l : List Frame). cell t d (f t) ++ l) (row-append f d (suc t) j k) ∙ sym (append-assoc (cell t d (f t)) (row f d (suc t) j) (row f d (suc t + j) k)))
-
-pub row-more : (f : ℕ → ℕ) (d t : ℕ) → row f d 0 (t + 1) ≡ row f d 0 t ++ cell t d (f t)
-row-more f d t =
-    row-append f d 0 t 1 ∙ ap (λ (l : List Frame). row f d 0 t ++ l) (append-nil (cell (0 + t) d (f (0 + t))) ∙ ap (λ (u : ℕ). cell u d (f u)) (zero-add t))
-
-pub row-rest : (f : ℕ → ℕ) (d t : ℕ) → t ≤ 32 → row f d 0 32 ≡ row f d 0 t ++ row f d (0 + t) (32 - t)
-row-rest f d t h = let e : 32 ≡ t + (32 - t) = omega arith in ap (row f d 0) e ∙ row-append f d 0 t (32 - t)
-
 -- ---- the ways of a place
 
 module _ (tasks releases deadlines : List ℕ) (t d b n : ℕ) where
@@ -159,36 +142,3 @@ module _ (tasks releases deadlines : List ℕ) (t d b n : ℕ) where
       go : (b : ℕ) → (b ≡ 0 → ⊥) → Stored tasks releases deadlines n (cell t d b) (set tasks n u) (set releases n (b - 1)) (set deadlines n d) (n + 1)
       go zero h = absurd (h refl)
       go (suc r) h = let o : suc r - 1 ≡ r = omega arith in rw (q, o) (stored-one tasks releases deadlines n (frame t r d) (omega arith))
-
--- ---- the turns of a row
-
-module _ (tasks₀ releases₀ deadlines₀ best : List ℕ) (d count : ℕ) where
-  -- the places below t are stored
-  pub record Emitted (tasks releases deadlines : List ℕ) (n t : ℕ) : Type 0 where
-    pub within : t ≤ 32
-    pub room : n ≤ most
-    pub so-far : Stored tasks₀ releases₀ deadlines₀ count (row (placeOf best) d 0 t) tasks releases deadlines n
-
-  pub emitted-none : count ≤ most → Emitted tasks₀ releases₀ deadlines₀ count 0
-  emitted-none h =
-      record { within = omega arith; room = h; so-far = stored-nothing tasks₀ releases₀ deadlines₀ count (omega arith) }
-
-  emitted-turn : {tasks releases deadlines tasks′ releases′ deadlines′ : List ℕ} {n n′ t : ℕ} → Emitted tasks releases deadlines n t
-      → Stored tasks releases deadlines n (frameAt t d (getD best t 0)) tasks′ releases′ deadlines′ n′
-      → Stored tasks₀ releases₀ deadlines₀ count (row (placeOf best) d 0 (t + 1)) tasks′ releases′ deadlines′ n′
-  unfolding frameAt
-  emitted-turn {t = t} e s = rw (row-more (placeOf best) d t) (stored-then (e .so-far) s)
-
-  pub emitted-more : {tasks releases deadlines tasks′ releases′ deadlines′ : List ℕ} {n n′ t : ℕ} → Emitted tasks releases deadlines n t
-      → Stored tasks releases deadlines n (frameAt t d (getD best t 0)) tasks′ releases′ deadlines′ n′ → t < 32 → n′ ≤ most → Emitted tasks′ releases′ deadlines′ n′ (t + 1)
-  emitted-more e s h w = record { within = omega arith; room = w; so-far = emitted-turn e s }
-
-  pub emitted-stop : {tasks releases deadlines tasks′ releases′ deadlines′ : List ℕ} {n n′ t : ℕ} → Emitted tasks releases deadlines n t
-      → Stored tasks releases deadlines n (frameAt t d (getD best t 0)) tasks′ releases′ deadlines′ n′ → t < 32 → most < n′ → Stored tasks₀ releases₀ deadlines₀ count (framesAt best d) tasks′ releases′ deadlines′ n′
-  unfolding framesAt
-  emitted-stop {t = t} e s h w =
-      rw (row-rest (placeOf best) d (t + 1) (omega arith)) (stored-stop (row (placeOf best) d (0 + (t + 1)) (32 - (t + 1))) (emitted-turn e s) w)
-
-  pub emitted-all : {tasks releases deadlines : List ℕ} {n t : ℕ} → Emitted tasks releases deadlines n t → 32 ≤ t → Stored tasks₀ releases₀ deadlines₀ count (framesAt best d) tasks releases deadlines n
-  unfolding framesAt
-  emitted-all {t = t} e h = let w : t ≤ 32 = e .within in let q : t ≡ 32 = omega arith in rw q at (e .so-far)

@@ -1,48 +1,21 @@
--- The walk from deadline to deadline: the least of the next ones, and what the walk keeps, with its start, a turn and its two ends.
-use mathlib.Core.Path.{_≡_, refl, sym, ap, _∙_}
-use mathlib.Core.Bool.{true, false}
-use mathlib.Core.List.{List, [], _∷_, _++_, append-nil}
-use mathlib.Core.Logic.{_⊎_, inl, inr}
-use native.Mathlib.Nat.{not-suc-le-zero, le-of-suc-le-suc, eq-or-lt-of-le, zero-add}
+-- The walk from message to message: the places of the frames' order in one row, and what the walk keeps, with its start, a turn and its
+-- two ends.
+use mathlib.Core.Path.{_≡_, refl, sym, ap, ap₂, _∙_}
+use mathlib.Core.Bool.{true}
+use mathlib.Core.List.{List, [], _∷_, _++_, append-assoc, append-nil}
 use native.Mathlib.Omega.{arith}
-use borrow.Author.Tests.{ne-eqb, lt-ltb}
-use lib.ListN.{getD, length}
-use Prim.Native.Nat.{ℕ, zero, suc, _+_, _-_, _≤_, _<_, min}
-use Rattle.laws.specs.Lists.{all, tab}
-use Rattle.laws.specs.Numbers.{divides}
-use Rattle.laws.proofs.Lists.{both-left, both-right, getD-tab}
+use borrow.Author.Tests.{lt-ltb}
+use lib.ListN.{getD}
+use Prim.Native.Nat.{ℕ, zero, suc, _+_, _-_, _*_, _/_, _%_, _≤_, _<_}
+use Rattle.laws.specs.Lists.{all}
+use Rattle.laws.proofs.Lists.{both-left, both-right}
 use Rattle.rules.specs.Frames.{Run, Frame, messages, framesOf}
-use Rattle.rules.proofs.Grid.{row, row-same, grid, grid-nothing, grid-append, latest, below, frames-grid, next-start, next-on, next-divides}
-use Rattle.frames.specs.Walk.{most, runAt, runsIn, isFair, Due, leastOf, latestOf, placeOf, framesAt, Stored, Derived}
-use Rattle.frames.proofs.Meeting.{fair-run, fair-at}
+use Rattle.rules.proofs.Grid.{cell, row, grid, latest, below, frames-grid}
+use Rattle.frames.specs.Tree.{Grown}
+use Rattle.frames.specs.Walk.{most, runsIn, isFair, Ready, codeOf, keyOf, limitOf, Planted, Waits, Waiting, CellMet, frameAt, Stored, Derived}
+use Rattle.frames.proofs.Trees.{root-under}
+use Rattle.frames.proofs.Meeting.{fair-run, at-root, waiting-start, nothing-before}
 use Rattle.frames.proofs.Storing.{stored-nothing, stored-then, stored-stop, derived}
-
--- ---- the least of the next deadlines
-
-least-limit : (next : List ℕ) (limit n : ℕ) → leastOf next limit n ≤ limit
-least-limit next limit zero = omega arith
-least-limit next limit (suc n) = let h : leastOf next limit n ≤ limit = least-limit next limit n in omega arith
-
-least-under : (next : List ℕ) (limit n i : ℕ) → i < n → leastOf next limit n ≤ getD next i 0
-least-under next limit zero i h = absurd (not-suc-le-zero h)
-least-under next limit (suc n) i h = which (least-under next limit n i) (eq-or-lt-of-le (le-of-suc-le-suc h))
-  where
-    which : (i < n → leastOf next limit n ≤ getD next i 0) → (i ≡ n) ⊎ (i < n) → min (leastOf next limit n) (getD next n 0) ≤ getD next i 0
-    which rest (inl e) = rw e (omega arith)
-    which rest (inr l) = let w : leastOf next limit n ≤ getD next i 0 = rest l in omega arith
-
-least-over : (next : List ℕ) (limit n x : ℕ) → x ≤ limit → ((i : ℕ) → i < n → x ≤ getD next i 0) → x ≤ leastOf next limit n
-least-over next limit zero x h w = h
-least-over next limit (suc n) x h w =
-    let a : x ≤ leastOf next limit n = least-over next limit n x h (λ i l. w i (omega arith)) in
-    let b : x ≤ getD next n 0 = w n (omega arith) in
-    omega arith
-
--- each turn goes on to a later deadline
-pub walk-less : (period next : List ℕ) (runs cycle d e : ℕ) → d ≤ cycle → Due period next runs (suc d) → e ≡ leastOf next (cycle + 1) runs → suc cycle - e < suc cycle - d
-walk-less period next runs cycle d e h due q =
-    let l : suc d ≤ e = rw q (least-over next (cycle + 1) runs (suc d) (omega arith) (λ i v. due i v .reached)) in
-    omega arith
 
 -- ---- fair runs are of tasks below 32
 
@@ -52,117 +25,190 @@ fair-below cycle (r ∷ rs) h =
     let f = fair-run cycle r (both-left (isFair cycle r) (all (isFair cycle) rs) h) in
     rw (lt-ltb (r .task) 32 (f .0), fair-below cycle rs (both-right (isFair cycle r) (all (isFair cycle) rs) h))
 
--- ---- rows of the grid
+-- ---- the grid as one row of places
 
-grid-row : (f : ℕ → ℕ → ℕ) (n d : ℕ) → 0 < d → grid f n 1 d ≡ grid f n 1 (d - 1) ++ row (f d) d 0 n
-grid-row f n d p =
-    let e : d ≡ (d - 1) + 1 = omega arith in
-    let u : 1 + (d - 1) ≡ d = omega arith in
-    ap (grid f n 1) e ∙ grid-append f n 1 (d - 1) 1
-    ∙ ap (λ (l : List Frame). grid f n 1 (d - 1) ++ l) (append-nil (row (f (1 + (d - 1))) (1 + (d - 1)) 0 n) ∙ ap (λ (k : ℕ). row (f k) k 0 n) u)
+module _ (f : ℕ → ℕ → ℕ) where
+  -- the frame of a place, and the frames of the places lo, .., lo + n - 1
+  abbrev place : ℕ → List Frame
+  place y = cell (y % 32) (y / 32) (f (y / 32) (y % 32))
 
-row-tab : (f : ℕ → ℕ) (n d : ℕ) → row (placeOf (tab f 0 n)) d 0 n ≡ row f d 0 n
-row-tab f n d = row-same (placeOf (tab f 0 n)) f d 0 n (λ u a b. getD-tab f 0 n u 0 (omega arith) ∙ ap f (zero-add u))
+  abbrev places : ℕ → ℕ → List Frame
+  places lo zero = []
+  places lo (suc n) = place lo ++ places (suc lo) n
 
-module _ (task period worst : List ℕ) where
-  -- a deadline that no period divides
-  none-ends : (lo n d t : ℕ) → ((i : ℕ) → i < lo + n → divides (getD period i 0) d ≡ false) → latest (tab (runAt task period worst) lo n) d t ≡ 0
-  unfolding runAt
-  none-ends lo zero d t h = refl
-  none-ends lo (suc n) d t h = rw (h lo (omega arith), none-ends (suc lo) n d t (λ i w. h i (omega arith)))
+  place-is : (d t y : ℕ) → t < 32 → y ≡ codeOf d t → place y ≡ cell t d (f d t)
+  place-is d t y h e =
+      let p : y / 32 ≡ d = omega arith in
+      let q : y % 32 ≡ t = omega arith in
+      rw (p, q)
 
-  -- no run ends between one deadline and the least of the next ones
-  between : (next : List ℕ) (runs d e : ℕ) → Due period next runs d → ((i : ℕ) → i < runs → e ≤ getD next i 0) → (y t : ℕ) → d ≤ y → y < e → latest (runsIn task period worst runs) y t ≡ 0
-  unfolding runsIn
-  between next runs d e due h y t a b =
-      none-ends 0 runs y t
-      (λ i w.
-      let v : i < runs = omega arith in
-      let l : e ≤ getD next i 0 = h i v in
-      next-divides y (due i v) a (omega arith) ∙ ne-eqb (getD next i 0) y (λ q. omega arith))
+  places-append : (lo j k : ℕ) → places lo (j + k) ≡ places lo j ++ places (lo + j) k
+  places-append lo zero k =
+      let p : zero + k ≡ k = omega arith in
+      let q : lo + zero ≡ lo = omega arith in
+      rw (p, q)
+  places-append lo (suc j) k =
+      let p : suc j + k ≡ suc (j + k) = omega arith in
+      let q : lo + suc j ≡ suc lo + j = omega arith in
+      rw (p, q) (ap (λ (l : List Frame). place lo ++ l) (places-append (suc lo) j k) ∙ sym (append-assoc (place lo) (places (suc lo) j) (places (suc lo + j) k)))
 
-  module _ (runs : ℕ) where
-    -- the frames at the deadlines up to k
-    abbrev pub framesTo : ℕ → List Frame
-    framesTo k = grid (latest (runsIn task period worst runs)) 32 1 k
+  places-nothing : (lo n : ℕ) → ((d t : ℕ) → t < 32 → lo ≤ codeOf d t → codeOf d t < lo + n → f d t ≡ 0) → places lo n ≡ []
+  places-nothing lo zero h = refl
+  places-nothing lo (suc n) h =
+      rw (h (lo / 32) (lo % 32) (omega arith) (omega arith) (omega arith)) (places-nothing (suc lo) n (λ d t a b c. h d t a (omega arith) (omega arith)))
 
-    -- no deadline lies between d and the least of the next ones
-    skipped : (next : List ℕ) (d e : ℕ) → 0 < d → d ≤ e → Due period next runs d → ((i : ℕ) → i < runs → e ≤ getD next i 0) → framesTo (e - 1) ≡ framesTo (d - 1)
-    skipped next d e p h due w =
-        let j : e - 1 ≡ (d - 1) + (e - d) = omega arith in
-        ap framesTo j ∙ grid-append (latest (runsIn task period worst runs)) 32 1 (d - 1) (e - d)
-        ∙ ap (λ (l : List Frame). framesTo (d - 1) ++ l)
-        (grid-nothing (latest (runsIn task period worst runs)) 32 (1 + (d - 1)) (e - d) (λ y t a b c. between next runs d e due w y t (omega arith) (omega arith)))
-        ∙ append-nil (framesTo (d - 1))
+  row-places : (d t n : ℕ) → t + n ≤ 32 → row (f d) d t n ≡ places (codeOf d t) n
+  row-places d t zero h = refl
+  row-places d t (suc n) h =
+      let e : codeOf d (suc t) ≡ suc (codeOf d t) = omega arith in
+      ap₂ (λ (a b : List Frame). a ++ b) (sym (place-is d t (codeOf d t) (omega arith) refl)) (row-places d (suc t) n (omega arith) ∙ ap (λ (y : ℕ). places y n) e)
 
-    -- the row of d behind what stands before d
-    with-row : (d : ℕ) (best : List ℕ) → 0 < d → best ≡ latestOf (runsIn task period worst runs) d → framesTo d ≡ framesTo (d - 1) ++ framesAt best d
-    unfolding framesAt latestOf
-    with-row d best p e = grid-row (latest (runsIn task period worst runs)) 32 d p ∙ ap (λ (l : List Frame). framesTo (d - 1) ++ l) (sym (rw e (row-tab (latest (runsIn task period worst runs) d) 32 d)))
+  grid-places : (d k : ℕ) → grid f 32 d k ≡ places (d * 32) (k * 32)
+  grid-places d zero = refl
+  grid-places d (suc k) =
+      let a : codeOf d 0 ≡ d * 32 = omega arith in
+      let b : suc d * 32 ≡ d * 32 + 32 = omega arith in
+      let c : suc k * 32 ≡ 32 + k * 32 = omega arith in
+      ap₂ (λ (l m : List Frame). l ++ m) (row-places d 0 32 (omega arith) ∙ ap (λ (y : ℕ). places y 32) a)
+      (grid-places (suc d) k ∙ ap (λ (y : ℕ). places y (k * 32)) b)
+      ∙ sym (ap (places (d * 32)) c ∙ places-append (d * 32) 32 (k * 32))
 
-    module _ (cycle : ℕ) (tasks₀ releases₀ deadlines₀ : List ℕ) where
-      -- the frames at the deadlines before d are stored, and d is the least of the next deadlines
-      pub record Walked (tasks releases deadlines next : List ℕ) (count d : ℕ) : Type 0 where
-        pub begun : 0 < d
-        pub room : count ≤ most
-        pub within : d ≤ suc cycle
-        pub places : length next ≡ 64
-        pub due : Due period next runs d
-        pub so-far : Stored tasks₀ releases₀ deadlines₀ 0 (framesTo (d - 1)) tasks releases deadlines count
+module _ (task period worst : List ℕ) (runs size cycle : ℕ) where
+  pub ready : (runs ≤ size) × (0 < size) × (size ≤ 64) → cycle ≤ 1000000 → all (isFair cycle) (runsIn task period worst runs) ≡ true → Ready task period worst runs size cycle
+  ready h s f = record { few = h .0; some = h .1; small = h .2; short = s; fair = f }
 
-      all-frames : all (isFair cycle) (runsIn task period worst runs) ≡ true → framesOf (messages cycle (runsIn task period worst runs)) ≡ framesTo cycle
-      all-frames fair = frames-grid cycle 32 (runsIn task period worst runs) (fair-below cycle (runsIn task period worst runs) fair)
+  -- the frames of the places before k
+  abbrev pub framesTo : ℕ → List Frame
+  framesTo k = places (latest (runsIn task period worst runs)) 32 (k - 32)
 
-      -- the walk goes on at the least of the next deadlines
-      goes-on : (tasks releases deadlines next : List ℕ) (count d e : ℕ) → 0 < d → d ≤ suc cycle → count ≤ most → length next ≡ 64 → Due period next runs d
-          → Stored tasks₀ releases₀ deadlines₀ 0 (framesTo (d - 1)) tasks releases deadlines count → e ≡ leastOf next (cycle + 1) runs
-          → Walked tasks releases deadlines next count e
-      goes-on tasks releases deadlines next count d e p w r l due s q =
-          let limit : e ≤ cycle + 1 = rw q (least-limit next (cycle + 1) runs) in
-          let reached : d ≤ e = rw q (least-over next (cycle + 1) runs d (omega arith) (λ i v. due i v .reached)) in
-          let under : (i : ℕ) → i < runs → e ≤ getD next i 0 = λ i v. rw q (least-under next (cycle + 1) runs i v) in
+  framesTo-more : (j k : ℕ) → 32 ≤ j → j ≤ k → framesTo k ≡ framesTo j ++ places (latest (runsIn task period worst runs)) j (k - j)
+  framesTo-more j k h l =
+      let a : k - 32 ≡ (j - 32) + (k - j) = omega arith in
+      let b : 32 + (j - 32) ≡ j = omega arith in
+      ap (places (latest (runsIn task period worst runs)) 32) a ∙ places-append (latest (runsIn task period worst runs)) 32 (j - 32) (k - j)
+      ∙ ap (λ (y : ℕ). framesTo j ++ places (latest (runsIn task period worst runs)) y (k - j)) b
+
+  all-frames : all (isFair cycle) (runsIn task period worst runs) ≡ true → framesOf (messages cycle (runsIn task period worst runs)) ≡ framesTo ((cycle + 1) * 32)
+  all-frames fair =
+      let e : cycle * 32 ≡ (cycle + 1) * 32 - 32 = omega arith in
+      frames-grid cycle 32 (runsIn task period worst runs) (fair-below cycle (runsIn task period worst runs) fair)
+      ∙ grid-places (latest (runsIn task period worst runs)) 1 cycle ∙ ap (places (latest (runsIn task period worst runs)) 32) e
+
+  -- no frame stands between a place that was reached and one that the root does not come before
+  skipped : {lo : ℕ} {tree : List ℕ} (k : ℕ) → Ready task period worst runs size cycle → Waiting task period runs size cycle lo lo tree → 32 ≤ lo → lo ≤ k → k * 64 ≤ getD tree 1 0 → framesTo k ≡ framesTo lo
+  skipped {lo} {tree} k r w h l u =
+      framesTo-more lo k h l
+      ∙ ap (λ (s : List Frame). framesTo lo ++ s)
+      (places-nothing (latest (runsIn task period worst runs)) lo (k - lo) (λ d t a b c. nothing-before task period worst runs size cycle d t r w b (omega arith)))
+      ∙ append-nil (framesTo lo)
+
+  -- and behind it stands the frame that the next place holds
+  with-place : (d t best : ℕ) → 0 < d → t < 32 → best ≡ latest (runsIn task period worst runs) d t → framesTo (suc (codeOf d t)) ≡ framesTo (codeOf d t) ++ frameAt t d best
+  unfolding frameAt
+  with-place d t best p h e =
+      let o : suc (codeOf d t) - codeOf d t ≡ 1 = omega arith in
+      framesTo-more (codeOf d t) (suc (codeOf d t)) (omega arith) (omega arith)
+      ∙ ap (λ (s : List Frame). framesTo (codeOf d t) ++ s)
+      (ap (places (latest (runsIn task period worst runs)) (codeOf d t)) o ∙ append-nil (place (latest (runsIn task period worst runs)) (codeOf d t))
+      ∙ place-is (latest (runsIn task period worst runs)) d t (codeOf d t) h refl ∙ ap (cell t d) (sym e))
+
+  -- ---- the walk
+
+  module _ (tasks₀ releases₀ deadlines₀ : List ℕ) where
+    -- the frames before the place `at` are stored, and each run waits with its first message from there on
+    pub record Walked (tasks releases deadlines tree : List ℕ) (root count : ℕ) : Type 0 where
+      pub at : ℕ
+      pub begun : 32 ≤ at
+      pub within : at ≤ (cycle + 1) * 32
+      pub waiting : Waiting task period runs size cycle at at tree
+      pub root-is : root ≡ getD tree 1 0
+      pub room : count ≤ most
+      pub so-far : Stored tasks₀ releases₀ deadlines₀ 0 (framesTo at) tasks releases deadlines count
+
+    pub walked-start : {old tree : List ℕ} {root : ℕ} → Ready task period worst runs size cycle → Planted task period runs size cycle old → Grown old size tree → root ≡ getD tree 1 0
+        → Walked tasks₀ releases₀ deadlines₀ tree root 0
+    walked-start r p g e =
+        record {
+          at = 32;
+          begun = omega arith;
+          within = omega arith;
+          waiting = waiting-start task period worst runs size cycle r p g;
+          root-is = e;
+          room = omega arith;
+          so-far = stored-nothing tasks₀ releases₀ deadlines₀ 0 (omega arith);
+        }
+
+    -- the place of the message at the root
+    pub record Place (tree : List ℕ) (root d t : ℕ) : Type 0 where
+      pub begun : 0 < d
+      pub inside : d ≤ cycle
+      pub short : t < 32
+      pub waiting : Waiting task period runs size cycle (codeOf d t) (codeOf d t) tree
+
+    module _ {tasks releases deadlines tree : List ℕ} {root count d t : ℕ} (r : Ready task period worst runs size cycle) (w : Walked tasks releases deadlines tree root count) (l : root < limitOf cycle)
+        (ed : d ≡ root / 2048) (et : t ≡ root / 64 % 32) where
+      code-is : codeOf d t ≡ root / 64
+      code-is = omega arith
+
+      reached : w .at ≤ codeOf d t
+      reached =
+          let o = at-root task period worst runs size cycle r (w .waiting) (w .root-is) l refl in
+          let v = w .waiting .each (root % 64) (o .run) in
+          let k : root ≡ keyOf (v .next) (getD task (root % 64) 0) (root % 64) = sym (o .here) ∙ v .is in
+          omega (arith, v .reached, k, code-is)
+
+      pub place-of : Place tree root d t
+      place-of =
           record {
-            begun = omega arith;
-            room = r;
-            within = omega arith;
-            places = l;
-            due = λ i v. next-on e (due i v) reached (under i v);
-            so-far = rw (skipped next d e p reached due under) s;
+            begun = omega (arith, reached, w .begun);
+            inside = omega arith;
+            short = omega arith;
+            waiting = record { whole = w .waiting .whole; each = each; rest = w .waiting .rest };
           }
+        where
+          each : (i : ℕ) → i < runs → Waits task period (codeOf d t) (codeOf d t) i (getD tree (size + i) 0)
+          each i h =
+              let v = w .waiting .each i h in
+              let u : getD tree 1 0 ≤ getD tree (size + i) 0 = root-under (w .waiting .whole) i (omega (arith, r .few)) in
+              let y : getD tree (size + i) 0 ≡ keyOf (v .next) (getD task i 0) i = v .is in
+              record {
+                next = v .next;
+                is = v .is;
+                multiple = v .multiple;
+                reached = omega (arith, u, y, code-is, w .root-is, h, r .few, r .small);
+                first = omega (arith, v .first, reached);
+              }
 
-      pub walked-start : (next : List ℕ) (e : ℕ) → all (isFair cycle) (runsIn task period worst runs) ≡ true → next ≡ period → length next ≡ 64 → e ≡ leastOf next (cycle + 1) runs
-          → Walked tasks₀ releases₀ deadlines₀ next 0 e
-      walked-start next e fair n l q =
-          goes-on tasks₀ releases₀ deadlines₀ next 0 1 e (omega arith) (omega arith) (omega arith) l
-          (λ i v. rw n (next-start (getD period i 0) (fair-at task period worst cycle runs i fair v .positive)))
-          (stored-nothing tasks₀ releases₀ deadlines₀ 0 (omega arith)) q
+      module _ {tasks′ releases′ deadlines′ tree′ : List ℕ} {best root′ count′ : ℕ} (m : CellMet task period worst runs size cycle d t tree′ best root′)
+          (s : Stored tasks releases deadlines count (frameAt t d best) tasks′ releases′ deadlines′ count′) where
+        turned : Stored tasks₀ releases₀ deadlines₀ 0 (framesTo (suc (codeOf d t))) tasks′ releases′ deadlines′ count′
+        turned =
+            let e : framesTo (codeOf d t) ≡ framesTo (w .at) = skipped (codeOf d t) r (w .waiting) (w .begun) reached (omega (arith, code-is, w .root-is)) in
+            rw (with-place d t best (place-of .begun) (place-of .short) (m .is), e) (stored-then (w .so-far) s)
 
-      turned : {tasks releases deadlines next tasks′ releases′ deadlines′ best : List ℕ} {count count′ d : ℕ} → Walked tasks releases deadlines next count d
-          → best ≡ latestOf (runsIn task period worst runs) d → Stored tasks releases deadlines count (framesAt best d) tasks′ releases′ deadlines′ count′
-          → Stored tasks₀ releases₀ deadlines₀ 0 (framesTo d) tasks′ releases′ deadlines′ count′
-      turned {best = best} {d = d} w b s = rw (with-row d best (w .begun) b) (stored-then (w .so-far) s)
+        pub walked-turn : count′ ≤ most → Walked tasks′ releases′ deadlines′ tree′ root′ count′
+        walked-turn h =
+            record {
+              at = suc (codeOf d t);
+              begun = omega (arith, place-of .begun);
+              within = omega (arith, place-of .inside, place-of .short);
+              waiting = m .waiting;
+              root-is = m .root-is;
+              room = h;
+              so-far = turned;
+            }
 
-      pub walked-turn : {tasks releases deadlines next tasks′ releases′ deadlines′ next′ best : List ℕ} {count count′ d e : ℕ} → Walked tasks releases deadlines next count d
-          → best ≡ latestOf (runsIn task period worst runs) d → Stored tasks releases deadlines count (framesAt best d) tasks′ releases′ deadlines′ count′
-          → d ≤ cycle → count′ ≤ most → length next′ ≡ 64 → Due period next′ runs (suc d) → e ≡ leastOf next′ (cycle + 1) runs
-          → Walked tasks′ releases′ deadlines′ next′ count′ e
-      walked-turn {tasks′ = tasks′} {releases′} {deadlines′} {next′} {best} {count′ = count′} {d} {e} w b s h r l due q =
-          let o : suc d - 1 ≡ d = omega arith in
-          goes-on tasks′ releases′ deadlines′ next′ count′ (suc d) e (omega arith) (omega arith) r l due (rw o (turned w b s)) q
+        -- each turn goes on to a later message
+        pub walk-less : limitOf cycle - root′ < limitOf cycle - root
+        walk-less = omega (arith, m .past, code-is)
 
-      pub walked-stop : {tasks releases deadlines next tasks′ releases′ deadlines′ best : List ℕ} {count count′ d : ℕ} → all (isFair cycle) (runsIn task period worst runs) ≡ true
-          → Walked tasks releases deadlines next count d
-          → best ≡ latestOf (runsIn task period worst runs) d → Stored tasks releases deadlines count (framesAt best d) tasks′ releases′ deadlines′ count′
-          → d ≤ cycle → most < count′ → Derived tasks₀ releases₀ deadlines₀ (framesOf (messages cycle (runsIn task period worst runs))) tasks′ releases′ deadlines′ count′
-      walked-stop {d = d} fair w b s h full =
-          let j : cycle ≡ d + (cycle - d) = omega arith in
-          derived
-          (rw (all-frames fair ∙ ap framesTo j ∙ grid-append (latest (runsIn task period worst runs)) 32 1 d (cycle - d))
-          (stored-stop (grid (latest (runsIn task period worst runs)) 32 (1 + d) (cycle - d)) (turned w b s) full))
+        pub walked-stop : most < count′ → Derived tasks₀ releases₀ deadlines₀ (framesOf (messages cycle (runsIn task period worst runs))) tasks′ releases′ deadlines′ count′
+        walked-stop full =
+            derived
+            (rw (all-frames (r .fair) ∙ framesTo-more (suc (codeOf d t)) ((cycle + 1) * 32) (omega (arith, place-of .begun)) (omega (arith, place-of .inside, place-of .short)))
+            (stored-stop (places (latest (runsIn task period worst runs)) (suc (codeOf d t)) ((cycle + 1) * 32 - suc (codeOf d t))) turned full))
 
-      pub walked-all : {tasks releases deadlines next : List ℕ} {count d : ℕ} → all (isFair cycle) (runsIn task period worst runs) ≡ true → Walked tasks releases deadlines next count d
-          → cycle < d → Derived tasks₀ releases₀ deadlines₀ (framesOf (messages cycle (runsIn task period worst runs))) tasks releases deadlines count
-      walked-all {d = d} fair w h =
-          let l : d ≤ suc cycle = w .within in
-          let e : d - 1 ≡ cycle = omega arith in
-          derived (rw (all-frames fair, ← e) (w .so-far))
+    pub walked-all : {tasks releases deadlines tree : List ℕ} {root count : ℕ} → Ready task period worst runs size cycle → Walked tasks releases deadlines tree root count → limitOf cycle ≤ root
+        → Derived tasks₀ releases₀ deadlines₀ (framesOf (messages cycle (runsIn task period worst runs))) tasks releases deadlines count
+    walked-all r w h =
+        derived (rw (all-frames (r .fair) ∙ skipped ((cycle + 1) * 32) r (w .waiting) (w .begun) (w .within) (omega (arith, w .root-is))) (w .so-far))

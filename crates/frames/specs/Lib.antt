@@ -1,2 +1,3 @@
+pub mod Tree
 pub mod Walk
 pub mod Laid

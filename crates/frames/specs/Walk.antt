@@ -1,14 +1,15 @@
--- Runs and frames as arrays of numbers, one array for each field; and what the walk from deadline to deadline keeps.
+-- Runs and frames as arrays of numbers, one array for each field; and what the walk from message to message keeps.
 use mathlib.Core.Path.{_≡_}
 use mathlib.Core.Bool.{Bool, true, _&&_}
 use mathlib.Core.List.{List, map}
 use lib.Dec.{leb, ltb}
 use lib.ListN.{getD, length, take}
 use lib.Seq.{sets}
-use Prim.Native.Nat.{ℕ, zero, suc, _+_, _-_, _≤_, _<_, min}
+use Prim.Native.Nat.{ℕ, suc, _+_, _*_, _-_, _≤_, _<_, _∣_, min}
 use Rattle.laws.specs.Lists.{all, tab}
 use Rattle.rules.specs.Frames.{Run, Frame}
-use Rattle.rules.proofs.Grid.{cell, row, latest, Next}
+use Rattle.rules.proofs.Grid.{cell, latest}
+use Rattle.frames.specs.Tree.{Tree}
 
 -- the run whose numbers stand at place i, and the runs at the places below n
 unfoldable pub runAt : List ℕ → List ℕ → List ℕ → ℕ → Run
@@ -22,45 +23,54 @@ runsIn task period worst n = tab (runAt task period worst) 0 n
 unfoldable pub isFair : ℕ → Run → Bool
 isFair busPeriod r = (ltb (r .task) 32 && ltb 0 (r .period)) && (leb (r .period) busPeriod && leb (r .worst) (r .period))
 
--- of each run the first deadline that is not before d
-abbrev pub Due : List ℕ → List ℕ → ℕ → ℕ → Type 0
-Due period next runs d = (i : ℕ) → i < runs → Next (getD period i 0) d (getD next i 0)
-
--- what is asked of runs at a deadline d that is met
-pub record Ready (task period worst : List ℕ) (runs cycle d : ℕ) : Type 0 where
-  pub few : runs ≤ 64
+-- What is asked of the runs, and of the tree that has a leaf for each.
+pub record Ready (task period worst : List ℕ) (runs size cycle : ℕ) : Type 0 where
+  pub few : runs ≤ size
+  pub some : 0 < size
+  pub small : size ≤ 64
   pub short : cycle ≤ 1000000
-  pub begun : 0 < d
-  pub inside : d ≤ cycle
   pub fair : all (isFair cycle) (runsIn task period worst runs) ≡ true
 
--- when the runs at the places below i have been met: what has ended by then is in `best`, and each run that ended has gone on
-pub record Met (task period worst : List ℕ) (runs d : ℕ) (next best : List ℕ) (i : ℕ) : Type 0 where
-  pub within : i ≤ runs
-  pub places : length next ≡ 64
-  pub bests : best ≡ tab (latest (runsIn task period worst i) d) 0 32
-  pub done : (k : ℕ) → k < i → Next (getD period k 0) (suc d) (getD next k 0)
-  pub left : (k : ℕ) → i ≤ k → k < runs → Next (getD period k 0) d (getD next k 0)
+-- Messages in the frames' order: the place of deadline d and task t, and the key of its message of run i; behind all keys the limit.
+abbrev pub codeOf : ℕ → ℕ → ℕ
+codeOf d t = d * 32 + t
 
--- the least of the first n numbers, at most the limit
-abbrev pub leastOf : List ℕ → ℕ → ℕ → ℕ
-leastOf next limit zero = limit
-leastOf next limit (suc n) = min (leastOf next limit n) (getD next n 0)
+abbrev pub keyOf : ℕ → ℕ → ℕ → ℕ
+keyOf d t i = codeOf d t * 64 + i
 
--- at deadline d, for each of 32 tasks: one more than the greatest release of the runs that end, or 0
-unfoldable pub latestOf : List Run → ℕ → List ℕ
-latestOf runs d = tab (latest runs d) 0 32
+abbrev pub limitOf : ℕ → ℕ
+limitOf cycle = (cycle + 1) * 2048
 
--- the frames at deadline d, by task
-abbrev pub placeOf : List ℕ → ℕ → ℕ
-placeOf best t = getD best t 0
+-- each run's first message stands at its leaf
+pub record Planted (task period : List ℕ) (runs size cycle : ℕ) (tree : List ℕ) : Type 0 where
+  pub places : length tree ≡ 128
+  pub firsts : (i : ℕ) → i < runs → getD tree (size + i) 0 ≡ keyOf (getD period i 0) (getD task i 0) i
+  pub rest : (i : ℕ) → runs ≤ i → i < size → getD tree (size + i) 0 ≡ limitOf cycle
+
+-- The message with which run i waits: its place is not before lo, and the run's message before it stood before hi.
+pub record Waits (task period : List ℕ) (lo hi i key : ℕ) : Type 0 where
+  pub next : ℕ
+  pub is : key ≡ keyOf next (getD task i 0) i
+  pub multiple : getD period i 0 ∣ next
+  pub reached : lo ≤ codeOf next (getD task i 0)
+  pub first : codeOf next (getD task i 0) < hi + 32 * getD period i 0
+
+-- so each run waits at its leaf of a tree
+pub record Waiting (task period : List ℕ) (runs size cycle lo hi : ℕ) (tree : List ℕ) : Type 0 where
+  pub whole : Tree tree size
+  pub each : (i : ℕ) → i < runs → Waits task period lo hi i (getD tree (size + i) 0)
+  pub rest : (i : ℕ) → runs ≤ i → i < size → getD tree (size + i) 0 ≡ limitOf cycle
+
+-- the messages of task t and deadline d are taken, and all that wait come behind them
+pub record CellMet (task period worst : List ℕ) (runs size cycle d t : ℕ) (tree : List ℕ) (best root : ℕ) : Type 0 where
+  pub is : best ≡ latest (runsIn task period worst runs) d t
+  pub waiting : Waiting task period runs size cycle (suc (codeOf d t)) (suc (codeOf d t)) tree
+  pub root-is : root ≡ getD tree 1 0
+  pub past : suc (codeOf d t) * 64 ≤ root
 
 -- the frame of one place
 unfoldable pub frameAt : ℕ → ℕ → ℕ → List Frame
 frameAt t d b = cell t d b
-
-unfoldable pub framesAt : List ℕ → ℕ → List Frame
-framesAt best d = row (placeOf best) d 0 32
 
 -- the places for frames
 abbrev pub most : ℕ

@@ -1,33 +1,25 @@
-// From the runs of bus tasks to the frames by number, straight from deadline to deadline. Runs and frames stand in an array for each
-// number, lent.
+// From the runs of bus tasks to the frames by number, straight from message to message in the frames' order: of each run the next
+// message waits in a tree, by deadline, then by task. Runs and frames stand in an array for each number, lent.
 ghost use mathlib.Core.Path.{_≡_};
 ghost use mathlib.Core.Bool.{true};
-ghost use lib.ListN.{length};
-ghost use Prim.Native.Nat.{suc, _+_, _-_, _≤_, _<_, min, max};
+ghost use lib.ListN.{getD};
+ghost use Prim.Native.Nat.{suc, _+_, _-_, _*_, _≤_, _<_, max};
 ghost use Rattle.laws.specs.Lists.{all};
 ghost use Rattle.rules.specs.Frames.{messages, framesOf};
-ghost use Rattle.frames.specs.Walk.{most, runsIn, isFair, Ready, Due, Met, leastOf, latestOf, frameAt, framesAt, Stored, Derived};
+ghost use Rattle.frames.specs.Walk.{most, runsIn, isFair, keyOf, Ready, Planted, Waiting, CellMet, frameAt, Stored, Derived};
 
 pub mod laid;
+mod tree;
 
 use laid::Frames;
+use tree::grow;
+use tree::leaves;
+use tree::raise;
 
 fn larger(a: u32, b: u32) -> u32
     ensures { λ r. ⌜ r ≡ max a b ⌝ }
 {
     if a < b { b } else { a }
-}
-
-fn smaller(a: u32, b: u32) -> u32
-    ensures { λ r. ⌜ r ≡ min a b ⌝ }
-{
-    if a < b { a } else { b }
-}
-
-fn wide(t: u8) -> usize
-    ensures { λ r. ⌜ r ≡ t ⌝ }
-{
-    t as usize
 }
 
 fn narrow(t: usize) -> u8
@@ -47,77 +39,74 @@ fn behind_release(d: u32, period: u32, worst: u32) -> u32
     d - period + worst + 1
 }
 
-// The first deadline of each run is its period. An array by value is known to have all its places.
-fn first_deadlines(period: [u32; 64]) -> [u32; 64]
-    ensures { λ r. ⌜ (r ≡ period) × (length r ≡ 64) ⌝ }
+// A message waits by its deadline, then by its task, then by its run: 2,048 keys to a deadline, 64 to a task.
+fn key(deadline: u32, task: u8, run: usize) -> u32
+    requires { ⌜ deadline ≤ 1000000 ⌝ }
+    requires { ⌜ run < 64 ⌝ }
+    ensures { λ r. ⌜ r ≡ keyOf deadline task run ⌝ }
 {
-    period
+    (deadline * 32 + task as u32) * 64 + run as u32
 }
 
-// The least of the next deadlines, or `limit`.
-fn least(next: &[u32; 64], runs: usize, limit: u32) -> u32
-    requires { ⌜ runs ≤ 64 ⌝ }
-    ensures { λ r. ⌜ r ≡ leastOf (now (next .entry)) limit runs ⌝ }
-{
-    let mut m = limit;
-    let mut i = 0;
-    while i < runs {
-        m = smaller(m, next[i]);
-        i += 1;
-    }
-    m
-}
-
-// One run at deadline `d`: if it ends, it raises its task's place and goes on to its next deadline.
-fn meet_run(
+// The first message of each run, by its key; behind the runs a key that is behind all deadlines.
+fn plant(
     task: &[u8; 64],
     period: &[u32; 64],
     worst: &[u32; 64],
     runs: usize,
     cycle: u32,
-    d: u32,
-    i: usize,
-    next: &mut [u32; 64],
-    best: &mut [u32; 32],
-)
-    requires { ⌜ i < runs ⌝ }
-    requires { ⌜ Ready (now task) (now period) (now worst) runs cycle d ⌝ }
-    requires { ⌜ Met (now task) (now period) (now worst) runs d (now next) (now best) i ⌝ }
-    ensures { λ _. ⌜ Met (now (task .entry)) (now (period .entry)) (now (worst .entry)) runs d (now (next .exit)) (now (best .exit)) (i + 1) ⌝ }
+    size: usize,
+) -> [u32; 128]
+    requires { ⌜ Ready (now task) (now period) (now worst) runs size cycle ⌝ }
+    ensures { λ r. ⌜ Planted (now (task .entry)) (now (period .entry)) runs size cycle r ⌝ }
 {
-    if next[i] != d {
-        return;
+    let mut tree = [(cycle + 1) * 2048; 128];
+    let mut i = 0;
+    while i < runs {
+        tree[size + i] = key(period[i], task[i], i);
+        i += 1;
     }
-    let t = wide(task[i]);
-    let b = behind_release(d, period[i], worst[i]);
-    best[t] = larger(best[t], b);
-    next[i] = d + period[i];
+    tree
 }
 
-// What ends at deadline `d`: for each task one more than its greatest release, or 0. Each run that ends goes on to its next deadline.
+// What the messages of one task and deadline come to: one more than their greatest release; and the root behind them.
+struct Met {
+    best: u32,
+    root: u32,
+}
+
+// Takes the messages of task `t` that have to be there by `d`. Each run that ends waits with its next message.
 fn meet(
     task: &[u8; 64],
     period: &[u32; 64],
     worst: &[u32; 64],
     runs: usize,
     cycle: u32,
+    size: usize,
     d: u32,
-    next: &mut [u32; 64],
-) -> [u32; 32]
-    requires { ⌜ Ready (now task) (now period) (now worst) runs cycle d ⌝ }
-    requires { ⌜ length (now next) ≡ 64 ⌝ }
-    requires { ⌜ Due (now period) (now next) runs d ⌝ }
-    ensures { λ r. ⌜ r ≡ latestOf (runsIn (now (task .entry)) (now (period .entry)) (now (worst .entry)) runs) d ⌝ }
-    ensures { λ _. ⌜ length (now (next .exit)) ≡ 64 ⌝ }
-    ensures { λ _. ⌜ Due (now (period .entry)) (now (next .exit)) runs (suc d) ⌝ }
+    t: u32,
+    first: u32,
+    tree: &mut [u32; 128],
+) -> Met
+    requires { ⌜ Ready (now task) (now period) (now worst) runs size cycle ⌝ }
+    requires { ⌜ (0 < d) × (d ≤ cycle) × (t < 32) ⌝ }
+    requires { ⌜ Waiting (now task) (now period) runs size cycle (d * 32 + t) (d * 32 + t) (now tree) ⌝ }
+    requires { ⌜ first ≡ getD (now tree) 1 0 ⌝ }
+    ensures { λ r. ⌜ CellMet (now (task .entry)) (now (period .entry)) (now (worst .entry)) runs size cycle d t (now (tree .exit)) (r .best) (r .root) ⌝ }
 {
-    let mut best = [0; 32];
-    let mut i = 0;
-    while i < runs {
-        meet_run(task, period, worst, runs, cycle, d, i, next, &mut best);
-        i += 1;
+    let end = (d * 32 + t + 1) * 64;
+    let mut root = first;
+    let mut best = 0;
+    while root < end {
+        let i = (root % 64) as usize;
+        let b = behind_release(d, period[i], worst[i]);
+        best = larger(best, b);
+        root = raise(tree, size, i, root + period[i] * 2048);
     }
-    best
+    Met {
+        best: best,
+        root: root,
+    }
 }
 
 // Stores the frame of task `t` at deadline `d` at place `n`, if there is one. The 257th is counted and not stored.
@@ -146,30 +135,6 @@ fn put(
     n + 1
 }
 
-// Stores the frames at deadline `d`, by task, from place `count` on. None is looked for behind the 257th.
-fn emit(
-    best: &[u32; 32],
-    d: u32,
-    count: usize,
-    tasks: &mut [u8; Frames::MOST],
-    releases: &mut [u32; Frames::MOST],
-    deadlines: &mut [u32; Frames::MOST],
-) -> usize
-    requires { ⌜ count ≤ most ⌝ }
-    ensures { λ r. ⌜ Stored (now (tasks .entry)) (now (releases .entry)) (now (deadlines .entry)) count (framesAt (now (best .entry)) d) (now (tasks .exit)) (now (releases .exit)) (now (deadlines .exit)) r ⌝ }
-{
-    let mut n = count;
-    let mut t = 0;
-    while t < 32 {
-        n = put(t, d, best[t], n, tasks, releases, deadlines);
-        if n > Frames::MOST {
-            return n;
-        }
-        t += 1;
-    }
-    n
-}
-
 // The frames by number. More than 256 are not stored: the count then is 257.
 pub fn derive<'a>(
     task: &'a [u8; 64],
@@ -186,16 +151,32 @@ pub fn derive<'a>(
     requires { ⌜ all (isFair cycle) (runsIn (now task) (now period) (now worst) runs) ≡ true ⌝ }
     ensures { λ r. ⌜ Derived (now (tasks .entry)) (now (releases .entry)) (now (deadlines .entry)) (framesOf (messages cycle (runsIn (now (task .entry)) (now (period .entry)) (now (worst .entry)) runs))) (now (tasks .exit)) (now (releases .exit)) (now (deadlines .exit)) r ⌝ }
 {
-    let mut next = first_deadlines(*period);
+    let limit = (cycle + 1) * 2048;
+    let size = leaves(runs);
+    let mut tree = plant(task, period, worst, runs, cycle, size);
+    grow(&mut tree, size);
+    let mut root = tree[1];
     let mut count = 0;
-    let mut d = least(&next, runs, cycle + 1);
-    while d <= cycle {
-        let best = meet(task, period, worst, runs, cycle, d, &mut next);
-        count = emit(&best, d, count, tasks, releases, deadlines);
+    while root < limit {
+        let d = root / 2048;
+        let t = root / 64 % 32;
+        let met = meet(
+            task,
+            period,
+            worst,
+            runs,
+            cycle,
+            size,
+            d,
+            t,
+            root,
+            &mut tree,
+        );
+        count = put(t as usize, d, met.best, count, tasks, releases, deadlines);
         if count > Frames::MOST {
             return count;
         }
-        d = least(&next, runs, cycle + 1);
+        root = met.root;
     }
     count
 }

@@ -6,11 +6,13 @@ use mathlib.Core.List.{List, [], _∷_, _++_, map, append-assoc}
 use native.Mathlib.Omega.{arith}
 use lib.Dec.{eqb, leb}
 use lib.ListN.{length, getD, take, drop, replicate, length-map}
+use lib.Seq.{take-take, drop-drop}
 use borrow.Author.Tests.{ne-eqb, eqb-true, eqb-false, leb-true}
-use Prim.Native.Nat.{ℕ, zero, suc, _+_, _≤_}
+use Prim.Native.Nat.{ℕ, zero, suc, _+_, _-_, _≤_}
 use Rattle.laws.specs.Res.{Res, ok, refuse}
 use Rattle.laws.specs.Loops.{padTo}
 use Rattle.laws.specs.Numbers.{number}
+use Rattle.laws.proofs.Gather.{drop-take}
 use Rattle.laws.proofs.Lists.{map-snoc, length-snoc, both-left, both-right}
 use Rattle.laws.proofs.Res.{refuse≢ok, ok-injective}
 use Rattle.rules.specs.Records.{Rec, kinds, fields, bodyLength, decoded, recordOf, tableFollows, before, records}
@@ -198,6 +200,17 @@ gathered-before : (m : memory.Table) (r : Rec) (w : Res (List Rec)) → gathered
 gathered-before m r (ok rs) = refl
 gathered-before m r (refuse n p) = refl
 
+-- a body that is cut out of the file says what the file says there
+module _ (s : List ℕ) (body n : ℕ) where
+  pub front-number : (m : ℕ) → m ≤ n → number (take m (take (body + n - body) (drop body s))) ≡ number (take m (drop body s))
+  front-number m h = rw (take-take m (body + n - body) (drop body s) (omega arith))
+
+  pub part-number : (j m : ℕ) → j + m ≤ n
+      → number (take m (drop j (take (body + n - body) (drop body s)))) ≡ number (take m (drop (body + j) s))
+  part-number j m h =
+      let cut : body + n - body ≡ j + (n - j) = omega arith in
+      rw (cut, drop-take j (n - j) (drop body s), take-take m (n - j) (drop j (drop body s)) (omega arith), drop-drop j body s)
+
 module _ (s : List ℕ) (body : ℕ) where
   pub header-numbers : headerOf (recordOf 16 (drop body s) .numbers)
       ≡ record { period = record { 0 = number (take 4 (drop body s)) }; controls = number (take 1 (drop (body + 4) s)); datas = number (take 2 (drop (body + 5) s)) }
@@ -239,9 +252,12 @@ module _ (s : List ℕ) (whole : Reading) (previous at : ℕ) (inside : at ≤ l
     facts = found Table s previous at kind body next (sym e ∙ r)
 
     -- the body of each kind is whole
-    pub row-fits : kind ≡ 18 → body + 13 ≤ length s
+    pub row-next : kind ≡ 18 → next ≡ body + 13
     unfolding bodyLength fields kinds
-    row-fits k = let n : next ≡ at + 1 + 13 = rw k at (facts .next-place) in omega (arith, facts .body-place, facts .fits)
+    row-next k = let n : next ≡ at + 1 + 13 = rw k at (facts .next-place) in omega (arith, facts .body-place)
+
+    pub row-fits : kind ≡ 18 → body + 13 ≤ length s
+    row-fits k = omega (arith, row-next k, facts .fits)
 
     pub control-fits : kind ≡ 17 → body + 9 ≤ length s
     unfolding bodyLength fields kinds
@@ -263,9 +279,10 @@ module _ (s : List ℕ) (whole : Reading) (previous at : ℕ) (inside : at ≤ l
         → deadlines′ ≡ placed 256 deadlines rows (number (take 4 (drop (body + 1) s)))
         → starts′ ≡ placed 256 starts rows (number (take 4 (drop (body + 5) s)))
         → stops′ ≡ placed 256 stops rows (number (take 4 (drop (body + 9) s)))
-        → whole ≡ gatheredFrom (tableFrom head control (rows + 1) nodes begins ends tasks′ deadlines′ starts′ stops′) (from Table 20 s kind next)
+        → whole ≡ gatheredFrom (tableFrom head control (rows + 1) nodes begins ends tasks′ deadlines′ starts′ stops′) (from Table 20 s kind (body + 13))
     unfolding withRecord withRow tableFrom recordOf
-    row-turn k a b c d = turned (rw (k, row-numbers s body, sym a, sym b, sym c, sym d))
+    row-turn k a b c d =
+        rw (sym (row-next k)) (turned (rw (k, row-numbers s body, sym a, sym b, sym c, sym d)))
 
     pub control-turn : {nodes′ begins′ ends′ : List ℕ} → kind ≡ 17
         → nodes′ ≡ placed 8 nodes control (number (take 1 (drop body s)))

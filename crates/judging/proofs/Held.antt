@@ -19,12 +19,10 @@ use Rattle.rules.specs.Frames.{ControlRow, noControlRow}
 use Rattle.rules.specs.Table.{DataRow}
 use Rattle.rules.specs.Checker.{rowAt, deadlineKept, stopBefore, firstRow, rowsKeep}
 use Rattle.judging.specs.declared.table.Table.{Table}
-use Rattle.judging.specs.declared.rowrules.Row.{Row}
-use Rattle.judging.specs.declared.rowrules.Rule.the-variants.{Time, Release, Deadline, Gap}
 use Rattle.judging.specs.declared.rowrules.Bounds.{Bounds}
 use Rattle.judging.specs.Places.{Numbered, lookIn, beforeIn, numberOf, numberAt, marks, isNew}
 use Rattle.judging.specs.Memory.{controlIn, rowSeen, seen}
-use Rattle.judging.specs.Rows.{noRow, rowKeeps, keepsAt, byRule, byRules, heldRow}
+use Rattle.judging.specs.Rows.{timeKept, releaseKept, dueKept, gapKept}
 use Rattle.judging.specs.Judged.{namesNew, timeFits, releaseFits, gapFits, timesJudged, rowsJudged, frameIn, framesIn, timeIn}
 use Rattle.laws.proofs.Turns.{same-bad}
 use Rattle.judging.proofs.Places.{last-tab}
@@ -33,6 +31,19 @@ use Rattle.judging.proofs.Names.{named-frame, named-task, row-at, new-n
 look-within : (room : ℕ) (a : List ℕ) (k : ℕ) → k < room → lookIn room a k ≡ getD a k 0
 unfolding lookIn
 look-within room a k h = rw (lt-ltb k room h)
+
+-- rules 24 to 27, and 23 to 27, by the first row that breaks each; the first row is record `first`
+abbrev pub timesInOrder : ℕ → Option ℕ → Option ℕ → Option ℕ → Option ℕ → Res (Unit {0})
+timesInOrder first mistimed early late crowded = do
+  at 24 first mistimed
+  at 25 first early
+  at 26 first late
+  at 27 first crowded
+
+abbrev pub inOrder : ℕ → Option ℕ → Option ℕ → Option ℕ → Option ℕ → Option ℕ → Res (Unit {0})
+inOrder first unnamed mistimed early late crowded = do
+  at 23 first unnamed
+  timesInOrder first mistimed early late crowded
 
 -- the stop of the last control row
 unfoldable pub lastStop : Table → ℕ
@@ -54,19 +65,11 @@ module _ (tasks releases deadlines times : List ℕ) (frames : ℕ) (n : Numbere
   abbrev numbered : List ℕ
   numbered = stores (replicate 256 0) (numberAt tasks deadlines frames (t .tasks) (t .deadlines)) (t .rows)
 
-  abbrev rows : List Row
-  rows = stores (replicate 256 noRow) (heldRow t numbered releases times last) (t .rows)
-
   pub number-given : (j : ℕ) → j < t .rows → getD numbered j 0 ≡ numberOf tasks deadlines frames (rowSeen t j .task) (rowSeen t j .deadline)
   unfolding numberAt rowSeen
   number-given j h =
       stores-at (replicate 256 0) (numberAt tasks deadlines frames (t .tasks) (t .deadlines)) (t .rows) j 0 h
       (rw (length-replicate {A = ℕ} 256 0) room)
-
-  held-at : (k : ℕ) → k < t .rows → getD rows k noRow ≡ heldRow t numbered releases times last k
-  held-at k h =
-      stores-at (replicate 256 noRow) (heldRow t numbered releases times last) (t .rows) k noRow h
-      (rw (length-replicate 256 noRow) room)
 
   seen-at : (k : ℕ) → k < t .rows → rowAt (seen t) k ≡ rowSeen t k
   unfolding seen
@@ -77,34 +80,33 @@ module _ (tasks releases deadlines times : List ℕ) (frames : ℕ) (n : Numbere
     known : numberOf tasks deadlines frames (rowSeen t k .task) (rowSeen t k .deadline) < frames
     known = rw (sym (number-given k h)) named
 
-    time-same : keepsAt Time b rows k ≡ timeFits (framesIn tasks releases deadlines frames) (timeIn times) b (seen t) k
-    unfolding keepsAt rowKeeps timeFits heldRow timeIn rowSeen
-    time-same =
-        rw (held-at k h, seen-at k h, named-task tasks releases deadlines frames (rowSeen t k) known)
+    time-same : timeKept (t .tasks) (t .starts) (t .stops) times (b .resolution .0) k
+        ≡ timeFits (framesIn tasks releases deadlines frames) (timeIn times) b (seen t) k
+    unfolding timeKept timeFits timeIn rowSeen
+    time-same = rw (seen-at k h, named-task tasks releases deadlines frames (rowSeen t k) known)
 
-    release-same : keepsAt Release b rows k ≡ releaseFits (framesIn tasks releases deadlines frames) (seen t) k
-    unfolding keepsAt rowKeeps releaseFits heldRow frameIn rowSeen
+    release-same : releaseKept (t .starts) releases numbered k ≡ releaseFits (framesIn tasks releases deadlines frames) (seen t) k
+    unfolding releaseKept releaseFits frameIn rowSeen
     release-same =
         rw (
-          held-at k h,
           seen-at k h,
           named-frame tasks releases deadlines frames (rowSeen t k) known,
           look-within 256 releases (getD numbered k 0) (omega (arith, n .room)),
           number-given k h,
         )
 
-  deadline-same : (k : ℕ) → k < t .rows → keepsAt Deadline b rows k ≡ deadlineKept (seen t) k
-  unfolding keepsAt rowKeeps deadlineKept heldRow rowSeen
-  deadline-same k h = rw (held-at k h, seen-at k h)
+  due-same : (k : ℕ) → k < t .rows → dueKept (t .stops) (t .deadlines) k ≡ deadlineKept (seen t) k
+  unfolding dueKept deadlineKept rowSeen
+  due-same k h = rw (seen-at k h)
 
   before-same : (k : ℕ) → k < t .rows → beforeIn (t .stops) last k ≡ stopBefore (seen t) k
   unfolding seen lastStop rowSeen
   before-same zero h = isLast
   before-same (suc k) h = sym (ap (λ (r : DataRow). r .stop) (seen-at k (omega arith)))
 
-  gap-same : (k : ℕ) → k < t .rows → keepsAt Gap b rows k ≡ gapFits b (seen t) k
-  unfolding keepsAt rowKeeps gapFits heldRow rowSeen
-  gap-same k h = rw (held-at k h, seen-at k h, before-same k h)
+  gap-same : (k : ℕ) → k < t .rows → gapKept (t .starts) (t .stops) last (b .gap .0) k ≡ gapFits b (seen t) k
+  unfolding gapKept gapFits rowSeen
+  gap-same k h = rw (seen-at k h, before-same k h)
 
   first-row : firstRow (seen t) ≡ 1 + t .control
   unfolding firstRow seen
@@ -120,7 +122,23 @@ module _ (tasks releases deadlines times : List ℕ) (frames : ℕ) (n : Numbere
   unfolding rowsKeep
   rows-keep number here there same = rw (first-row, row-count, same-bad here there (t .rows) same)
 
-  module _ (e : firstBad (isNew numbered frames) (upTo (t .rows)) ≡ none) where
+  -- the first row that breaks each rule
+  abbrev unnamed : Option ℕ
+  unnamed = firstBad (isNew numbered frames) (upTo (t .rows))
+
+  abbrev mistimed : Option ℕ
+  mistimed = firstBad (timeKept (t .tasks) (t .starts) (t .stops) times (b .resolution .0)) (upTo (t .rows))
+
+  abbrev early : Option ℕ
+  early = firstBad (releaseKept (t .starts) releases numbered) (upTo (t .rows))
+
+  abbrev late : Option ℕ
+  late = firstBad (dueKept (t .stops) (t .deadlines)) (upTo (t .rows))
+
+  abbrev crowded : Option ℕ
+  crowded = firstBad (gapKept (t .starts) (t .stops) last (b .gap .0)) (upTo (t .rows))
+
+  module _ (e : unnamed ≡ none) where
     all-named : (k : ℕ) → k < t .rows → getD numbered k 0 < frames
     unfolding isNew
     all-named k h =
@@ -128,28 +146,29 @@ module _ (tasks releases deadlines times : List ℕ) (frames : ℕ) (n : Numbere
         (both-left (ltb (getD numbered k 0) frames) (not (getD (marks numbered k) (getD numbered k 0) false))
         (firstBad-upTo-passes (isNew numbered frames) (t .rows) k e h))
 
-    by-rules : byRules b rows (t .rows) (1 + t .control) ≡ timesJudged (framesIn tasks releases deadlines frames) (timeIn times) b (seen t)
-    unfolding byRules byRule timesJudged
+    by-rules : timesInOrder (1 + t .control) mistimed early late crowded
+        ≡ timesJudged (framesIn tasks releases deadlines frames) (timeIn times) b (seen t)
+    unfolding timesJudged
     by-rules =
         rw (
-          rows-keep 24 (keepsAt Time b rows) (timeFits (framesIn tasks releases deadlines frames) (timeIn times) b (seen t)) (λ k h. time-same k h (all-named k h)),
-          rows-keep 25 (keepsAt Release b rows) (releaseFits (framesIn tasks releases deadlines frames) (seen t)) (λ k h. release-same k h (all-named k h)),
-          rows-keep 26 (keepsAt Deadline b rows) (deadlineKept (seen t)) deadline-same,
-          rows-keep 27 (keepsAt Gap b rows) (gapFits b (seen t)) gap-same,
+          rows-keep 24 (timeKept (t .tasks) (t .starts) (t .stops) times (b .resolution .0)) (timeFits (framesIn tasks releases deadlines frames) (timeIn times) b (seen t)) (λ k h. time-same k h (all-named k h)),
+          rows-keep 25 (releaseKept (t .starts) releases numbered) (releaseFits (framesIn tasks releases deadlines frames) (seen t)) (λ k h. release-same k h (all-named k h)),
+          rows-keep 26 (dueKept (t .stops) (t .deadlines)) (deadlineKept (seen t)) due-same,
+          rows-keep 27 (gapKept (t .starts) (t .stops) last (b .gap .0)) (gapFits b (seen t)) gap-same,
         )
 
   -- Rules 23 to 27 by places are rules 23 to 27.
-  pub rows-judged : _>>_ (at 23 (1 + t .control) (firstBad (isNew numbered frames) (upTo (t .rows)))) (byRules b rows (t .rows) (1 + t .control))
+  pub rows-judged : inOrder (1 + t .control) unnamed mistimed early late crowded
       ≡ rowsJudged (framesIn tasks releases deadlines frames) (timeIn times) b (seen t)
   unfolding rowsJudged seen
   rows-judged =
-      here (firstBad (isNew numbered frames) (upTo (t .rows))) refl
+      here unnamed refl
       ∙ ap (λ (m : Res (Unit {0})). _>>_ m (timesJudged (framesIn tasks releases deadlines frames) (timeIn times) b (seen t)))
       (rows-keep 23 (isNew numbered frames) (namesNew (framesIn tasks releases deadlines frames) (seen t))
       (new-names tasks releases deadlines frames n (rowSeen t) (t .rows) numbered number-given (seen t) refl))
     where
-      here : (o : Option ℕ) → firstBad (isNew numbered frames) (upTo (t .rows)) ≡ o
-          → _>>_ (at 23 (1 + t .control) o) (byRules b rows (t .rows) (1 + t .control))
+      here : (o : Option ℕ) → unnamed ≡ o
+          → inOrder (1 + t .control) o mistimed early late crowded
           ≡ _>>_ (at 23 (1 + t .control) o) (timesJudged (framesIn tasks releases deadlines frames) (timeIn times) b (seen t))
       here none e = by-rules e
       here (some k) e = refl

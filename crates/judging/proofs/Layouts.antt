@@ -4,7 +4,6 @@ use mathlib.Core.Path.{_≡_, refl, sym, ap, _∙_, subst}
 use mathlib.Core.Bool.{Bool, true, false, cond, not, _&&_, _||_}
 use mathlib.Core.List.{List, [], _∷_}
 use mathlib.Core.Option.{Option, none, some}
-use native.Mathlib.Nat.{zero-add}
 use native.Mathlib.Omega.{arith}
 use lib.Dec.{eqb}
 use lib.ListN.{length, getD, take}
@@ -12,15 +11,12 @@ use borrow.Author.Tests.{lt-ltb, eqb-true}
 use Prim.Native.Nat.{ℕ, _+_, _*_, _≤_, _<_}
 use Rattle.laws.specs.Res.{ok, refuse, _>>_, at}
 use Rattle.laws.specs.Lists.{any, firstBad, upTo}
-use Rattle.laws.proofs.Lists.{both-left, both-right, true-false, length-tab, getD-tab}
+use Rattle.laws.proofs.Lists.{both-left, both-right, true-false, length-tab}
 use Rattle.laws.proofs.Loops.{firstBad-upTo-passes}
 use Rattle.laws.proofs.Arrays.{tab-list, getD-laid}
 use Rattle.laws.proofs.Members.{All, also, Pairs, pairs-getD, all-getD, all-weaker}
-use Rattle.rules.proofs.FramesOf.{Before, before-case, plan-frames}
-use Rattle.rules.proofs.PlanKept.{PlanKept, readable-kept}
-use Rattle.rules.proofs.LaidOut.{LaidOut, laid-out, frames-kept, control-count}
-use Rattle.rules.specs.Plan.{Plan, readPlan}
-use Rattle.rules.specs.Frames.{Frame, ControlRow, noControlRow, Layout, layout, layoutOf, payload}
+use Rattle.rules.proofs.FramesOf.{Before, before-case}
+use Rattle.rules.specs.Frames.{Frame, ControlRow, noControlRow, Layout, payload}
 use Rattle.rules.specs.Table.{DataRow}
 use Rattle.rules.specs.LatestRelease.{noFrame, frameTime}
 use Rattle.rules.specs.Checker.{TableRead, noDataRow, rowAt, isFrameOf, samePair, namedIn, firstRow, rowsKeep, headerRight, controlKept, namesNewFrame, frameOfRow, timeKept, releaseKept, gapKept, judged}
@@ -30,6 +26,7 @@ use Rattle.judging.specs.Places.{lookIn, keyAt, Numbered}
 use Rattle.judging.specs.Memory.{nodeOf, beginOf, endOf, taskOf, deadlineOf, startOf, stopOf, layOut, controlIn, rowSeen, seen}
 use Rattle.line.specs.Line as line
 use Rattle.line.specs.Line.{taskTime, lineOf}
+use Rattle.line.proofs.Drawn.{Drawn, frameOf, controlOf, frame-drawn, frames-drawn, controls-drawn, time-drawn}
 use Rattle.judging.specs.Judged.{headerFits, controlFits, namesNew, timeFits, releaseFits, gapFits, timesJudged, rowsJudged, judgedFor, frameIn, framesIn, timeIn, controlsOn, framesOn, boundsOn, lineJudged, Right}
 use Rattle.laws.proofs.Turns.{same-bad}
 
@@ -131,47 +128,18 @@ module _ (control : List ControlRow) (frames : List Frame) (time : ℕ → ℕ) 
 
 -- ---- the line of a layout
 
--- What holds of a layout that comes from a plan that was read.
-pub record Drawn (l : Layout) : Type 0 where
-  pub few : length (l .frames) ≤ 256
-  pub sorted : Pairs Before (l .frames)
-  pub tasks : All (λ f. f .task < 32) (l .frames)
-  pub controls : length (l .control) ≤ 8
-
-pub drawn : (file : List ℕ) (p : Plan) (l : Layout) → readPlan file ≡ ok p → layout p ≡ ok l → Drawn l
-unfolding layoutOf
-drawn file p l r e =
-    let kept : PlanKept p = readable-kept file p r in
-    let laid : LaidOut p l = laid-out p l e in
-    subst Drawn (laid .is)
-    (record {
-      few = laid .few;
-      sorted = plan-frames p .sorted;
-      tasks = all-weaker (λ f h. omega (arith, h .task, kept .taskCount .most)) (frames-kept p kept);
-      controls = omega (arith, control-count p, kept .nodeCount .most);
-    })
-
 module _ (l : Layout) (d : Drawn l) where
-  frame-on : (k : ℕ) → k < length (l .frames) → frameIn (lineOf l .task) (lineOf l .release) (lineOf l .deadline) k ≡ getD (l .frames) k noFrame
-  unfolding frameIn lineOf
-  frame-on k h =
-      let w : k < 256 = omega (arith, d .few) in
-      rw (getD-laid line.taskOf (l .frames) noFrame 256 k refl w, getD-laid line.releaseOf (l .frames) noFrame 256 k refl w, getD-laid line.deadlineOf (l .frames) noFrame 256 k refl w)
-
   frames-on : framesOn (lineOf l) ≡ l .frames
-  unfolding framesOn framesIn lineOf
-  frames-on = tab-list (frameIn (lineOf l .task) (lineOf l .release) (lineOf l .deadline)) (l .frames) noFrame (length (l .frames)) refl frame-on
+  unfolding framesOn framesIn frameIn lineOf frameOf
+  frames-on = frames-drawn l d
 
   controls-on : controlsOn (lineOf l) ≡ l .control
-  unfolding controlsOn controlIn lineOf
-  controls-on =
-      tab-list (controlIn (lineOf l .nodes) (lineOf l .starts) (lineOf l .stops)) (l .control) noControlRow (length (l .control)) refl
-      (λ k h. let w : k < 8 = omega (arith, d .controls) in
-      rw (getD-laid nodeOf (l .control) noControlRow 8 k refl w, getD-laid beginOf (l .control) noControlRow 8 k refl w, getD-laid endOf (l .control) noControlRow 8 k refl w))
+  unfolding controlsOn controlIn lineOf controlOf
+  controls-on = controls-drawn l d
 
   -- The frames of a layout are by number.
   pub line-numbered : Numbered (lineOf l .task) (lineOf l .deadline) (lineOf l .frames)
-  unfolding frameIn keyAt lineOf
+  unfolding frameOf keyAt lineOf
   line-numbered =
       record {
         room = d .few;
@@ -184,10 +152,10 @@ module _ (l : Layout) (d : Drawn l) where
       task-small k h = all-getD noFrame (d .tasks) k h
 
       task-at : (k : ℕ) → k < length (l .frames) → getD (lineOf l .task) k 0 ≡ getD (l .frames) k noFrame .task
-      task-at k h = ap (λ (f : Frame). f .task) (frame-on k h)
+      task-at k h = ap (λ (f : Frame). f .task) (frame-drawn l d k h)
 
       deadline-at : (k : ℕ) → k < length (l .frames) → getD (lineOf l .deadline) k 0 ≡ getD (l .frames) k noFrame .deadline
-      deadline-at k h = ap (λ (f : Frame). f .deadline) (frame-on k h)
+      deadline-at k h = ap (λ (f : Frame). f .deadline) (frame-drawn l d k h)
 
       lower : (f g : Frame) → f .task < 32 → Before f g → f .deadline * 256 + f .task < g .deadline * 256 + g .task
       lower f g h o = before-case f g o (λ d. omega arith) (λ d u. omega arith)
@@ -197,8 +165,8 @@ module _ (l : Layout) (d : Drawn l) where
   line-controls = d .controls
 
   time-on : (f : Frame) → f .task < 32 → timeIn (lineOf l .time) (f .task) ≡ timeFor l (f .task)
-  unfolding timeIn lookIn lineOf timeFor
-  time-on f h = rw (lt-ltb (f .task) 32 h) (getD-tab (taskTime (l .plan)) 0 32 (f .task) 0 h ∙ ap (taskTime (l .plan)) (zero-add (f .task)))
+  unfolding timeIn lookIn timeFor
+  time-on f h = rw (lt-ltb (f .task) 32 h) (time-drawn l d f h)
 
   parts-judged : (t : TableRead) → judgedFor (l .control) (l .frames) (timeIn (lineOf l .time)) (boundsOn (lineOf l)) t ≡ judged l t
   parts-judged t =

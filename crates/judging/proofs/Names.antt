@@ -10,7 +10,7 @@ use native.Mathlib.Omega.{arith}
 use lib.Dec.{eqb, ltb}
 use lib.ListN.{length, getD, set, take, length-replicate, length-set, getD-replicate, length-map, List·getD-eq-default}
 use lib.Seq.{getD-set-same, getD-set-other, ext-getD}
-use borrow.Author.Tests.{ltb-true, ltb-false, eqb-true, eqb-false, eq-eqb, not-true}
+use borrow.Author.Tests.{ltb-true, ltb-false, lt-ltb, eqb-true, eqb-false, eq-eqb, not-true}
 use Prim.Native.Nat.{ℕ, zero, suc, _+_, _≤_, _<_}
 use Rattle.laws.specs.Lists.{any, tab}
 use Rattle.laws.specs.Loops.{padTo}
@@ -18,7 +18,7 @@ use Rattle.laws.proofs.Lists.{both, both-left, both-right, neither-left, neithe
 use Rattle.rules.specs.Frames.{Frame}
 use Rattle.rules.specs.Table.{DataRow}
 use Rattle.rules.specs.Checker.{TableRead, noDataRow, rowAt, isFrameOf, samePair, namedIn, startIn}
-use Rattle.judging.specs.Places.{placeFrom, keyOf, keyAt, Numbered, Parted, isPair, numberOf, marks, isNew, spread}
+use Rattle.judging.specs.Places.{placeFrom, keyOf, keyAt, Numbered, Parted, hasKey, isPair, numberOf, marks, isNew, spread}
 use Rattle.judging.specs.Judged.{frameIn, framesIn, namesNew}
 use Rattle.judging.proofs.Places.{placed-set, place-hit, place-none, place-passes, any-place, same-any, names, marked}
 
@@ -46,15 +46,7 @@ module _ (tasks deadlines : List ℕ) (task deadline : ℕ) where
       here true e = absurd (n (let p = pair-key k e in omega (arith, p .0, p .1)))
       here false e = e
 
-  -- what binary search parts is where the pair stands, or where it would
-  number-found : (frames k : ℕ) → Numbered tasks deadlines frames → task < 256
-      → Parted tasks deadlines frames (keyOf deadline task) k → k < frames
-      → keyAt tasks deadlines k ≡ keyOf deadline task → k ≡ numberOf tasks deadlines frames task deadline
-  unfolding numberOf
-  number-found frames k n w p h e =
-      sym (place-hit (isPair tasks deadlines task deadline) 0 frames k (omega arith) (omega arith) (key-pair k (n .small k h) w e)
-      (λ j v u. off-pair j (λ q. omega (arith, p .below j u))))
-
+  -- what binary search parts is where the pair would stand
   number-missed : (frames k : ℕ) → Numbered tasks deadlines frames → Parted tasks deadlines frames (keyOf deadline task) k
       → (k < frames → keyAt tasks deadlines k ≡ keyOf deadline task → ⊥) → frames ≡ numberOf tasks deadlines frames task deadline
   unfolding numberOf
@@ -71,21 +63,6 @@ module _ (tasks deadlines : List ℕ) (task deadline : ℕ) where
           let w : k < frames = omega arith in
           omega (arith, n .rising k j v u, p .above k (omega arith) w)
 
-  -- the ways out of the search: the pair stands there, another pair does, no frame does
-  module _ (frames : ℕ) {wanted k : ℕ} (n : Numbered tasks deadlines frames) (e : wanted ≡ keyOf deadline task) (p : Parted tasks deadlines frames wanted k) where
-    pub search-found : {there : ℕ} → task < 256 → k < frames → there ≡ keyOf (getD deadlines k 0) (getD tasks k 0) → there ≡ wanted
-        → k ≡ numberOf tasks deadlines frames task deadline
-    unfolding keyAt
-    search-found w h q s = number-found frames k n w (rw e at p) h (sym q ∙ s ∙ e)
-
-    pub search-other : {there : ℕ} → there ≡ keyOf (getD deadlines k 0) (getD tasks k 0) → (there ≡ wanted → ⊥)
-        → frames ≡ numberOf tasks deadlines frames task deadline
-    unfolding keyAt
-    search-other q off = number-missed frames k n (rw e at p) (λ h s. off (q ∙ s ∙ sym e))
-
-    pub search-past : frames ≤ k → frames ≡ numberOf tasks deadlines frames task deadline
-    search-past h = number-missed frames k n (rw e at p) (λ w s. omega arith)
-
   number-passes : (frames : ℕ) → numberOf tasks deadlines frames task deadline < frames
       → isPair tasks deadlines task deadline (numberOf tasks deadlines frames task deadline) ≡ true
   unfolding numberOf
@@ -98,6 +75,24 @@ module _ (tasks deadlines : List ℕ) (task deadline : ℕ) where
   number-only frames k n h e =
       place-hit (isPair tasks deadlines task deadline) 0 frames k (omega arith) (omega arith) e
       (λ j v u. off-pair j (λ q. let p = pair-key k e in omega (arith, n .rising j k u h, p .0, p .1)))
+
+  -- the ways out of a look-up: the pair stands at a place that was tried, or nowhere
+  module _ (frames : ℕ) {wanted : ℕ} (n : Numbered tasks deadlines frames) (e : wanted ≡ keyOf deadline task) where
+    pub look-found : (k : ℕ) {r : Bool} → task < 256 → r ≡ hasKey tasks deadlines frames wanted k → r ≡ true
+        → k ≡ numberOf tasks deadlines frames task deadline
+    unfolding hasKey
+    look-found k w q s =
+        let both : (ltb k frames && eqb (keyAt tasks deadlines k) wanted) ≡ true = sym q ∙ s in
+        let h : k < frames = ltb-true k frames (both-left (ltb k frames) (eqb (keyAt tasks deadlines k) wanted) both) in
+        let f : keyAt tasks deadlines k ≡ wanted = eqb-true (keyAt tasks deadlines k) wanted (both-right (ltb k frames) (eqb (keyAt tasks deadlines k) wanted) both) in
+        sym (number-only frames k n h (key-pair k (n .small k h) w (f ∙ e)))
+
+    pub look-missed : {k : ℕ} {r : Bool} → Parted tasks deadlines frames wanted k → r ≡ hasKey tasks deadlines frames wanted k → r ≡ false
+        → frames ≡ numberOf tasks deadlines frames task deadline
+    unfolding hasKey
+    look-missed {k} p q s =
+        number-missed frames k n (rw e at p)
+        (λ h f. true-false (sym (both (lt-ltb k frames h) (eq-eqb (keyAt tasks deadlines k) wanted (f ∙ sym e))) ∙ sym q ∙ s))
 
 -- ---- binary search
 

@@ -14,26 +14,22 @@ use Rattle.laws.specs.Res.{Res, ok, refuse, _>>_, at}
 use Rattle.laws.specs.Lists.{firstBad, tab, upTo}
 use Rattle.laws.specs.Loops.{stores}
 use Rattle.laws.proofs.Lists.{length-tab, getD-tab, both-left, both-right}
-use Rattle.laws.proofs.Loops.{firstBad-upTo-passes}
+use Rattle.laws.proofs.Loops.{firstBad-upTo-passes, firstBad-upTo-within}
 use Rattle.rules.specs.Frames.{Frame, ControlRow, noControlRow}
 use Rattle.rules.specs.Checker.{TableRead, controlAt}
-use Rattle.answers.specs.declared.Refusal.{Refusal}
-use Rattle.answers.specs.Refusals.{numberOf, placeOf, said}
 use Rattle.judging.specs.declared.table.Table.{Table}
 use Rattle.judging.specs.declared.naming.Spot.{Spot}
 use Rattle.judging.specs.declared.naming.Spot.the-variants.{At, Nowhere}
-use Rattle.judging.specs.declared.rowrules.Row.{Row}
 use Rattle.judging.specs.declared.rowrules.Bounds.{Bounds}
-use Rattle.judging.specs.declared.judge.Verdict.{Verdict}
-use Rattle.judging.specs.declared.judge.Verdict.the-variants.{Passed, Refused}
+use Rattle.judging.specs.declared.judge.Verdict.the-variants.{Passed}
 use Rattle.judging.specs.declared.judge.Judgement.{Judgement}
 use Rattle.judging.specs.Places.{beforeIn, spotOf, Numbered, numberAt, isNew, spread}
 use Rattle.judging.specs.Memory.{controlIn, rowSeen, seen}
-use Rattle.judging.specs.Rows.{noRow, byRules, heldRow}
+use Rattle.judging.specs.Rows.{timeKept, releaseKept, dueKept, gapKept}
 use Rattle.judging.specs.Judged.{headerFits, controlFits, rowsJudged, judgedFor, headerSame, controlsSame, frameIn, framesIn, timeIn, verdictSays, startsOn, Right}
 use Rattle.laws.proofs.Turns.{same-bad}
 use Rattle.judging.proofs.Names.{starts-laid}
-use Rattle.judging.proofs.Held.{last-stop, number-given, rows-judged}
+use Rattle.judging.proofs.Held.{inOrder, last-stop, number-given, rows-judged}
 
 -- ---- what a scan found
 
@@ -45,18 +41,8 @@ pub spot-nowhere : (o : Option ℕ) {s : Spot} → s ≡ spotOf o → s ≡ Nowh
 spot-nowhere none e q = refl
 spot-nowhere (some j) e q = let z : _≡_ {A = ℕ} 0 1 = cc in absurd (omega arith)
 
--- the refusal of the place that a scan found
-pub found-says : {o : Option ℕ} {k : ℕ} (x : Refusal) (n first : ℕ) → o ≡ some k → numberOf x ≡ n → placeOf x ≡ first + k → said x ≡ at n first o
-found-says x n first e a b = rw (e, a, b)
-
--- ---- one rule after another
-
-module _ {v : Verdict} (first rest : Res (Unit {0})) (e : verdictSays v ≡ first) where
-  pub first-refused : {x : Refusal} → v ≡ Refused x → verdictSays (Refused x) ≡ _>>_ first rest
-  first-refused {x} q = let s : first ≡ refuse (numberOf x) (placeOf x) = sym e ∙ ap verdictSays q in rw s
-
-  pub first-passed : {r : Res (Unit {0})} → v ≡ Passed → r ≡ rest → r ≡ _>>_ first rest
-  first-passed q h = let s : first ≡ ok tt = sym e ∙ ap verdictSays q in rw s h
+pub spot-within : (p : ℕ → Bool) (n : ℕ) {s : Spot} {k : ℕ} → s ≡ spotOf (firstBad p (upTo n)) → s ≡ At k → k < n
+spot-within p n {k = k} e q = firstBad-upTo-within p n k (spot-at (firstBad p (upTo n)) e q)
 
 -- ---- judgements
 
@@ -71,43 +57,91 @@ module _ {says : Res (Unit {0})} (frames : List Frame) (t : TableRead) {j : Judg
 
 module _ (tasks releases deadlines times : List ℕ) (frames : ℕ) (n : Numbered tasks deadlines frames) (b : Bounds) (t : Table)
     (room : t .rows ≤ 256) {named : List ℕ}
-    (numbered : named ≡ stores (replicate 256 0) (numberAt tasks deadlines frames (t .tasks) (t .deadlines)) (t .rows))
-    {rows : List Row} (laid : rows ≡ stores (replicate 256 noRow) (heldRow t named releases times (beforeIn (t .ends) 0 (t .control))) (t .rows)) where
+    (numbered : named ≡ stores (replicate 256 0) (numberAt tasks deadlines frames (t .tasks) (t .deadlines)) (t .rows)) where
+  -- a judgement by rules 23 to 27, and one that refuses by a rule at a row
+  abbrev JudgedRows : Judgement → Type 0
+  JudgedRows j =
+      Right (rowsJudged (framesIn tasks releases deadlines frames) (timeIn times) b (seen t)) (framesIn tasks releases deadlines frames) (seen t) j
+
+  abbrev RefusedAt : ℕ → ℕ → Judgement → Type 0
+  RefusedAt rule k j = (verdictSays (j .verdict) ≡ refuse rule (1 + t .control + k)) × (j .starts ≡ replicate 256 0)
+
+  -- what each scan looks for
+  abbrev nameOk : ℕ → Bool
+  nameOk = isNew named frames
+
+  abbrev timeOk : ℕ → Bool
+  timeOk = timeKept (t .tasks) (t .starts) (t .stops) times (b .resolution .0)
+
+  abbrev releaseOk : ℕ → Bool
+  releaseOk = releaseKept (t .starts) releases named
+
+  abbrev dueOk : ℕ → Bool
+  dueOk = dueKept (t .stops) (t .deadlines)
+
+  abbrev gapOk : ℕ → ℕ → Bool
+  gapOk last = gapKept (t .starts) (t .stops) last (b .gap .0)
+
+  abbrev firstOf : (ℕ → Bool) → Option ℕ
+  firstOf test = firstBad test (upTo (t .rows))
+
   whole : rowsJudged (framesIn tasks releases deadlines frames) (timeIn times) b (seen t)
-      ≡ _>>_ (at 23 (1 + t .control) (firstBad (isNew named frames) (upTo (t .rows)))) (byRules b rows (t .rows) (1 + t .control))
+      ≡ inOrder (1 + t .control) (firstOf nameOk) (firstOf timeOk) (firstOf releaseOk) (firstOf dueOk) (firstOf (gapOk (beforeIn (t .ends) 0 (t .control))))
   whole =
-      sym (rw (laid, numbered) (rows-judged tasks releases deadlines times frames n b t room (beforeIn (t .ends) 0 (t .control)) (last-stop t)))
+      sym (rw numbered (rows-judged tasks releases deadlines times frames n b t room (beforeIn (t .ends) 0 (t .control)) (last-stop t)))
 
-  pub refused-naming : {s : Spot} {k : ℕ} {j : Judgement}
-      → s ≡ spotOf (firstBad (isNew named frames) (upTo (t .rows))) → s ≡ At k
-      → (verdictSays (j .verdict) ≡ refuse 23 (1 + t .control + k)) × (j .starts ≡ replicate 256 0)
-      → Right (rowsJudged (framesIn tasks releases deadlines frames) (timeIn times) b (seen t)) (framesIn tasks releases deadlines frames) (seen t) j
-  refused-naming {s} {k} {j} e q h =
-      let found : firstBad (isNew named frames) (upTo (t .rows)) ≡ some k = spot-at (firstBad (isNew named frames) (upTo (t .rows))) e q in
-      right-refused (framesIn tasks releases deadlines frames) (seen t) (whole ∙ rw found) h
+  -- the ways out: a rule that is broken behind those that are kept, or none is
+  module _ {sa : Spot} (fa : sa ≡ spotOf (firstOf nameOk)) where
+    pub judged-23 : {k : ℕ} {j : Judgement} → sa ≡ At k → RefusedAt 23 k j → JudgedRows j
+    judged-23 q h = right-refused (framesIn tasks releases deadlines frames) (seen t) (whole ∙ rw (spot-at (firstOf nameOk) fa q)) h
 
-  module _ {s : Spot} (e : s ≡ spotOf (firstBad (isNew named frames) (upTo (t .rows)))) (q : s ≡ Nowhere) where
-    clear : firstBad (isNew named frames) (upTo (t .rows)) ≡ none
-    clear = spot-nowhere (firstBad (isNew named frames) (upTo (t .rows))) e q
+    module _ (qa : sa ≡ Nowhere) {sb : Spot} (fb : sb ≡ spotOf (firstOf timeOk)) where
+      named-all : firstOf nameOk ≡ none
+      named-all = spot-nowhere (firstOf nameOk) fa qa
 
-    named-whole : rowsJudged (framesIn tasks releases deadlines frames) (timeIn times) b (seen t) ≡ byRules b rows (t .rows) (1 + t .control)
-    named-whole = whole ∙ rw clear
+      pub judged-24 : {k : ℕ} {j : Judgement} → sb ≡ At k → RefusedAt 24 k j → JudgedRows j
+      judged-24 q h =
+          right-refused (framesIn tasks releases deadlines frames) (seen t) (whole ∙ rw (named-all, spot-at (firstOf timeOk) fb q)) h
 
-    pub refused-rule : {v : Verdict} {j : Judgement} {x : Refusal} → verdictSays v ≡ byRules b rows (t .rows) (1 + t .control) → v ≡ Refused x
-        → (verdictSays (j .verdict) ≡ said x) × (j .starts ≡ replicate 256 0)
-        → Right (rowsJudged (framesIn tasks releases deadlines frames) (timeIn times) b (seen t)) (framesIn tasks releases deadlines frames) (seen t) j
-    refused-rule a p h =
-        right-refused (framesIn tasks releases deadlines frames) (seen t) (named-whole ∙ sym a ∙ ap verdictSays p) h
+      module _ (qb : sb ≡ Nowhere) {sc : Spot} (fc : sc ≡ spotOf (firstOf releaseOk)) where
+        timed-all : firstOf timeOk ≡ none
+        timed-all = spot-nowhere (firstOf timeOk) fb qb
 
-    pub passed-all : {v : Verdict} {j : Judgement} → verdictSays v ≡ byRules b rows (t .rows) (1 + t .control) → v ≡ Passed
-        → j .verdict ≡ Passed → j .starts ≡ spread named (t .starts) (t .rows)
-        → Right (rowsJudged (framesIn tasks releases deadlines frames) (timeIn times) b (seen t)) (framesIn tasks releases deadlines frames) (seen t) j
-    unfolding seen rowSeen
-    passed-all a p v h =
-        right-passed (framesIn tasks releases deadlines frames) (seen t) (named-whole ∙ sym a ∙ ap verdictSays p) v
-        (h ∙ starts-laid tasks releases deadlines frames n (rowSeen t) (t .rows) named
-        (λ k w. rw numbered (number-given tasks releases deadlines times frames n b t room (beforeIn (t .ends) 0 (t .control)) (last-stop t) k w))
-        (t .starts) (λ k w. refl) (λ k w. firstBad-upTo-passes (isNew named frames) (t .rows) k clear w))
+        pub judged-25 : {k : ℕ} {j : Judgement} → sc ≡ At k → RefusedAt 25 k j → JudgedRows j
+        judged-25 q h =
+            right-refused (framesIn tasks releases deadlines frames) (seen t)
+            (whole ∙ rw (named-all, timed-all, spot-at (firstOf releaseOk) fc q)) h
+
+        module _ (qc : sc ≡ Nowhere) {sd : Spot} (fd : sd ≡ spotOf (firstOf dueOk)) where
+          released-all : firstOf releaseOk ≡ none
+          released-all = spot-nowhere (firstOf releaseOk) fc qc
+
+          pub judged-26 : {k : ℕ} {j : Judgement} → sd ≡ At k → RefusedAt 26 k j → JudgedRows j
+          judged-26 q h =
+              right-refused (framesIn tasks releases deadlines frames) (seen t)
+              (whole ∙ rw (named-all, timed-all, released-all, spot-at (firstOf dueOk) fd q)) h
+
+          module _ (qd : sd ≡ Nowhere) {last : ℕ} (isLast : last ≡ beforeIn (t .ends) 0 (t .control))
+              {se : Spot} (fe : se ≡ spotOf (firstOf (gapOk last))) where
+            due-all : firstOf dueOk ≡ none
+            due-all = spot-nowhere (firstOf dueOk) fd qd
+
+            gap-found : firstOf (gapOk (beforeIn (t .ends) 0 (t .control))) ≡ firstOf (gapOk last)
+            gap-found = rw isLast
+
+            pub judged-27 : {k : ℕ} {j : Judgement} → se ≡ At k → RefusedAt 27 k j → JudgedRows j
+            judged-27 q h =
+                right-refused (framesIn tasks releases deadlines frames) (seen t)
+                (whole ∙ rw (named-all, timed-all, released-all, due-all, gap-found ∙ spot-at (firstOf (gapOk last)) fe q)) h
+
+            pub judged-passed : {j : Judgement} → se ≡ Nowhere → j .verdict ≡ Passed → j .starts ≡ spread named (t .starts) (t .rows) → JudgedRows j
+            unfolding seen rowSeen
+            judged-passed q v h =
+                right-passed (framesIn tasks releases deadlines frames) (seen t)
+                (whole ∙ rw (named-all, timed-all, released-all, due-all, gap-found ∙ spot-nowhere (firstOf (gapOk last)) fe q)) v
+                (h ∙ starts-laid tasks releases deadlines frames n (rowSeen t) (t .rows) named
+                (λ k w. rw numbered (number-given tasks releases deadlines times frames n b t room (beforeIn (t .ends) 0 (t .control)) (last-stop t) k w))
+                (t .starts) (λ k w. refl) (λ k w. firstBad-upTo-passes nameOk (t .rows) k named-all w))
 
 -- ---- rules 21 and 22
 

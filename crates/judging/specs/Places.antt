@@ -50,6 +50,10 @@ pub record Parted (tasks deadlines : List ℕ) (frames wanted k : ℕ) : Type 0 
   pub below : (j : ℕ) → j < k → keyAt tasks deadlines j < wanted
   pub above : (j : ℕ) → k ≤ j → j < frames → wanted ≤ keyAt tasks deadlines j
 
+-- one of the frames stands at this place, with this key
+unfoldable pub hasKey : List ℕ → List ℕ → ℕ → ℕ → ℕ → Bool
+hasKey tasks deadlines frames wanted k = ltb k frames && eqb (keyAt tasks deadlines k) wanted
+
 -- the frame at this place has this task and this deadline
 unfoldable pub isPair : List ℕ → List ℕ → ℕ → ℕ → ℕ → Bool
 isPair tasks deadlines task deadline k = eqb task (getD tasks k 0) && eqb deadline (getD deadlines k 0)

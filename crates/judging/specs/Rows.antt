@@ -1,59 +1,25 @@
--- Rules 24 to 27 on a data row that stands beside what it is held against.
+-- Rules 24 to 27 on the data row at a place, of arrays: that the row does not break the rule.
 use mathlib.Core.Bool.{Bool, _&&_}
 use mathlib.Core.List.{List}
 use lib.Dec.{eqb, leb}
 use lib.ListN.{getD}
 use Prim.Native.Nat.{ℕ, _+_}
-use Rattle.laws.specs.Res.{Res, _>>_, at}
-use Rattle.laws.specs.Lists.{firstBad, upTo}
 use Rattle.laws.specs.Numbers.{divides}
-use Rattle.judging.specs.declared.rowrules.Row.{Row}
-use Rattle.judging.specs.declared.rowrules.Rule.{Rule}
-use Rattle.judging.specs.declared.rowrules.Rule.the-variants.{Time, Release, Deadline, Gap}
-use Rattle.judging.specs.declared.rowrules.Bounds.{Bounds}
-use Rattle.judging.specs.declared.table.Table.{Table}
 use Rattle.judging.specs.Places.{lookIn, beforeIn}
 
-abbrev pub noRow : Row
-noRow = record { deadline = 0; start = 0; stop = 0; release = 0; time = 0; before = 0 }
+-- "stop isn't start plus sending time, or start is off the resolution"
+unfoldable pub timeKept : List ℕ → List ℕ → List ℕ → List ℕ → ℕ → ℕ → Bool
+timeKept tasks starts stops times resolution k =
+    eqb (getD stops k 0) (getD starts k 0 + lookIn 32 times (getD tasks k 0)) && divides resolution (getD starts k 0)
 
--- "stop isn't start plus sending time, or start is off the resolution"; "start before release"; "stop after deadline"; "starts
--- before the stop plus gap of the row before it": that the row does not break the rule
-unfoldable pub rowKeeps : Rule → Bounds → Row → Bool
-rowKeeps Time b r = eqb (r .stop) (r .start + r .time) && divides (b .resolution .0) (r .start)
-rowKeeps Release b r = leb (r .release) (r .start)
-rowKeeps Deadline b r = leb (r .stop) (r .deadline)
-rowKeeps Gap b r = leb (r .before + b .gap .0) (r .start)
+-- "start before release"; `numbers` has the number of each row's frame
+unfoldable pub releaseKept : List ℕ → List ℕ → List ℕ → ℕ → Bool
+releaseKept starts releases numbers k = leb (lookIn 256 releases (getD numbers k 0)) (getD starts k 0)
 
-unfoldable pub keepsAt : Rule → Bounds → List Row → ℕ → Bool
-keepsAt rule b rows k = rowKeeps rule b (getD rows k noRow)
+-- "stop after deadline"
+unfoldable pub dueKept : List ℕ → List ℕ → ℕ → Bool
+dueKept stops deadlines k = leb (getD stops k 0) (getD deadlines k 0)
 
-abbrev pub ruleNumber : Rule → ℕ
-ruleNumber Time = 24
-ruleNumber Release = 25
-ruleNumber Deadline = 26
-ruleNumber Gap = 27
-
--- the rule's refusal at the lowest row that breaks it; the first row is record `first`
-unfoldable pub byRule : Rule → Bounds → List Row → ℕ → ℕ → Res (Unit {0})
-byRule rule b rows count first = at (ruleNumber rule) first (firstBad (keepsAt rule b rows) (upTo count))
-
-unfoldable pub byRules : Bounds → List Row → ℕ → ℕ → Res (Unit {0})
-byRules b rows count first = do
-  byRule Time b rows count first
-  byRule Release b rows count first
-  byRule Deadline b rows count first
-  byRule Gap b rows count first
-
--- a data row of a table, with its frame's release and sending time and the stop of the row before it, for the first row that of the
--- last control row
-unfoldable pub heldRow : Table → List ℕ → List ℕ → List ℕ → ℕ → ℕ → Row
-heldRow t numbers releases times last k =
-    record {
-      deadline = getD (t .deadlines) k 0;
-      start = getD (t .starts) k 0;
-      stop = getD (t .stops) k 0;
-      release = lookIn 256 releases (getD numbers k 0);
-      time = lookIn 32 times (getD (t .tasks) k 0);
-      before = beforeIn (t .stops) last k;
-    }
+-- "starts before the stop plus gap of the row before it"; before the first row stands the last control row, with the stop `last`
+unfoldable pub gapKept : List ℕ → List ℕ → ℕ → ℕ → ℕ → Bool
+gapKept starts stops last gap k = leb (beforeIn stops last k + gap) (getD starts k 0)

@@ -8,17 +8,16 @@ ghost use Rattle.laws.specs.Lists.{firstBad, upTo};
 ghost use Rattle.answers.specs.Refusals as answers;
 ghost use Rattle.judging.specs.Places.{Numbered, beforeIn, spotOf};
 ghost use Rattle.judging.specs.Memory.{seen, controlIn};
-ghost use Rattle.judging.specs.Rows.{ruleNumber, byRule, byRules};
 ghost use Rattle.judging.specs.Judged.{headerSame, controlsSame, rowsJudged, framesIn, framesOn, timeIn, lineJudged, verdictSays, Right};
 use crate::naming::Spot;
 use crate::naming::first_unnamed;
 use crate::naming::numbers;
 use crate::naming::starts_by_frame;
 use crate::rowrules::Bounds;
-use crate::rowrules::Row;
-use crate::rowrules::Rule;
-use crate::rowrules::first_bad;
-use crate::rowrules::held;
+use crate::rowrules::first_crowded;
+use crate::rowrules::first_early;
+use crate::rowrules::first_late;
+use crate::rowrules::first_mistimed;
 use crate::table::Header;
 use crate::table::Table;
 use answers::Refusal;
@@ -106,46 +105,6 @@ fn first_strange<'a, 'b>(
     Spot::Nowhere
 }
 
-fn refusal(rule: Rule, place: RecordNo) -> Refusal
-    ensures { λ r. ⌜ (answers.numberOf r ≡ ruleNumber rule) × (answers.placeOf r ≡ place .0) ⌝ }
-{
-    match rule {
-        Rule::Time => Refusal::WrongTime(place),
-        Rule::Release => Refusal::BeforeRelease(place),
-        Rule::Deadline => Refusal::AfterDeadline(place),
-        Rule::Gap => Refusal::GapBroken(place),
-    }
-}
-
-fn by_rule(rule: Rule, rows: [Row; 256], count: usize, bounds: Bounds, first: usize) -> Verdict
-    requires { ⌜ count ≤ 256 ⌝ }
-    requires { ⌜ first ≤ 256 ⌝ }
-    ensures { λ r. ⌜ verdictSays r ≡ byRule rule bounds rows count first ⌝ }
-{
-    match first_bad(rule, rows, count, bounds) {
-        Spot::At(k) => Verdict::Refused(refusal(rule, RecordNo(first + k))),
-        Spot::Nowhere => Verdict::Passed,
-    }
-}
-
-// Rules 24 to 27.
-fn by_rules(rows: [Row; 256], count: usize, bounds: Bounds, first: usize) -> Verdict
-    requires { ⌜ count ≤ 256 ⌝ }
-    requires { ⌜ first ≤ 256 ⌝ }
-    ensures { λ r. ⌜ verdictSays r ≡ byRules bounds rows count first ⌝ }
-{
-    if let Verdict::Refused(x) = by_rule(Rule::Time, rows, count, bounds, first) {
-        return Verdict::Refused(x);
-    }
-    if let Verdict::Refused(x) = by_rule(Rule::Release, rows, count, bounds, first) {
-        return Verdict::Refused(x);
-    }
-    if let Verdict::Refused(x) = by_rule(Rule::Deadline, rows, count, bounds, first) {
-        return Verdict::Refused(x);
-    }
-    by_rule(Rule::Gap, rows, count, bounds, first)
-}
-
 // The stop of the last control row.
 fn last_stop(ends: &[u32; 8], control: usize) -> u32
     requires { ⌜ control ≤ 8 ⌝ }
@@ -175,14 +134,29 @@ fn by_rows<'a>(
     if let Spot::At(k) = first_unnamed(&named, frames, count) {
         return refused(Refusal::NoNewFrame(RecordNo(first + k)));
     }
+    if let Spot::At(k) = first_mistimed(
+        &t.tasks,
+        &t.starts,
+        &t.stops,
+        times,
+        bounds.resolution.0,
+        count,
+    ) {
+        return refused(Refusal::WrongTime(RecordNo(first + k)));
+    }
+    if let Spot::At(k) = first_early(&t.starts, releases, &named, count) {
+        return refused(Refusal::BeforeRelease(RecordNo(first + k)));
+    }
+    if let Spot::At(k) = first_late(&t.stops, &t.deadlines, count) {
+        return refused(Refusal::AfterDeadline(RecordNo(first + k)));
+    }
     let last = last_stop(&t.ends, t.control);
-    let rows = held(t, &named, releases, times, last);
-    match by_rules(rows, count, bounds, first) {
-        Verdict::Refused(x) => refused(x),
-        Verdict::Passed => Judgement {
-            verdict: Verdict::Passed,
-            starts: starts_by_frame(&named, &t.starts, count),
-        },
+    if let Spot::At(k) = first_crowded(&t.starts, &t.stops, last, bounds.gap.0, count) {
+        return refused(Refusal::GapBroken(RecordNo(first + k)));
+    }
+    Judgement {
+        verdict: Verdict::Passed,
+        starts: starts_by_frame(&named, &t.starts, count),
     }
 }
 

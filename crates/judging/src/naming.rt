@@ -4,7 +4,7 @@ ghost use lib.ListN.{replicate};
 ghost use Prim.Native.Nat.{_≤_};
 ghost use Rattle.laws.specs.Lists.{firstBad, upTo};
 ghost use Rattle.laws.specs.Loops.{stores};
-ghost use Rattle.judging.specs.Places.{keyOf, Numbered, Parted, numberOf, numberAt, spotOf, isNew, spread};
+ghost use Rattle.judging.specs.Places.{keyOf, Numbered, Parted, hasKey, numberOf, numberAt, spotOf, isNew, spread};
 
 // Where a scan first met something.
 pub enum Spot {
@@ -37,11 +37,23 @@ fn before(tasks: &[u8; 256], deadlines: &[u32; 256], frames: usize, wanted: u64)
     low
 }
 
-// The number of the frame with this task and deadline, or `frames` where none is.
+// Whether the frame of a number has this key; no frame has a number from `frames` on.
+fn has_key(tasks: &[u8; 256], deadlines: &[u32; 256], frames: usize, wanted: u64, k: usize) -> bool
+    requires { ⌜ frames ≤ 256 ⌝ }
+    ensures { λ r. ⌜ r ≡ hasKey (now (tasks .entry)) (now (deadlines .entry)) frames wanted k ⌝ }
+{
+    if k < frames {
+        return key(deadlines[k], tasks[k]) == wanted;
+    }
+    false
+}
+
+// The number of the frame with this task and deadline, or `frames` where none is. A guess that is right spares the search.
 fn number_of(
     tasks: &[u8; 256],
     deadlines: &[u32; 256],
     frames: usize,
+    guess: usize,
     task: u8,
     deadline: u32,
 ) -> usize
@@ -49,16 +61,17 @@ fn number_of(
     ensures { λ r. ⌜ r ≡ numberOf (now (tasks .entry)) (now (deadlines .entry)) frames task deadline ⌝ }
 {
     let wanted = key(deadline, task);
+    if has_key(tasks, deadlines, frames, wanted, guess) {
+        return guess;
+    }
     let k = before(tasks, deadlines, frames, wanted);
-    if k < frames {
-        if key(deadlines[k], tasks[k]) == wanted {
-            return k;
-        }
+    if has_key(tasks, deadlines, frames, wanted, k) {
+        return k;
     }
     frames
 }
 
-// The number of the frame that each row names by its task and its deadline.
+// The number of the frame that each row names by its task and its deadline. Most rows stand where their frame does.
 pub fn numbers<'a>(
     tasks: &[u8; 256],
     deadlines: &[u32; 256],
@@ -74,7 +87,7 @@ pub fn numbers<'a>(
     let mut found = [0; 256];
     let mut k = 0;
     while k < rows {
-        found[k] = number_of(tasks, deadlines, frames, senders[k], dues[k]);
+        found[k] = number_of(tasks, deadlines, frames, k, senders[k], dues[k]);
         k += 1;
     }
     found

@@ -1,50 +1,15 @@
-// Rules 24 to 27: each looks at one data row, with what the plan asks of its frame and the stop of the row before it.
+// Rules 24 to 27: each looks at the data rows in their order, with what the plan asks of a row's frame or the stop of the row before it.
 ghost use mathlib.Core.Path.{_≡_};
 ghost use mathlib.Core.Bool.{_&&_};
 ghost use lib.Dec.{eqb};
-ghost use lib.ListN.{replicate};
 ghost use Prim.Native.Nat.{_+_, _≤_};
 ghost use Rattle.laws.specs.Lists.{firstBad, upTo};
-ghost use Rattle.laws.specs.Loops.{stores};
 ghost use Rattle.laws.specs.Numbers as laws;
 ghost use Rattle.judging.specs.Places.{lookIn, beforeIn, spotOf};
-ghost use Rattle.judging.specs.Rows.{noRow, rowKeeps, keepsAt, heldRow};
+ghost use Rattle.judging.specs.Rows.{timeKept, releaseKept, dueKept, gapKept};
 use crate::naming::Spot;
-use crate::table::Table;
 use bus::numbers::divides;
 use units::Ticks;
-
-pub enum Rule {
-    Time,
-    Release,
-    Deadline,
-    Gap,
-}
-
-// A data row beside what it is held against.
-pub struct Row {
-    pub deadline: u32,
-    pub start: u32,
-    pub stop: u32,
-    pub release: u32,
-    pub time: u32,
-    pub before: u32,
-}
-
-impl Row {
-    fn empty() -> Row
-        ensures { λ r. ⌜ r ≡ noRow ⌝ }
-    {
-        Row {
-            deadline: 0,
-            start: 0,
-            stop: 0,
-            release: 0,
-            time: 0,
-            before: 0,
-        }
-    }
-}
 
 // What the bus asks of every row.
 pub struct Bounds {
@@ -66,41 +31,6 @@ fn wide(time: u32) -> u64
     time as u64
 }
 
-fn time_kept(row: Row, resolution: u32) -> bool
-    ensures { λ r. ⌜ r ≡ (eqb (row .stop) (row .start + row .time) && laws.divides resolution (row .start)) ⌝ }
-{
-    if wide(row.stop) == later(row.start, row.time) {
-        return divides(resolution, row.start);
-    }
-    false
-}
-
-fn keeps(rule: Rule, row: Row, bounds: Bounds) -> bool
-    ensures { λ r. ⌜ r ≡ rowKeeps rule bounds row ⌝ }
-{
-    match rule {
-        Rule::Time => time_kept(row, bounds.resolution.0),
-        Rule::Release => row.release <= row.start,
-        Rule::Deadline => row.stop <= row.deadline,
-        Rule::Gap => later(row.before, bounds.gap.0) <= wide(row.start),
-    }
-}
-
-// The first row that breaks a rule.
-pub fn first_bad(rule: Rule, rows: [Row; 256], count: usize, bounds: Bounds) -> Spot
-    requires { ⌜ count ≤ 256 ⌝ }
-    ensures { λ r. ⌜ r ≡ spotOf (firstBad (keepsAt rule bounds rows) (upTo count)) ⌝ }
-{
-    let mut k = 0;
-    while k < count {
-        if !keeps(rule, rows[k], bounds) {
-            return Spot::At(k);
-        }
-        k += 1;
-    }
-    Spot::Nowhere
-}
-
 fn place(task: u8) -> usize
     ensures { λ r. ⌜ r ≡ task ⌝ }
 {
@@ -114,10 +44,86 @@ fn time_of(times: &[u32; 32], task: u8) -> u32
     if k < 32 { times[k] } else { 0 }
 }
 
+// Every tick is on a resolution of 1, and no division is needed to see it.
+fn on_grid(resolution: u32, start: u32) -> bool
+    ensures { λ r. ⌜ r ≡ laws.divides resolution start ⌝ }
+{
+    if resolution == 1 {
+        return true;
+    }
+    divides(resolution, start)
+}
+
+fn time_kept(start: u32, stop: u32, time: u32, resolution: u32) -> bool
+    ensures { λ r. ⌜ r ≡ (eqb stop (start + time) && laws.divides resolution start) ⌝ }
+{
+    if wide(stop) == later(start, time) {
+        return on_grid(resolution, start);
+    }
+    false
+}
+
+// Rule 24: the first row whose stop is not its start plus its sending time, or whose start is off the resolution.
+pub fn first_mistimed<'a>(
+    tasks: &'a [u8; 256],
+    starts: &'a [u32; 256],
+    stops: &'a [u32; 256],
+    times: &[u32; 32],
+    resolution: u32,
+    count: usize,
+) -> Spot
+    requires { ⌜ count ≤ 256 ⌝ }
+    ensures { λ r. ⌜ r ≡ spotOf (firstBad (timeKept (now (tasks .entry)) (now (starts .entry)) (now (stops .entry)) (now (times .entry)) resolution) (upTo count)) ⌝ }
+{
+    let mut k = 0;
+    while k < count {
+        if !time_kept(starts[k], stops[k], time_of(times, tasks[k]), resolution) {
+            return Spot::At(k);
+        }
+        k += 1;
+    }
+    Spot::Nowhere
+}
+
 fn release_of(releases: &[u32; 256], frame: usize) -> u32
     ensures { λ r. ⌜ r ≡ lookIn 256 (now (releases .entry)) frame ⌝ }
 {
     if frame < 256 { releases[frame] } else { 0 }
+}
+
+// Rule 25: the first row that starts before the release of its frame.
+pub fn first_early(
+    starts: &[u32; 256],
+    releases: &[u32; 256],
+    numbers: &[usize; 256],
+    count: usize,
+) -> Spot
+    requires { ⌜ count ≤ 256 ⌝ }
+    ensures { λ r. ⌜ r ≡ spotOf (firstBad (releaseKept (now (starts .entry)) (now (releases .entry)) (now (numbers .entry))) (upTo count)) ⌝ }
+{
+    let mut k = 0;
+    while k < count {
+        if starts[k] < release_of(releases, numbers[k]) {
+            return Spot::At(k);
+        }
+        k += 1;
+    }
+    Spot::Nowhere
+}
+
+// Rule 26: the first row that stops after its deadline.
+pub fn first_late<'a>(stops: &'a [u32; 256], deadlines: &'a [u32; 256], count: usize) -> Spot
+    requires { ⌜ count ≤ 256 ⌝ }
+    ensures { λ r. ⌜ r ≡ spotOf (firstBad (dueKept (now (stops .entry)) (now (deadlines .entry))) (upTo count)) ⌝ }
+{
+    let mut k = 0;
+    while k < count {
+        if deadlines[k] < stops[k] {
+            return Spot::At(k);
+        }
+        k += 1;
+    }
+    Spot::Nowhere
 }
 
 fn stop_before(stops: &[u32; 256], k: usize, last: u32) -> u32
@@ -127,30 +133,23 @@ fn stop_before(stops: &[u32; 256], k: usize, last: u32) -> u32
     if k == 0 { last } else { stops[k - 1] }
 }
 
-// The rows of a table, each with what the plan asks of its frame; `last` is the last control row's stop.
-pub fn held(
-    t: Table,
-    numbers: &[usize; 256],
-    releases: &[u32; 256],
-    times: &[u32; 32],
+// Rule 27: the first row that starts before the stop plus gap of the row before it; `last` is the last control row's stop.
+pub fn first_crowded<'a>(
+    starts: &'a [u32; 256],
+    stops: &'a [u32; 256],
     last: u32,
-) -> [Row; 256]
-    requires { ⌜ t .rows ≤ 256 ⌝ }
-    ensures { λ r. ⌜ r ≡ stores (replicate 256 noRow) (heldRow t (now (numbers .entry)) (now (releases .entry)) (now (times .entry)) last) (t .rows) ⌝ }
+    gap: u32,
+    count: usize,
+) -> Spot
+    requires { ⌜ count ≤ 256 ⌝ }
+    ensures { λ r. ⌜ r ≡ spotOf (firstBad (gapKept (now (starts .entry)) (now (stops .entry)) last gap) (upTo count)) ⌝ }
 {
-    let count = t.rows;
-    let mut rows = [Row::empty(); 256];
     let mut k = 0;
     while k < count {
-        rows[k] = Row {
-            deadline: t.deadlines[k],
-            start: t.starts[k],
-            stop: t.stops[k],
-            release: release_of(releases, numbers[k]),
-            time: time_of(times, t.tasks[k]),
-            before: stop_before(&t.stops, k, last),
-        };
+        if wide(starts[k]) < later(stop_before(stops, k, last), gap) {
+            return Spot::At(k);
+        }
         k += 1;
     }
-    rows
+    Spot::Nowhere
 }

@@ -110,6 +110,7 @@ fn control_row(
     }
 }
 
+// The body is cut out first: then it is plain that each of its numbers stands within it.
 fn data_row(
     s: &[u8],
     body: usize,
@@ -126,10 +127,12 @@ fn data_row(
     ensures { λ _. ⌜ now (stops .exit) ≡ placed 256 (now (stops .entry)) k (number (take 4 (drop (body + 9) (now (s .entry))))) ⌝ }
 {
     if k < 256 {
-        tasks[k] = read8(s, body);
-        deadlines[k] = read32(s, body + 1);
-        starts[k] = read32(s, body + 5);
-        stops[k] = read32(s, body + 9);
+        let end = body + 13;
+        let row = &s[body..end];
+        tasks[k] = read8(row, 0);
+        deadlines[k] = read32(row, 1);
+        starts[k] = read32(row, 5);
+        stops[k] = read32(row, 9);
     }
 }
 
@@ -163,14 +166,17 @@ fn gather(
                 if kind == 18 {
                     data_row(s, body, rows, tasks, deadlines, starts, stops);
                     rows += 1;
+                    // This is `next`; but no row waits for the length of the row before it to be looked up.
+                    at = body + 13;
                 } else if kind == 17 {
                     control_row(s, body, control, nodes, begins, ends);
                     control += 1;
+                    at = next;
                 } else {
                     head = first_record(s, body);
+                    at = next;
                 }
                 previous = kind;
-                at = next;
             }
             Step::End => {
                 return Gathered {

@@ -47,9 +47,6 @@ module _ {A : Type 0} (w : ℕ) where
       ext-getD (f 0) l (tab f 0 w) (e ∙ sym (length-tab f 0 w))
       (λ k v. let u : k < w = rw e at v in h k u ∙ sym (table-at f k (f 0) u))
 
-  pub table-same : (f g : ℕ → A) → ((k : ℕ) → f k ≡ g k) → tab f 0 w ≡ tab g 0 w
-  table-same f g h = is-table g (tab f 0 w) (length-tab f 0 w) (λ k v. table-at f k (g 0) v ∙ h k)
-
   pub table-alike : (f : ℕ → A) (z : A) → ((k : ℕ) → f k ≡ z) → replicate w z ≡ tab f 0 w
   table-alike f z h = is-table f (replicate w z) (length-replicate w z) (λ k v. getD-replicate w k z (f 0) v ∙ sym (h k))
 

@@ -3,9 +3,9 @@
 use mathlib.Core.Path.{_≡_, refl, sym, ap, _∙_}
 use mathlib.Core.Bool.{true, _&&_}
 use mathlib.Core.Logic.{_⊎_, inl, inr}
-use native.Mathlib.Nat.{not-suc-le-zero, le-of-suc-le-suc, zero-lt-suc, mul-zero, zero-mul, mul-comm, mul-assoc, mul-sub, suc-mul, mul-le-mul-right, mul-pos, le-trans, le-refl, le-antisymm}
-use native.Mathlib.Nat.{mod-lt, mod-def, div-mul-le-self, div-lt-iff-lt-mul, le-div-iff-mul-le, lt-div-mul-add, mul-div-mul-left, eq-zero-or-pos, div-zero}
-use native.Mathlib.Nat.{dvd-refl, dvd-zero, dvd-mul-left, dvd-mul-right, dvd-trans, dvd-mod-iff, dvd-antisymm, eq-zero-of-zero-dvd, le-of-dvd, pos-of-dvd-of-pos, mul-div-cancel', div-mul-cancel, mul-dvd-mul-left, mul-dvd-mul-right, dvd-of-mul-dvd-mul-right}
+use native.Mathlib.Nat.{not-suc-le-zero, le-of-suc-le-suc, zero-lt-suc, mul-zero, zero-mul, mul-comm, mul-assoc, mul-sub, suc-mul, mul-pos}
+use native.Mathlib.Nat.{mod-lt, mod-def, div-mul-le-self, div-lt-iff-lt-mul, lt-div-mul-add, mul-div-mul-left, eq-zero-or-pos, div-zero}
+use native.Mathlib.Nat.{dvd-refl, dvd-zero, dvd-mul-left, dvd-mul-right, dvd-trans, dvd-mod-iff, dvd-antisymm, eq-zero-of-zero-dvd, pos-of-dvd-of-pos, mul-div-cancel', div-mul-cancel, mul-dvd-mul-left, mul-dvd-mul-right, dvd-of-mul-dvd-mul-right}
 use native.Mathlib.Omega.{arith}
 use Prim.Native.Nat.{ℕ, zero, suc, _+_, _*_, _-_, _/_, _%_, _≤_, _<_, _∣_}
 use Rattle.laws.specs.Numbers.{divides, euclid, gcd, lcm, ceil, up, down}
@@ -82,30 +82,6 @@ pub gcd-greatest : (a b d : ℕ) → d ∣ a → d ∣ b → d ∣ gcd a b
 unfolding gcd
 gcd-greatest a b d p q = euclid-greatest (suc b) a b d p q
 
-pub gcd-unique : (a b g : ℕ) → g ∣ a → g ∣ b → ((d : ℕ) → d ∣ a → d ∣ b → d ∣ g) → g ≡ gcd a b
-gcd-unique a b g p q h = dvd-antisymm (gcd-greatest a b g p q) (h (gcd a b) (gcd-left a b) (gcd-right a b))
-
-pub gcd-comm : (a b : ℕ) → gcd a b ≡ gcd b a
-gcd-comm a b = gcd-unique b a (gcd a b) (gcd-right a b) (gcd-left a b) (λ d p q. gcd-greatest a b d q p)
-
-pub gcd-assoc : (a b c : ℕ) → gcd (gcd a b) c ≡ gcd a (gcd b c)
-gcd-assoc a b c =
-    let g = gcd (gcd a b) c in
-    let ab : g ∣ gcd a b = gcd-left (gcd a b) c in
-    gcd-unique a (gcd b c) g (dvd-trans g ab (gcd-left a b))
-    (gcd-greatest b c g (dvd-trans g ab (gcd-right a b)) (gcd-right (gcd a b) c))
-    (λ d p q. gcd-greatest (gcd a b) c d (gcd-greatest a b d p (dvd-trans d q (gcd-left b c))) (dvd-trans d q (gcd-right b c)))
-
-pub gcd-pos : (a b : ℕ) → 0 < a → 0 < gcd a b
-gcd-pos a b h = pos-of-dvd-of-pos (gcd-left a b) h
-
-pub gcd-le : (a b : ℕ) → 0 < a → gcd a b ≤ a
-gcd-le a b h = le-of-dvd h (gcd-left a b)
-
--- a divisor of one is the gcd of both
-pub gcd-of-divisor : (a b : ℕ) → a ∣ b → gcd a b ≡ a
-gcd-of-divisor a b h = sym (gcd-unique a b a (dvd-refl a) h (λ d p q. p))
-
 mul-mod-mul : (k a b : ℕ) → 0 < k → k * a % (k * b) ≡ k * (a % b)
 mul-mod-mul k a b h =
     mod-def (k * a) (k * b) ∙ ap (λ (q : ℕ). k * a - k * b * q) (mul-div-mul-left a b h) ∙ ap (λ (q : ℕ). k * a - q) (mul-assoc k b (a / b))
@@ -163,9 +139,6 @@ lcm-least a b m p q = by-case (eq-zero-or-pos (gcd a b))
 pub lcm-unique : (a b l : ℕ) → a ∣ l → b ∣ l → ((m : ℕ) → a ∣ m → b ∣ m → l ∣ m) → l ≡ lcm a b
 lcm-unique a b l p q h = dvd-antisymm (h (lcm a b) (lcm-left a b) (lcm-right a b)) (lcm-least a b l p q)
 
-pub lcm-comm : (a b : ℕ) → lcm a b ≡ lcm b a
-lcm-comm a b = lcm-unique b a (lcm a b) (lcm-right a b) (lcm-left a b) (λ m p q. lcm-least a b m q p)
-
 pub lcm-pos : (a b : ℕ) → 0 < a → 0 < b → 0 < lcm a b
 lcm-pos a b h k = pos-of-dvd-of-pos (lcm-least a b (a * b) (dvd-mul-right a b) (dvd-mul-left b a)) (mul-pos h k)
 
@@ -207,18 +180,6 @@ ceil-least a b k h = by-case (eq-zero-or-pos b)
         let e : suc k * b ≡ k * b + b = suc-mul k b in
         le-of-suc-le-suc (div-lt-iff-lt-mul w .1 (rw e (omega arith)))
 
-pub ceil-monotone : (a c b : ℕ) → a ≤ c → ceil a b ≤ ceil c b
-unfolding ceil
-ceil-monotone a c b h = by-case (eq-zero-or-pos b)
-  where
-    by-case : (b ≡ 0) ⊎ (0 < b) → (a + (b - 1)) / b ≤ (c + (b - 1)) / b
-    by-case (inl z) = rw (z, div-zero) (omega arith)
-    by-case (inr w) = ceil-least a b (ceil c b) (le-trans h (ceil-enough c b w))
-
-pub up-multiple : (r x : ℕ) → r ∣ up r x
-unfolding up
-up-multiple r x = dvd-mul-left r (ceil x r)
-
 pub up-enough : (r x : ℕ) → 0 < r → x ≤ up r x
 unfolding up
 up-enough r x h = ceil-enough x r h
@@ -226,26 +187,6 @@ up-enough r x h = ceil-enough x r h
 pub up-tight : (r x : ℕ) → 0 < r → up r x < x + r
 unfolding up
 up-tight r x h = ceil-tight x r h
-
-pub up-least : (r x m : ℕ) → r ∣ m → x ≤ m → up r x ≤ m
-unfolding up
-up-least r x m d h =
-    let e : m / r * r ≡ m = div-mul-cancel r d in
-    let c : ceil x r ≤ m / r = ceil-least x r (m / r) (rw e h) in
-    rw e at (mul-le-mul-right r c)
-
-pub up-monotone : (r x y : ℕ) → x ≤ y → up r x ≤ up r y
-unfolding up
-up-monotone r x y h = mul-le-mul-right r (ceil-monotone x y r h)
-
--- a multiple is already rounded
-pub up-exact : (r x : ℕ) → r ∣ x → up r x ≡ x
-unfolding up
-up-exact r x d = by-case (eq-zero-or-pos r)
-  where
-    by-case : (r ≡ 0) ⊎ (0 < r) → ceil x r * r ≡ x
-    by-case (inl z) = rw z (mul-zero (ceil x 0) ∙ sym (eq-zero-of-zero-dvd (rw z at d)))
-    by-case (inr w) = le-antisymm (up-least r x x d (le-refl x)) (up-enough r x w)
 
 -- ---- rounding down
 
@@ -256,25 +197,3 @@ down-multiple r x = dvd-mul-left r (x / r)
 pub down-below : (r x : ℕ) → down r x ≤ x
 unfolding down
 down-below r x = div-mul-le-self x r
-
-pub down-tight : (r x : ℕ) → 0 < r → x < down r x + r
-unfolding down
-down-tight r x h = lt-div-mul-add h
-
-pub down-greatest : (r x m : ℕ) → r ∣ m → m ≤ x → m ≤ down r x
-unfolding down
-down-greatest r x m d h = by-case (eq-zero-or-pos r)
-  where
-    by-case : (r ≡ 0) ⊎ (0 < r) → m ≤ x / r * r
-    by-case (inl z) = rw (eq-zero-of-zero-dvd (rw z at d)) (omega arith)
-    by-case (inr w) =
-        let e : m / r * r ≡ m = div-mul-cancel r d in
-        let q : m / r ≤ x / r = le-div-iff-mul-le w .1 (rw e h) in
-        rw e at (mul-le-mul-right r q)
-
-pub down-monotone : (r x y : ℕ) → x ≤ y → down r x ≤ down r y
-down-monotone r x y h = down-greatest r y (down r x) (down-multiple r x) (le-trans (down-below r x) h)
-
-pub down-exact : (r x : ℕ) → r ∣ x → down r x ≡ x
-unfolding down
-down-exact r x d = div-mul-cancel r d

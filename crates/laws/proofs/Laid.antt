@@ -14,14 +14,6 @@ module _ {A : Type 0} (f g : ℕ → A) where
   tab-same lo (suc n) h =
       ap₂ _∷_ (h lo (omega arith) (omega arith)) (tab-same (suc lo) n (λ u a b. h u (omega arith) (omega arith)))
 
-  -- one place is changed, and everywhere else the two rules agree
-  pub set-tab : (lo n k : ℕ) (v : A) → v ≡ g (lo + k) → ((u : ℕ) → (u ≡ lo + k → ⊥) → f u ≡ g u) → set (tab f lo n) k v ≡ tab g lo n
-  set-tab lo zero k v e h = refl
-  set-tab lo (suc n) zero v e h = ap₂ _∷_ (e ∙ ap g (add-zero lo)) (tab-same (suc lo) n (λ u a b. h u (λ q. omega arith)))
-  set-tab lo (suc n) (suc k) v e h =
-      let q : lo + suc k ≡ suc lo + k = omega arith in
-      ap₂ _∷_ (h lo (λ p. omega arith)) (set-tab (suc lo) n k v (e ∙ ap g q) (λ u w. h u (λ p. w (p ∙ q))))
-
 pub sets-append : {A : Type 0} (old : List A) (at : ℕ) (l m : List A) → sets old at (l ++ m) ≡ sets (sets old at l) (at + length l) m
 sets-append old at [] m = rw (add-zero at)
 sets-append old at (x ∷ l) m =

@@ -129,11 +129,6 @@ module _ {A : Type 0} (p : A → Bool) where
       or-yes true = refl
       or-yes false = refl
 
-  -- a test that fails at each place
-  pub any-none : (l : List A) (d : A) → ((i : ℕ) → i < length l → p (getD l i d) ≡ false) → any p l ≡ false
-  any-none [] d h = refl
-  any-none (x ∷ l) d h = rw (h zero (omega arith), any-none l d (λ i k. h (suc i) (suc-le-suc k)))
-
   pub any-false : (l : List A) (d : A) (i : ℕ) → any p l ≡ false → i < length l → p (getD l i d) ≡ false
   any-false [] d i e h = absurd (not-suc-le-zero h)
   any-false (x ∷ l) d zero e h = neither-left (p x) (any p l) e
@@ -240,9 +235,6 @@ getD-upTo n k d h = getD-tab (λ k. k) 0 n k d h ∙ zero-add k
 pub upTo-more : (n : ℕ) → upTo (n + 1) ≡ upTo n ++ (n ∷ [])
 upTo-more n = tab-more (λ k. k) 0 n ∙ ap (λ (k : ℕ). upTo n ++ (k ∷ [])) (zero-add n)
 
-pub take-upTo : (n k : ℕ) → k ≤ n → take k (upTo n) ≡ upTo k
-take-upTo n k h = take-tab (λ k. k) 0 n k h
-
 module _ (p : ℕ → Bool) where
   pub keep-upTo-more : (n : ℕ) → keep p (upTo (n + 1)) ≡ keep p (upTo n) ++ consIf (p n) n []
   keep-upTo-more n = rw (upTo-more n) (keep-snoc p (upTo n) n)
@@ -252,12 +244,6 @@ module _ (p : ℕ → Bool) where
 
   pub any-upTo-hit : (n k : ℕ) → k < n → p k ≡ true → any p (upTo n) ≡ true
   any-upTo-hit n k h e = any-hit p (upTo n) k 0 (rw (length-upTo n) h) (rw (getD-upTo n k 0 h) e)
-
-  pub any-upTo-none : (n : ℕ) → ((k : ℕ) → k < n → p k ≡ false) → any p (upTo n) ≡ false
-  any-upTo-none n h = any-none p (upTo n) 0 (λ i k. let q : i < n = rw (length-upTo n) at k in rw (getD-upTo n i 0 q) (h i q))
-
-  pub any-upTo-false : (n k : ℕ) → any p (upTo n) ≡ false → k < n → p k ≡ false
-  any-upTo-false n k e h = rw (getD-upTo n k 0 h) at (any-false p (upTo n) 0 k e (rw (length-upTo n) h))
 
   pub any-upTo-true : (n : ℕ) → any p (upTo n) ≡ true → (k : ℕ) × (k < n) × (p k ≡ true)
   any-upTo-true n e = here (any-true p (upTo n) 0 e)

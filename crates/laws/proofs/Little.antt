@@ -50,11 +50,6 @@ pub length-bytes : (w x : ℕ) → length (bytes w x) ≡ w
 length-bytes zero x = refl
 length-bytes (suc w) x = ap suc (length-bytes w (x / 256))
 
-pub bytes-small : (w x : ℕ) → Bytes (bytes w x)
-bytes-small zero x i = omega arith
-bytes-small (suc w) x zero = omega arith
-bytes-small (suc w) x (suc i) = bytes-small w (x / 256) i
-
 pub number-bytes : (w x : ℕ) → x < 256 ^ w → number (bytes w x) ≡ x
 number-bytes zero x h = omega (arith, pow-zero 256)
 number-bytes (suc w) x h =

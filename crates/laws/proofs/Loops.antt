@@ -75,9 +75,6 @@ stores-all {A} (x ∷ old) f = ext-getD x whole _ (full ∙ sym (length-tab f 0 
 -- ---- firstBelow
 
 module _ (p : ℕ → Bool) where
-  pub missed : (n : ℕ) → firstBelow p n ≡ none → p n ≡ false → firstBelow p (n + 1) ≡ none
-  missed n e q = rw (add-one n, e, q)
-
   pub hit : (n k : ℕ) → k < n → firstBelow p k ≡ none → p k ≡ true → firstBelow p n ≡ some k
   hit zero k h e q = absurd (not-suc-le-zero h)
   hit (suc n) k h e q = here (hit n k) (eq-or-lt-of-le (le-of-suc-le-suc h))
@@ -148,26 +145,6 @@ module _ {A : Type 0} (p : A → Bool) where
       let f = orNext-none (p y) (firstBad p l) e in
       rw (f .0, firstBad-pass l x (f .1) q)
 
-  pub firstBad-fail : (l : List A) (x : A) (m : List A) → firstBad p l ≡ none → p x ≡ false → firstBad p (l ++ (x ∷ m)) ≡ some (length l)
-  firstBad-fail [] x m e q = rw q
-  firstBad-fail (y ∷ l) x m e q =
-      let f = orNext-none (p y) (firstBad p l) e in
-      rw (f .0, firstBad-fail l x m (f .1) q)
-
-  pub firstBad-snoc : (l : List A) (x : A) → firstBad p (l ++ (x ∷ [])) ≡ orAt (firstBad p l) (not (p x)) (length l)
-  firstBad-snoc [] x = alone (p x)
-    where
-      alone : (b : Bool) → orNext b none ≡ orAt none (not b) 0
-      alone true = refl
-      alone false = refl
-  firstBad-snoc (y ∷ l) x = ap (orNext (p y)) (firstBad-snoc l x) ∙ behind (p y) (not (p x)) (firstBad p l)
-    where
-      behind : (b f : Bool) (r : Option ℕ) → orNext b (orAt r f (length l)) ≡ orAt (orNext b r) f (suc (length l))
-      behind true true none = refl
-      behind true false none = refl
-      behind true f (some k) = refl
-      behind false f r = refl
-
   -- one turn of a scan, its return, its end
   pub firstBad-more : (l : List A) (i : ℕ) (d : A) → i < length l → firstBad p (take i l) ≡ none → p (getD l i d) ≡ true
       → firstBad p (take (i + 1) l) ≡ none
@@ -213,10 +190,3 @@ module _ (p : ℕ → Bool) where
   firstBad-upTo-before n k j e v =
       let w = firstBad-upTo-within n k e in
       rw (getD-upTo n j 0 (omega arith)) at (firstBad-bad p (upTo n) 0 k e .before j v)
-
--- the first number that fails is the first at which failing holds
-pub firstBad-firstBelow : (p fails : ℕ → Bool) (n : ℕ) → ((k : ℕ) → fails k ≡ not (p k)) → firstBad p (upTo n) ≡ firstBelow fails n
-firstBad-firstBelow p fails zero h = refl
-firstBad-firstBelow p fails (suc n) h =
-    let u : upTo (suc n) ≡ upTo n ++ (n ∷ []) = rw (add-one n) at (upTo-more n) in
-    ap (firstBad p) u ∙ firstBad-snoc p (upTo n) n ∙ rw (firstBad-firstBelow p fails n h, length-upTo n, h n)

@@ -128,10 +128,6 @@ module _ {A : Type 0} where
     keep-from [] m = m
     keep-from (y ∷ l) {x} m = consIf-from (p y) y x (keep p l) l (keep-from l) m
 
-  pub all-unkept : {P : A → Type 0} (p : A → Bool) {l : List A} → All (λ x. p x ≡ true → P x) l → All P (keep p l)
-  all-unkept p {l} h =
-      all-of-members (keep p l) (λ x m. all-member h (keep-from p l m) (all-member (keep-passes p l) m))
-
   -- ---- any
 
   pub record Found (p : A → Bool) (l : List A) : Type 0 where

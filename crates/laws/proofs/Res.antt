@@ -1,5 +1,5 @@
 -- Answers: what an accepted or refused step tells, in the form that a proof goes on with.
-use mathlib.Core.Path.{_≡_, refl, ap}
+use mathlib.Core.Path.{_≡_, refl}
 use mathlib.Core.Bool.{Bool, true, false}
 use mathlib.Core.Option.{Option, none, some}
 use native.Mathlib.Omega.{arith}
@@ -59,33 +59,15 @@ module _ {A B : Type 0} where
 -- ---- steps may be grouped either way
 
 module _ {A B C : Type 0} where
-  pub bind-assoc : (m : Res A) (f : A → Res B) (g : B → Res C) → _>>=_ (_>>=_ m f) g ≡ _>>=_ m (λ a. _>>=_ (f a) g)
-  bind-assoc (ok a) f g = refl
-  bind-assoc (refuse n p) f g = refl
-
   pub then-assoc : (m : Res A) (r : Res B) (s : Res C) → _>>_ (_>>_ m r) s ≡ _>>_ m (_>>_ r s)
   then-assoc (ok a) r s = refl
   then-assoc (refuse n p) r s = refl
-
-  pub then-bind : (m : Res A) (r : Res B) (g : B → Res C) → _>>=_ (_>>_ m r) g ≡ _>>_ m (_>>=_ r g)
-  then-bind (ok a) r g = refl
-  then-bind (refuse n p) r g = refl
-
-  pub bind-then : (m : Res A) (f : A → Res B) (s : Res C) → _>>_ (_>>=_ m f) s ≡ _>>=_ m (λ a. _>>_ (f a) s)
-  bind-then (ok a) f s = refl
-  bind-then (refuse n p) f s = refl
 
 -- ---- unless, at, given
 
 pub unless-ok : (n p : ℕ) (b : Bool) {u : Unit {0}} → unless n p b ≡ ok u → b ≡ true
 unless-ok n p true e = refl
 unless-ok n p false e = refuse≢ok e
-
-pub unless-passed : (n p : ℕ) {b : Bool} → b ≡ true → unless n p b ≡ ok tt
-unless-passed n p e = rw e
-
-pub unless-failed : (n p : ℕ) {b : Bool} → b ≡ false → unless n p b ≡ refuse n p
-unless-failed n p e = rw e
 
 pub at-ok : (n k : ℕ) (o : Option ℕ) {u : Unit {0}} → at n k o ≡ ok u → o ≡ none
 at-ok n k none e = refl
@@ -98,10 +80,6 @@ pub at-some : (n k : ℕ) {o : Option ℕ} {i : ℕ} → o ≡ some i → at n k
 at-some n k e = rw e
 
 module _ {A : Type 0} where
-  pub given-ok : (n p : ℕ) (o : Option A) {a : A} → given n p o ≡ ok a → o ≡ some a
-  given-ok n p none e = refuse≢ok e
-  given-ok n p (some b) e = ap some (ok-injective e)
-
   pub given-some : (n p : ℕ) {o : Option A} {a : A} → o ≡ some a → given n p o ≡ ok a
   given-some n p e = rw e
 

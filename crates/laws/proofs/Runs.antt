@@ -36,9 +36,6 @@ module _ (T a : ℕ) (pos : 0 < T) where
       let z : a % T ≡ 0 = mod-eq-zero-of-dvd T d in
       next-case h (λ l e. absurd (omega arith)) (λ e f. e)
 
-  pub run-ended : 0 < a → withinRun a T ≡ T → T ∣ a
-  run-ended h q = next-case h (λ l e. absurd (omega arith)) (λ e f. dvd-of-mod-eq-zero T f)
-
   -- one tick on: a run goes on, or the next begins
   pub run-goes : 0 < a → (T ∣ a → ⊥) → withinRun (a + 1) T ≡ withinRun a T + 1
   run-goes h d =

@@ -3,18 +3,15 @@
 use mathlib.Core.Path.{_≡_, refl, sym}
 use mathlib.Core.Bool.{Bool, true, false, cond, not, _&&_, _||_}
 use mathlib.Core.List.{List}
-use mathlib.Core.Logic.{_⊎_, inl, inr}
 use native.Mathlib.Nat.{mod-eq-zero-of-dvd, dvd-of-mod-eq-zero}
 use borrow.Author.Tests.{leb-true, ltb-true, eqb-true, le-leb, lt-ltb, eq-eqb}
 use lib.Dec.{leb, ltb, eqb}
 use lib.ListN.{length, getD}
 use Prim.Native.Nat.{ℕ, _≤_, _<_, _%_, _∣_}
-use Rattle.laws.specs.Lists.{keep, any, all, firstBad, upTo}
+use Rattle.laws.specs.Lists.{keep, any, all, upTo}
 use Rattle.laws.specs.Numbers.{divides}
-use Rattle.laws.specs.Res.{Res, ok, _>>=_, _>>_, unless, at}
-use Rattle.laws.proofs.Lists.{true-false, both-left, both-right, any-hit, any-true, any-upTo-hit, any-upTo-true, all-each, all-true, all-upTo-each, all-upTo-true, all-keep}
-use Rattle.laws.proofs.Loops.{firstBad-none, firstBad-passes, firstBad-upTo-none, firstBad-upTo-passes}
-use Rattle.laws.proofs.Res.{unless-ok, at-ok, at-none, bind-case, then-case}
+use Rattle.laws.specs.Res.{Res, ok, at}
+use Rattle.laws.proofs.Lists.{true-false, both-left, both-right, any-hit, any-true, all-each, all-true, all-upTo-each, all-upTo-true, all-keep}
 
 pub record Tests (b : Bool) (P : Type 0) : Type 0 where
   pub says : b ≡ true → P
@@ -53,18 +50,6 @@ module _ {P Q : Type 0} where
   pub by-and : {b c : Bool} → Tests b P → Tests c Q → Tests (b && c) (P × Q)
   by-and {b} {c} s t =
       record { says = λ e. (s .says (both-left b c e), t .says (both-right b c e)); passes = λ h. rw (s .passes (h .0), t .passes (h .1)) }
-
-  pub by-or : {b c : Bool} → Tests b P → Tests c Q → Tests (b || c) (P ⊎ Q)
-  by-or {b} {c} s t = record { says = said b s; passes = passed b s }
-    where
-      said : (b : Bool) → Tests b P → (b || c) ≡ true → P ⊎ Q
-      said true s e = inl (s .says refl)
-      said false s e = inr (t .says e)
-
-      passed : (b : Bool) → Tests b P → P ⊎ Q → (b || c) ≡ true
-      passed true s h = refl
-      passed false s (inl h) = true-false (sym (s .passes h))
-      passed false s (inr h) = t .passes h
 
   -- a test that is asked only where another passes
   pub by-where : {b c : Bool} → Tests b P → Tests c Q → Tests (cond b c true) (P → Q)
@@ -120,13 +105,6 @@ pub by-all-keep : {A : Type 0} {P Q : ℕ → Type 0} (q r : A → Bool) (l : Li
 by-all-keep q r l d s t = rw (all-keep q r l) (by-all (λ x. cond (q x) (r x) true) l d (λ k w. by-where (s k w) (t k w)))
 
 module _ {P : ℕ → Type 0} (p : ℕ → Bool) (n : ℕ) where
-  pub by-any-upTo : ((k : ℕ) → k < n → Tests (p k) (P k)) → Tests (any p (upTo n)) ((k : ℕ) × (k < n) × P k)
-  by-any-upTo t =
-      record {
-        says = λ e. let f = any-upTo-true p n e in (f .0, f .1, t (f .0) (f .1) .says (f .2));
-        passes = λ h. any-upTo-hit p n (h .0) (h .1) (t (h .0) (h .1) .passes (h .2));
-      }
-
   pub by-all-upTo : ((k : ℕ) → k < n → Tests (p k) (P k)) → Tests (all p (upTo n)) ((k : ℕ) → k < n → P k)
   by-all-upTo t =
       record { says = λ e k w. t k w .says (all-upTo-true p n k e w); passes = λ h. all-upTo-each p n (λ k w. t k w .passes (h k w)) }
@@ -136,42 +114,3 @@ module _ {P : ℕ → Type 0} (p : ℕ → Bool) (n : ℕ) where
 pub record Oks (m : Res (Unit {0})) (P : Type 0) : Type 0 where
   pub says : m ≡ ok tt → P
   pub passes : P → m ≡ ok tt
-
-pub ok-iff : {m : Res (Unit {0})} {P Q : Type 0} → Oks m P → (P → Q) → (Q → P) → Oks m Q
-ok-iff t f g = record { says = λ e. f (t .says e); passes = λ q. t .passes (g q) }
-
-pub ok-unless : {b : Bool} {P : Type 0} (n p : ℕ) → Tests b P → Oks (unless n p b) P
-ok-unless {b} n p t = record { says = λ e. t .says (unless-ok n p b e); passes = λ h. rw (t .passes h) }
-
-pub ok-then : {m r : Res (Unit {0})} {P Q : Type 0} → Oks m P → Oks r Q → Oks (_>>_ m r) (P × Q)
-ok-then {m} {r} s t =
-    record {
-      says = λ e. then-case m r e (λ u f g. (s .says f, t .says g));
-      passes = λ h. rw (s .passes (h .0)) (t .passes (h .1));
-    }
-
--- a step that yields a value, and what is asked of the value
-pub ok-bind : {A : Type 0} {P : A → Type 0} (m : Res A) (f : A → Res (Unit {0})) → ((a : A) → Oks (f a) (P a))
-    → Oks (_>>=_ m f) ((a : A) × (m ≡ ok a) × P a)
-ok-bind m f t =
-    record {
-      says = λ e. bind-case m f e (λ a q r. (a, q, t a .says r));
-      passes = λ h. rw (h .1) (t (h .0) .passes (h .2));
-    }
-
--- every place passes
-pub ok-firstBad : {A : Type 0} {P : ℕ → Type 0} (n at₀ : ℕ) (p : A → Bool) (l : List A) (d : A)
-    → ((k : ℕ) → k < length l → Tests (p (getD l k d)) (P k)) → Oks (at n at₀ (firstBad p l)) ((k : ℕ) → k < length l → P k)
-ok-firstBad n at₀ p l d t =
-    record {
-      says = λ e k w. t k w .says (firstBad-passes p l d k (at-ok n at₀ (firstBad p l) e) w);
-      passes = λ h. at-none n at₀ (firstBad-none p l d (λ k w. t k w .passes (h k w)));
-    }
-
-pub ok-firstBad-upTo : {P : ℕ → Type 0} (n at₀ : ℕ) (p : ℕ → Bool) (c : ℕ) → ((k : ℕ) → k < c → Tests (p k) (P k))
-    → Oks (at n at₀ (firstBad p (upTo c))) ((k : ℕ) → k < c → P k)
-ok-firstBad-upTo n at₀ p c t =
-    record {
-      says = λ e k w. t k w .says (firstBad-upTo-passes p c k (at-ok n at₀ (firstBad p (upTo c)) e) w);
-      passes = λ h. at-none n at₀ (firstBad-upTo-none p c (λ k w. t k w .passes (h k w)));
-    }

@@ -6,3 +6,4 @@ pub mod Framing
 pub mod Cycle
 pub mod Reading
 pub mod Unique
+pub mod Drawn

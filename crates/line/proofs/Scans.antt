@@ -47,7 +47,7 @@ eight-stored a f k e h w =
     let q : k ≡ 8 = omega arith in
     e ∙ ap (stores (replicate 8 0) f) q ∙ stores-all (replicate 8 0) f
 
-pub message-test : (tasks : List Bool) (p : Plan) (t : ℕ) (r : Bool) → r ≡ cond (getD tasks t false) (leb (theTask p t .size) (p .bus .most)) true
+pub message-test : (tasks : List Bool) (p : Plan) (t size : ℕ) (r : Bool) → size ≡ theTask p t .size → r ≡ cond (getD tasks t false) (leb size (p .bus .most)) true
     → messageKeeps tasks p t ≡ r
 unfolding messageKeeps flagAt
-message-test tasks p t r e = sym e
+message-test tasks p t size r q e = sym (rw q at e)

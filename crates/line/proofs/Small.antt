@@ -4,17 +4,20 @@ use mathlib.Core.List.{List}
 use native.Mathlib.Nat.{max-le, le-trans, le-mul-of-pos-right}
 use native.Mathlib.Omega.{arith}
 use lib.Dec.{lit≤}
-use lib.ListN.{replicate}
+use lib.ListN.{length, getD, replicate, List·getD-eq-default}
 use Prim.Native.Nat.{ℕ, _+_, _*_, _≤_, _<_, max}
 use Rattle.laws.specs.Lists.{tab}
 use Rattle.laws.specs.Loops.{stores}
 use Rattle.laws.specs.Numbers.{ceil, up}
-use Rattle.laws.proofs.Loops.{stores-all}
+use Rattle.laws.proofs.Bus.{table-filled}
 use Rattle.laws.proofs.Divisors.{ceil-least, up-tight}
 use Rattle.laws.proofs.Members.{all-getD-or, all-weaker}
 use Rattle.rules.specs.Plan.{Bus, Plan, Task, noTask, theTask}
 use Rattle.rules.specs.Frames.{ticksOfBits, sendingTime, gapTime}
 use Rattle.rules.proofs.PlanKept.{PlanKept, BusKept, TaskKept}
+use Rattle.plan.specs.declared.Plan as plan
+use Rattle.plan.specs.Memory.{seen, taskSeen, taskLaid}
+use Rattle.bus.proofs.Things.{task-here}
 use Rattle.line.specs.Line.{taskTime}
 
 module _ (b : Bus) (k : BusKept b) where
@@ -40,6 +43,11 @@ module _ (b : Bus) (k : BusKept b) where
   unfolding gapTime
   gap-small = let g : b .gap ≤ 1000 = k .gap .most in ticks-small (b .gap) (omega arith)
 
+-- the number of bytes that a struct has for a task
+pub size-of : (p : plan.Plan) (t : ℕ) → t < length (seen p .tasks) → getD (p .tasks) t (taskLaid noTask) .size .0 ≡ theTask (seen p) t .size
+unfolding theTask taskSeen taskLaid
+size-of p t h = sym (ap (λ (x : Task). x .size) (task-here p t h))
+
 module _ (p : Plan) where
   task-small : PlanKept p → (t : ℕ) → theTask p t .size ≤ 256
   unfolding theTask
@@ -50,11 +58,18 @@ module _ (p : Plan) where
       let h : theTask p t .size ≤ 256 = task-small k t in
       rw q (sending-small (p .bus) (k .bus) size (omega arith))
 
+  pub no-time-small : PlanKept p → (r : ℕ) → r ≡ sendingTime (p .bus) 0 → r < 4294967296
+  no-time-small k r q = rw q (sending-small (p .bus) (k .bus) 0 (omega arith))
+
   pub time-of : (t size r : ℕ) → size ≡ theTask p t .size → r ≡ sendingTime (p .bus) size → r ≡ taskTime p t
   unfolding taskTime
   time-of t size r e q = q ∙ ap (sendingTime (p .bus)) e
 
-pub times-stored : (a : List ℕ) (f : ℕ → ℕ) (k : ℕ) → a ≡ stores (replicate 32 0) f k → k ≤ 32 → 32 ≤ k → a ≡ tab f 0 32
-times-stored a f k e h w =
-    let q : k ≡ 32 = omega arith in
-    e ∙ ap (stores (replicate 32 0) f) q ∙ stores-all (replicate 32 0) f
+-- a number that the plan has no task of stands for a message of no bytes
+pub times-stored : (p : Plan) (a : List ℕ) (none n k : ℕ) → none ≡ sendingTime (p .bus) 0 → n ≡ length (p .tasks) → n ≤ 32 → a ≡ stores (replicate 32 none) (taskTime p) k → k ≤ n → n ≤ k
+    → a ≡ tab (taskTime p) 0 32
+unfolding taskTime theTask
+times-stored p a none n k z c s e h w =
+    let q : k ≡ n = omega arith in
+    e ∙ ap (stores (replicate 32 none) (taskTime p)) q
+    ∙ table-filled 32 (taskTime p) none n s (λ j u v. ap (λ (x : Task). sendingTime (p .bus) (x .size)) (List·getD-eq-default (p .tasks) noTask (omega arith)) ∙ sym z)

@@ -5,7 +5,6 @@ ghost use lib.Dec.{leb};
 ghost use lib.ListN.{length};
 ghost use Prim.Native.Nat.{_≤_, _<_, _^_};
 ghost use Rattle.laws.specs.Lists.{any, all, tab, upTo};
-ghost use Rattle.rules.specs.Plan.{theTask};
 ghost use Rattle.rules.proofs.PlanKept.{PlanKept};
 ghost use Rattle.plan.specs.Memory.{seen};
 ghost use Rattle.bus.specs.Senders.{byNumber};
@@ -35,8 +34,8 @@ use cycle::period::switch_grid;
 use cycle::runs::Runs;
 use frames::laid::Frames;
 use plan::Plan;
-use plan::look::task_at;
 use plan::look::task_count;
+use units::ByteCount;
 use units::Ticks;
 
 // `floor` is C; `time` is by task; `nodes`, `starts` and `stops` are the control rows, `controls` of them; `task`, `release` and
@@ -95,12 +94,11 @@ fn some_bus_task(tasks: [bool; 256], count: usize) -> bool
 }
 
 // Whether the message of a bus task fits the largest payload; other tasks send none.
-fn message_keeps(p: Plan, sends: bool, t: usize) -> bool
-    ensures { λ r. ⌜ r ≡ cond sends (leb (theTask (seen p) t .size) (seen p .bus .most)) true ⌝ }
+fn message_keeps(sends: bool, size: u32, most: u32) -> bool
+    ensures { λ r. ⌜ r ≡ cond sends (leb size most) true ⌝ }
 {
     if sends {
-        let task = task_at(p, t);
-        return task.size.0 <= p.bus.most.0;
+        return size <= most;
     }
     true
 }
@@ -111,7 +109,7 @@ fn messages_fit(p: Plan, tasks: [bool; 256]) -> bool
     let count = task_count(p);
     let mut t = 0;
     while t < count {
-        if !message_keeps(p, tasks[t], t) {
+        if !message_keeps(tasks[t], p.tasks[t].size.0, p.bus.most.0) {
             return false;
         }
         t += 1;
@@ -177,16 +175,18 @@ fn control_stops(control: Control) -> [u32; 8]
     stops
 }
 
-// The sending time of each task's message, by task.
+// The sending time of each task's message, by task; a task that the plan does not have would send no bytes.
 fn times(p: Plan) -> [u32; 32]
     requires { ⌜ PlanKept (seen p) ⌝ }
     ensures { λ r. ⌜ r ≡ tab (taskTime (seen p)) 0 32 ⌝ }
 {
     let bus = p.bus;
-    let mut time = [0; 32];
+    let count = task_count(p);
+    let none = sending_time(bus, ByteCount(0)).0 as u32;
+    let mut time = [none; 32];
     let mut t = 0;
-    while t < 32 {
-        let task = task_at(p, t);
+    while t < count {
+        let task = p.tasks[t];
         time[t] = sending_time(bus, task.size).0 as u32;
         t += 1;
     }
@@ -214,11 +214,20 @@ fn refused(why: Refusal) -> Laid
 }
 
 // The line of a plan that passed refusals 1 to 11.
-fn line_of(p: Plan, period: u32, end: Span, control: Control, frames: Frames) -> Line
+fn line_of<'a>(
+    p: Plan,
+    period: u32,
+    end: Span,
+    control: Control,
+    count: usize,
+    tasks: &'a [u8; 256],
+    releases: &'a [u32; 256],
+    deadlines: &'a [u32; 256],
+) -> Line
     requires { ⌜ PlanKept (seen p) ⌝ }
     requires { ⌜ (period ≡ busPeriod (seen p)) × (end .0 ≡ controlEnd (seen p)) × (end .0 < 2 ^ 32) ⌝ }
     requires { ⌜ control ≡ controlLaid (controlRows (seen p)) ⌝ }
-    requires { ⌜ (frames ≡ framesLaid (rules.frames (seen p))) × (length (rules.frames (seen p)) ≤ 256) ⌝ }
+    requires { ⌜ (framesLaid (rules.frames (seen p)) ≡ record { count = count; tasks = now tasks; releases = now releases; deadlines = now deadlines }) × (length (rules.frames (seen p)) ≤ 256) ⌝ }
     ensures { λ r. ⌜ r ≡ lineOf (layoutOf (seen p)) ⌝ }
 {
     let bus = p.bus;
@@ -227,9 +236,9 @@ fn line_of(p: Plan, period: u32, end: Span, control: Control, frames: Frames) ->
     let nodes = control_nodes(control);
     let starts = control_starts(control);
     let stops = control_stops(control);
-    let task = frames.tasks;
-    let release = frames.releases;
-    let deadline = frames.deadlines;
+    let task = *tasks;
+    let release = *releases;
+    let deadline = *deadlines;
     Line {
         period: Ticks(period),
         resolution: Ticks(bus.resolution.0),
@@ -240,7 +249,7 @@ fn line_of(p: Plan, period: u32, end: Span, control: Control, frames: Frames) ->
         nodes: nodes,
         starts: starts,
         stops: stops,
-        frames: frames.count,
+        frames: count,
         task: task,
         release: release,
         deadline: deadline,
@@ -248,11 +257,19 @@ fn line_of(p: Plan, period: u32, end: Span, control: Control, frames: Frames) ->
 }
 
 // Refusals 10 and 11 of a plan to which 6 to 9 do not apply, and its line.
-fn closed(p: Plan, senders: Senders, period: u32, frames: Frames) -> Laid
+fn closed<'a>(
+    p: Plan,
+    senders: Senders,
+    period: u32,
+    count: usize,
+    task: &'a [u8; 256],
+    release: &'a [u32; 256],
+    deadline: &'a [u32; 256],
+) -> Laid
     requires { ⌜ PlanKept (seen p) ⌝ }
     requires { ⌜ senders ≡ sendersOf (seen p) ⌝ }
     requires { ⌜ (period ≡ busPeriod (seen p)) × (period ≤ 1000000) ⌝ }
-    requires { ⌜ (frames ≡ framesLaid (rules.frames (seen p))) × (length (rules.frames (seen p)) ≤ 256) ⌝ }
+    requires { ⌜ (framesLaid (rules.frames (seen p)) ≡ record { count = count; tasks = now task; releases = now release; deadlines = now deadline }) × (length (rules.frames (seen p)) ≤ 256) ⌝ }
     requires { ⌜ layout (seen p) ≡ closing (seen p) ⌝ }
     ensures { λ r. ⌜ Lays r (layout (seen p)) ⌝ }
 {
@@ -269,7 +286,7 @@ fn closed(p: Plan, senders: Senders, period: u32, frames: Frames) -> Laid
         return refused(Refusal::ControlTooLong);
     }
     let control = control_rows(p, payloads);
-    let line = line_of(p, period, end, control, frames);
+    let line = line_of(p, period, end, control, count, task, release, deadline);
     Laid {
         answer: Answer::Sound,
         line: line,
@@ -288,7 +305,15 @@ fn framed(p: Plan, senders: Senders, runs: Runs, period: u32) -> Laid
     if Frames::MOST < frames.count {
         return refused(Refusal::TooManyFrames);
     }
-    closed(p, senders, period, frames)
+    closed(
+        p,
+        senders,
+        period,
+        frames.count,
+        &frames.tasks,
+        &frames.releases,
+        &frames.deadlines,
+    )
 }
 
 // Refusals 6 to 11 of a plan that was read, and its line. P is not computed before each period was tried against the grid.

@@ -1,4 +1,4 @@
-pub mod Lined
+pub mod OverLine
 pub mod Scattered
 pub mod Tabled
 pub mod Ways

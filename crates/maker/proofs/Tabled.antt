@@ -30,7 +30,8 @@ use Rattle.rows.specs.declared.TableRows.{TableRows}
 use Rattle.rows.specs.Rows.{rowsLaid, scattered, taskAt, stopAt, tableRows}
 use Rattle.tablebytes.specs.Rows.{controlIn, dataIn, tableIn}
 use Rattle.maker.specs.Steps.{needed}
-use Rattle.maker.proofs.Lined.{Lined, lined, time-is, controls-are}
+use Rattle.line.proofs.Drawn.{Drawn, drawn}
+use Rattle.maker.proofs.OverLine.{time-is, controls-are}
 use Rattle.maker.proofs.Scattered.{noPlaced, tasks-are, releases-are, deadlines-are, rows-count, starts-scattered}
 
 -- ---- how long a table is
@@ -62,7 +63,7 @@ table-long l placed e =
 
 -- what is said of a layout and of its placed frames
 pub record Fair (l : Layout) (placed : List Placed) : Type 0 where
-  pub lined : Lined l
+  pub isDrawn : Drawn l
   pub well : PlacedWell l placed
   pub fits : TableFits l placed
 
@@ -70,7 +71,7 @@ pub fair : (file : List ℕ) (p : Plan) (l : Layout) (placed : List Placed) → 
 unfolding layoutOf
 fair file p l placed isRead isLaid rule =
     record {
-      lined = lined file p l isRead isLaid;
+      isDrawn = drawn file p l isRead isLaid;
       well = subst (λ (x : Layout). PlacedWell x placed) (h .is) (placed-well (layoutOf p) (gap-within p) placed rule₀);
       fits = subst (λ (x : Layout). TableFits x placed) (h .is) (table-fits p (readable-kept file p isRead) h₀ placed rule₀);
     }
@@ -98,7 +99,7 @@ module _ (l : Layout) (placed : List Placed) (h : Fair l placed) where
   put j = getD placed j noPlaced
 
   few : n ≤ 256
-  few = h .lined .few
+  few = h .isDrawn .few
 
   count : length placed ≡ n
   count = h .well .count
@@ -123,7 +124,7 @@ module _ (l : Layout) (placed : List Placed) (h : Fair l placed) where
   task-small : (j : ℕ) → j < n → put j .frame .task < 32
   task-small j w =
       let k = known j w in
-      subst (λ (f : Frame). f .task < 32) (k .is) (all-getD noFrame (h .lined .tasks) (put j .number) (k .within))
+      subst (λ (f : Frame). f .task < 32) (k .is) (all-getD noFrame (h .isDrawn .tasks) (put j .number) (k .within))
 
   data-fits : (j : ℕ) → j < n → DataFits (dataRow l (put j))
   data-fits j w = all-getD noPlaced (all-unmap (dataRow l) placed (h .fits .rows)) j (rw count w)
@@ -145,7 +146,7 @@ module _ (l : Layout) (placed : List Placed) (h : Fair l placed) where
   stop-at : (j : ℕ) → j < n → stopAt tasks time number start j ≡ put j .start + frameTime l (put j .frame)
   unfolding stopAt timeOf dataRow
   stop-at j w =
-      let t : getD time (put j .frame .task) 0 ≡ frameTime l (put j .frame) = time-is l (h .lined) (put j .frame) (task-small j w) in
+      let t : getD time (put j .frame .task) 0 ≡ frameTime l (put j .frame) = time-is l (h .isDrawn) (put j .frame) (task-small j w) in
       rw (start-at j w, task-at j w, t) (mod-eq-of-lt (data-fits j w .stop))
 
   -- ---- the table
@@ -173,7 +174,7 @@ module _ (l : Layout) (placed : List Placed) (h : Fair l placed) where
       (tab written 0 n) (line.lineOf l .controls) n
       ≡ tableBytes l placed
   unfolding tableIn tableBytes line.lineOf
-  table-written = rw (rows-written, controls-are l (h .lined), count)
+  table-written = rw (rows-written, controls-are l (h .isDrawn), count)
 
   -- ---- the frame rows
 

@@ -39,7 +39,8 @@ use Rattle.maker.specs.declared.Answer.the-variants.{Made, Refused}
 use Rattle.maker.specs.declared.Making.{Making}
 use Rattle.maker.specs.Making.{heard, lengthOf, bufferLeft, Makes, PassesCheck, lentFor}
 use Rattle.maker.specs.Steps.{Stands, AllPlaced, laidTable, needed}
-use Rattle.maker.proofs.Lined.{Lined, lined, rule-is, deadlines-rise}
+use Rattle.line.proofs.Drawn.{Drawn, drawn}
+use Rattle.maker.proofs.OverLine.{rule-is, deadlines-rise}
 use Rattle.maker.proofs.Tabled.{Fair, fair, table-long, table-written, rows-are}
 
 -- ---- a refusal, and a table
@@ -49,7 +50,7 @@ pub makes-refused : (x : Refusal) (r : Making) (before after : List ℕ) (rule :
 makes-refused x r before after rule e b q = record { answered = rw (e, q); left = rw (e, q); written = rw (b, q) }
 
 -- the table at the front is the table stored there
-table-stored : (table old : List ℕ) → length table ≤ length old → sets old 0 table ≡ table ++ drop (length table) old
+pub table-stored : (table old : List ℕ) → length table ≤ length old → sets old 0 table ≡ table ++ drop (length table) old
 table-stored table old h =
     let room : 0 + length table ≤ length old = omega arith in
     sets-eq table old 0 room ∙ ap (λ (k : ℕ). table ++ drop k old) (zero-add (length table))
@@ -96,17 +97,17 @@ ruleOver line =
     (numberedFrom 0 (tab (frameAt (line .task) (line .release) (line .deadline)) 0 (line .frames))) []
 
 module _ (line : Line) (s : Stands line) where
-  lined-of : Lined (s .lay)
-  lined-of = lined (s .file) (s .plan) (s .lay) (s .isRead) (s .isLaid)
+  drawn-of : Drawn (s .lay)
+  drawn-of = drawn (s .file) (s .plan) (s .lay) (s .isRead) (s .isLaid)
 
   -- what the arrays of a line are known to keep
   pub few-frames : line .frames ≤ 256
   unfolding lineOf
-  few-frames = rw (s .is) (lined-of .few)
+  few-frames = rw (s .is) (drawn-of .few)
 
   pub few-controls : line .controls ≤ 8
   unfolding lineOf
-  few-controls = rw (s .is) (lined-of .controls)
+  few-controls = rw (s .is) (drawn-of .controls)
 
   pub tasks-long : length (line .task) ≡ 256
   unfolding lineOf
@@ -121,12 +122,12 @@ module _ (line : Line) (s : Stands line) where
   times-long = rw (s .is) (length-tab (taskTime (s .lay .plan)) 0 32)
 
   pub deadlines-rising : (i j : ℕ) → i ≤ j → j < line .frames → getD (line .deadline) i 0 ≤ getD (line .deadline) j 0
-  deadlines-rising = rw (s .is) (deadlines-rise (s .lay) lined-of)
+  deadlines-rising = rw (s .is) (deadlines-rise (s .lay) drawn-of)
 
   module _ (placing : Placing) (q : placing ≡ laid (ruleOver line)) where
     pub placing-is : placing ≡ laid (latestRelease (s .lay))
     placing-is =
-        let e : ruleOver line ≡ latestRelease (s .lay) = rw (s .is) (rule-is (s .lay) lined-of) in
+        let e : ruleOver line ≡ latestRelease (s .lay) = rw (s .is) (rule-is (s .lay) drawn-of) in
         q ∙ ap laid e
 
     -- 12: a frame found no room

@@ -3,3 +3,4 @@ pub mod Laid
 pub mod Parts
 pub mod Sizes
 pub mod SoFar
+pub mod Stored

@@ -20,8 +20,9 @@ use Rattle.records.proofs.Steps.{from, onward, one-step, Found, found}
 use Rattle.plan.specs.declared.Plan as memory
 use Rattle.plan.specs.declared.gather.Outcome.the-variants.{Whole, Broken}
 use Rattle.plan.specs.Memory.{emptyPlan, layOut, noPlan, countSeen}
-use Rattle.plan.specs.Gather.{oneMore, withBus, withNodes, withModule, withMode, withTask, withInvocation, withConnection, withRecord, withRecords, gatheredOf}
+use Rattle.plan.specs.Gather.{oneMore, withBus, withNodes, withModule, withMode, withTask, withInvocation, withConnection, withRecord, withRecords, numberOf, gatheredOf}
 use Rattle.plan.proofs.Gathering.{gathered-whole, file-planned}
+use Rattle.plan.proofs.Stored.{picked, number-least, sizesOf, sizes-kept}
 
 -- ---- a body that is cut out of the file says what the file says there
 
@@ -42,10 +43,6 @@ one-at-most (x ∷ l) zero zero = omega arith
 one-at-most (x ∷ l) zero (suc k) = omega arith
 one-at-most (x ∷ l) (suc j) zero = omega arith
 one-at-most (x ∷ l) (suc j) (suc k) = one-at-most l j k
-
-picked : {A : Type 0} (P : A → Type 0) (b : Bool) {x y : A} → P x → P y → P (cond b x y)
-picked P true p q = p
-picked P false p q = q
 
 module _ (p : memory.Plan) (r : Rec) (k : ℕ) (h : 3 ≤ k) where
   abbrev Grown : memory.Plan → Type 0
@@ -83,6 +80,7 @@ pub record SoFar (s : List ℕ) (p : memory.Plan) (previous at : ℕ) : Type 0 w
   pub inside : at ≤ length s
   pub whole : gatherOn emptyPlan (records planFollows 1 s) ≡ gatherOn p (from Plan 1 s previous at)
   pub counted : (k : ℕ) → 3 ≤ k → countSeen p k ≤ at
+  pub sized : sizesOf p ≡ sizesOf emptyPlan
 
 gather-before : (order : ℕ → ℕ → Bool) (n : ℕ) (p : memory.Plan) (r : Rec) (w : Res (List Rec))
     → gatherOn p (before order n r w) ≡ gatherOn (withRecord p r) w
@@ -92,7 +90,7 @@ gather-before order n p r (refuse m place) = refl
 module _ (s : List ℕ) where
   pub so-far-none : SoFar s emptyPlan 0 0
   unfolding records from emptyPlan layOut noPlan countSeen
-  so-far-none = record { inside = omega arith; whole = refl; counted = λ k h. omega (arith, zeros 8 k) }
+  so-far-none = record { inside = omega arith; whole = refl; counted = λ k h. omega (arith, zeros 8 k); sized = refl }
 
   finished : (p : memory.Plan) (m : Res (List Rec)) → records planFollows 1 s ≡ m → gatherOn emptyPlan m ≡ ok p
       → record { outcome = Whole; plan = p } ≡ gatheredOf m
@@ -109,12 +107,12 @@ module _ (s : List ℕ) where
         → gatherOn emptyPlan (records planFollows 1 s) ≡ gatherOn p (onward Plan 1 s step)
     onwards step q = h .whole ∙ ap (gatherOn p) (one-step Plan 1 s previous at (h .inside) ∙ ap (onward Plan 1 s) q)
 
-    pub so-far-more : (kind body next : ℕ) (q : memory.Plan) → nextAt Plan s previous at ≡ Record kind body next
-        → q ≡ withRecord p (recordOf kind (take (next - body) (drop body s))) → SoFar s q kind next
-    so-far-more kind body next q e w =
+    pub so-far-more : (kind body next : ℕ) (q : memory.Plan) (lent : List ℕ) → nextAt Plan s previous at ≡ Record kind body next
+        → lent ≡ take (next - body) (drop body s) → q ≡ withRecord p (recordOf kind lent) → SoFar s q kind next
+    so-far-more kind body next q lent e l w =
         let f = found Plan s previous at kind body next e in
         let n : next - body ≡ bodyLength kind = omega (arith, f .body-place, f .next-place) in
-        let r : q ≡ withRecord p (recordOf kind (drop body s)) = rw (n, record-cut kind (drop body s)) at w in
+        let r : q ≡ withRecord p (recordOf kind (drop body s)) = rw (l, n, record-cut kind (drop body s)) at w in
         record {
           inside = f .fits;
           whole =
@@ -122,7 +120,19 @@ module _ (s : List ℕ) where
               ∙ gather-before planFollows 1 p (recordOf kind (drop body s)) (from Plan 1 s kind next)
               ∙ rw r;
           counted = λ k t. rw r (omega (arith, counted-more p (recordOf kind (drop body s)) k t, h .counted k t, f .further));
+          sized = rw r (sizes-kept p (recordOf kind (drop body s)) ∙ h .sized);
         }
+
+    -- a record is counted at a place inside of the file, and what stands behind it is less
+    pub so-far-number : (kind body next : ℕ) → nextAt Plan s previous at ≡ Record kind body next → numberOf (p .counts) kind < length s
+    so-far-number kind body next e =
+        let f = found Plan s previous at kind body next e in
+        omega (arith, f .further, f .fits, number-least p kind at (h .counted))
+
+    pub so-far-less : (kind body next : ℕ) → nextAt Plan s previous at ≡ Record kind body next → length s - next < length s - at
+    so-far-less kind body next e =
+        let f = found Plan s previous at kind body next e in
+        omega (arith, f .further, f .fits)
 
     pub so-far-end : nextAt Plan s previous at ≡ End
         → record { outcome = Whole; plan = p } ≡ gatheredOf (records planFollows 1 s)

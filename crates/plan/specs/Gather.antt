@@ -1,8 +1,8 @@
 -- A plan gathered from records as they are met: what one record adds to the plan in memory, and what a whole file comes to.
-use mathlib.Core.Bool.{cond}
+use mathlib.Core.Bool.{Bool, cond, _&&_}
 use mathlib.Core.List.{List, [], _∷_}
-use lib.Dec.{eqb}
-use lib.ListN.{set}
+use lib.Dec.{eqb, leb, ltb}
+use lib.ListN.{getD, set}
 use Prim.Native.Nat.{ℕ, _+_}
 use Rattle.laws.specs.Res.{Res, ok, refuse}
 use Rattle.rules.specs.Records.{Rec}
@@ -18,6 +18,24 @@ use Rattle.plan.specs.declared.gather.Outcome.{Outcome}
 use Rattle.plan.specs.declared.gather.Outcome.the-variants.{Whole, Broken}
 use Rattle.plan.specs.declared.gather.Gathered.{Gathered}
 use Rattle.plan.specs.Memory.{busLaid, moduleLaid, modeLaid, taskLaid, invocationLaid, connectionLaid, countSeen, layOut, emptyPlan}
+
+-- the kinds of things
+unfoldable pub isThing : ℕ → Bool
+isThing kind = leb 3 kind && leb kind 7
+
+-- the number that the next thing of a kind gets, and the counts with that thing; what is no thing is not counted
+unfoldable pub numberOf : List ℕ → ℕ → ℕ
+numberOf counts kind = cond (isThing kind) (getD counts kind 0) 0
+
+unfoldable pub countedMore : List ℕ → ℕ → List ℕ
+countedMore counts kind = cond (isThing kind) (set counts kind (getD counts kind 0 + 1)) counts
+
+-- by kind, how many have a place; and the kind again where the n-th of it has one, else 0
+unfoldable pub places : List ℕ
+places = 0 ∷ 1 ∷ 1 ∷ 16 ∷ 32 ∷ 32 ∷ 64 ∷ 64 ∷ []
+
+unfoldable pub keptKind : ℕ → ℕ → ℕ
+keptKind kind n = cond (ltb n (getD places kind 0)) kind 0
 
 -- the counts with one thing of a kind more
 unfoldable pub oneMore : Plan → ℕ → List ℕ

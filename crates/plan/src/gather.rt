@@ -1,17 +1,12 @@
 // A plan gathered from the records of a file as they are met: refusal 1.
 ghost use mathlib.Core.Path.{_≡_};
-ghost use Prim.Native.Nat.{ℕ, _+_, _^_, _≤_, _<_};
-ghost use Rattle.rules.specs.Records.{recordOf, planFollows};
+ghost use Prim.Native.Nat.{_+_, _^_, _<_};
+ghost use Rattle.rules.specs.Records.{planFollows};
 ghost use Rattle.rules.specs.Records as rules;
-ghost use Rattle.plan.specs.Memory.{countSeen};
-ghost use Rattle.plan.specs.Gather.{withBus, withNodes, withModule, withMode, withTask, withInvocation, withConnection, withRecord, gatheredOf};
-use crate::Bus;
+ghost use Rattle.plan.specs.Gather.{numberOf, countedMore, keptKind, gatheredOf};
 use crate::Connection;
 use crate::Invocation;
-use crate::Mode;
-use crate::Module;
 use crate::Plan;
-use crate::Task;
 use crate::bodies;
 use records::Sort;
 use records::Step;
@@ -32,98 +27,44 @@ pub struct Gathered {
     pub plan: Plan,
 }
 
-// A plan with its bus.
-fn with_bus(mut p: Plan, b: Bus) -> Plan
-    ensures { λ r. ⌜ r ≡ withBus p b ⌝ }
-{
-    p.bus = b;
-    p
-}
+// By kind: the bus and the number of nodes have one place, things as many as their array.
+const PLACES: [usize; 8] = [
+    0,
+    1,
+    1,
+    ModuleNo::MOST,
+    ModeNo::MOST,
+    TaskNo::MOST,
+    Invocation::MOST,
+    Connection::MOST,
+];
 
-// A plan with its number of nodes.
-fn with_nodes(mut p: Plan, nodes: u8) -> Plan
-    ensures { λ r. ⌜ r ≡ withNodes p nodes ⌝ }
+// The number of the next thing of a kind, which is counted; 0 for the bus and the number of nodes.
+fn counted(counts: &mut [usize; 8], kind: u8) -> usize
+    requires { ⌜ numberOf (now counts) kind + 1 < 2 ^ 64 ⌝ }
+    ensures { λ r. ⌜ (r ≡ numberOf (now (counts .entry)) kind) × (now (counts .exit) ≡ countedMore (now (counts .entry)) kind) ⌝ }
 {
-    p.counts[2] = nodes as usize;
-    p
-}
-
-// A plan with one thing more: counted, and stored if a place is left.
-fn with_module(mut p: Plan, thing: Module) -> Plan
-    requires { ⌜ countSeen p 3 + 1 < 2 ^ 64 ⌝ }
-    ensures { λ r. ⌜ r ≡ withModule p thing ⌝ }
-{
-    let n = p.counts[3];
-    p.counts[3] = n + 1;
-    if n < ModuleNo::MOST {
-        p.modules[n] = thing;
+    if kind < 3 {
+        return 0;
     }
-    p
+    if 7 < kind {
+        return 0;
+    }
+    let n = counts[kind as usize];
+    counts[kind as usize] = n + 1;
+    n
 }
 
-fn with_mode(mut p: Plan, thing: Mode) -> Plan
-    requires { ⌜ countSeen p 4 + 1 < 2 ^ 64 ⌝ }
-    ensures { λ r. ⌜ r ≡ withMode p thing ⌝ }
+// The kind again where a place is left for the n-th of it, else 0.
+fn kept(kind: u8, n: usize) -> u8
+    ensures { λ r. ⌜ r ≡ keptKind kind n ⌝ }
 {
-    let n = p.counts[4];
-    p.counts[4] = n + 1;
-    if n < ModeNo::MOST {
-        p.modes[n] = thing;
+    if kind < 8 {
+        if n < PLACES[kind as usize] {
+            return kind;
+        }
     }
-    p
-}
-
-fn with_task(mut p: Plan, thing: Task) -> Plan
-    requires { ⌜ countSeen p 5 + 1 < 2 ^ 64 ⌝ }
-    ensures { λ r. ⌜ r ≡ withTask p thing ⌝ }
-{
-    let n = p.counts[5];
-    p.counts[5] = n + 1;
-    if n < TaskNo::MOST {
-        p.tasks[n] = thing;
-    }
-    p
-}
-
-fn with_invocation(mut p: Plan, thing: Invocation) -> Plan
-    requires { ⌜ countSeen p 6 + 1 < 2 ^ 64 ⌝ }
-    ensures { λ r. ⌜ r ≡ withInvocation p thing ⌝ }
-{
-    let n = p.counts[6];
-    p.counts[6] = n + 1;
-    if n < Invocation::MOST {
-        p.invocations[n] = thing;
-    }
-    p
-}
-
-fn with_connection(mut p: Plan, thing: Connection) -> Plan
-    requires { ⌜ countSeen p 7 + 1 < 2 ^ 64 ⌝ }
-    ensures { λ r. ⌜ r ≡ withConnection p thing ⌝ }
-{
-    let n = p.counts[7];
-    p.counts[7] = n + 1;
-    if n < Connection::MOST {
-        p.connections[n] = thing;
-    }
-    p
-}
-
-// A plan with one record more, whose body is lent.
-fn with_record(p: Plan, kind: u8, body: &[u8]) -> Plan
-    requires { ⌜ ((k : ℕ) → 3 ≤ k → countSeen p k + 1 < 2 ^ 64) ⌝ }
-    ensures { λ r. ⌜ r ≡ withRecord p (recordOf kind (now (body .entry))) ⌝ }
-{
-    match kind {
-        1 => with_bus(p, bodies::bus(body)),
-        2 => with_nodes(p, read8(body, 0)),
-        3 => with_module(p, bodies::module(body)),
-        4 => with_mode(p, bodies::mode(body)),
-        5 => with_task(p, bodies::task(body)),
-        6 => with_invocation(p, bodies::invocation(body)),
-        7 => with_connection(p, bodies::connection(body)),
-        _ => p,
-    }
+    0
 }
 
 pub fn gather(s: &[u8]) -> Gathered
@@ -134,8 +75,23 @@ pub fn gather(s: &[u8]) -> Gathered
     let mut at: usize = 0;
     loop {
         match records::next(s, Sort::Plan, previous, at) {
-            Step::Record { kind, body, next } => {
-                p = with_record(p, kind, records::body(s, body, next));
+            Step::Record {
+                kind,
+                body: start,
+                next,
+            } => {
+                let body = records::body(s, start, next);
+                let n = counted(&mut p.counts, kind);
+                match kept(kind, n) {
+                    1 => p.bus = bodies::bus(body),
+                    2 => p.counts[2] = read8(body, 0) as usize,
+                    3 => p.modules[n] = bodies::module(body),
+                    4 => p.modes[n] = bodies::mode(body),
+                    5 => p.tasks[n] = bodies::task(body),
+                    6 => p.invocations[n] = bodies::invocation(body),
+                    7 => p.connections[n] = bodies::connection(body),
+                    _ => {}
+                }
                 previous = kind;
                 at = next;
             }

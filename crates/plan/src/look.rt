@@ -1,4 +1,5 @@
 // What a plan in memory has, by number. A number that names nothing gives the zero thing, so that no look-up asks anything of its caller.
+// An array is taken out of the plan before one of its elements is, so that this array alone is copied.
 ghost use mathlib.Core.Path.{_≡_};
 ghost use lib.ListN.{length, getD};
 ghost use Prim.Native.Nat.{min, _≤_};
@@ -57,8 +58,9 @@ pub fn connection_count(p: Plan) -> usize
 pub fn module_at(p: Plan, k: usize) -> Module
     ensures { λ r. ⌜ r ≡ moduleLaid (getD (seen p .modules) k 0) ⌝ }
 {
+    let modules = p.modules;
     if k < module_count(p) {
-        p.modules[k]
+        modules[k]
     } else {
         Module { node: NodeNo(0) }
     }
@@ -67,8 +69,9 @@ pub fn module_at(p: Plan, k: usize) -> Module
 pub fn mode_at(p: Plan, k: usize) -> Mode
     ensures { λ r. ⌜ r ≡ modeLaid (rules.theMode (seen p) k) ⌝ }
 {
+    let modes = p.modes;
     if k < mode_count(p) {
-        p.modes[k]
+        modes[k]
     } else {
         Mode {
             home: ModuleNo(0),
@@ -81,8 +84,9 @@ pub fn mode_at(p: Plan, k: usize) -> Mode
 pub fn task_at(p: Plan, k: usize) -> Task
     ensures { λ r. ⌜ r ≡ taskLaid (rules.theTask (seen p) k) ⌝ }
 {
+    let tasks = p.tasks;
     if k < task_count(p) {
-        p.tasks[k]
+        tasks[k]
     } else {
         Task {
             home: ModuleNo(0),
@@ -95,8 +99,9 @@ pub fn task_at(p: Plan, k: usize) -> Task
 pub fn invocation_at(p: Plan, k: usize) -> Invocation
     ensures { λ r. ⌜ r ≡ invocationLaid (rules.theInvocation (seen p) k) ⌝ }
 {
+    let invocations = p.invocations;
     if k < invocation_count(p) {
-        p.invocations[k]
+        invocations[k]
     } else {
         Invocation {
             mode: ModeNo(0),
@@ -109,8 +114,9 @@ pub fn invocation_at(p: Plan, k: usize) -> Invocation
 pub fn connection_at(p: Plan, k: usize) -> Connection
     ensures { λ r. ⌜ r ≡ connectionLaid (getD (seen p .connections) k noConnection) ⌝ }
 {
+    let connections = p.connections;
     if k < connection_count(p) {
-        p.connections[k]
+        connections[k]
     } else {
         Connection {
             producer: TaskNo(0),

@@ -27,10 +27,9 @@ use Rattle.planrules.specs.declared.Found.{Found}
 use Rattle.planrules.specs.declared.Found.the-variants.{At, Nothing}
 use Rattle.planrules.specs.declared.Answer.the-variants.{Sound, Refused}
 use Rattle.planrules.specs.declared.Reading.{Reading}
-use Rattle.planrules.specs.declared.numbers.Rule.the-variants.{Names, Ranges}
 use Rattle.planrules.specs.Reading.{Reads, heard, verdict, planLeft}
 use Rattle.planrules.specs.Scans.{placeOr, foundOf, isOk, firstBadOf, unfitOf}
-use Rattle.planrules.specs.Tests.{countsFit, listed, ruleOf}
+use Rattle.planrules.specs.Tests.{countsFit, listed}
 use Rattle.planrules.proofs.Places.{at-met-upTo, at-end-upTo}
 use Rattle.planrules.proofs.RecordRefusal.{records-refuse}
 use Rattle.planrules.proofs.RecordTests.{named-alike}
@@ -110,32 +109,32 @@ module _ (s : List ℕ) (p : Plan) (rs : List Rec) (walked : records planFollows
     counts-pass : at 2 2 (firstBad (rules.countFits rs) (upTo 6)) ≡ ok tt
     counts-pass = at-end-upTo (rules.countFits rs) 6 2 2 k (counts-place k e) counted
 
-    names-found : (f : Found) → f ≡ foundOf (firstBadOf (ruleOf Names (p .counts)) (records planFollows 1 s))
+    names-found : (f : Found) → f ≡ foundOf (firstBadOf (rules.namesAreThere (listed (p .counts))) (records planFollows 1 s))
         → f ≡ foundOf (firstBad (rules.namesAreThere (rules.count rs)) rs)
     names-found f q =
         q ∙ rw (walked, laid, firstBad-alike (rules.namesAreThere (listed (layOut (rules.planOf rs) .counts))) (rules.namesAreThere (rules.count rs)) (names-same rs) rs)
 
-    ranges-found : (f : Found) → f ≡ foundOf (firstBadOf (ruleOf Ranges (p .counts)) (records planFollows 1 s))
+    ranges-found : (f : Found) → f ≡ foundOf (firstBadOf rules.numbersAreWithin (records planFollows 1 s))
         → f ≡ foundOf (firstBad rules.numbersAreWithin rs)
     ranges-found f q = q ∙ rw walked
 
-    not-there-of : (n : ℕ) → At n ≡ foundOf (firstBadOf (ruleOf Names (p .counts)) (records planFollows 1 s)) → rules.readPlan s ≡ refuse 3 n
+    not-there-of : (n : ℕ) → At n ≡ foundOf (firstBadOf (rules.namesAreThere (listed (p .counts))) (records planFollows 1 s)) → rules.readPlan s ≡ refuse 3 n
     unfolding rules.readPlan
     not-there-of n q =
         let o : firstBad (rules.namesAreThere (rules.count rs)) rs ≡ some n = found-some _ n (names-found (At n) q) in
         bind-ok _ walked ∙ then-ok _ counts-pass ∙ then-refuse _ (at-some 3 0 o) ∙ rw (zero-add n)
 
-    module _ (named : Nothing ≡ foundOf (firstBadOf (ruleOf Names (p .counts)) (records planFollows 1 s))) where
+    module _ (named : Nothing ≡ foundOf (firstBadOf (rules.namesAreThere (listed (p .counts))) (records planFollows 1 s))) where
       names-pass : at 3 0 (firstBad (rules.namesAreThere (rules.count rs)) rs) ≡ ok tt
       names-pass = at-none 3 0 (found-none (firstBad (rules.namesAreThere (rules.count rs)) rs) (names-found Nothing named))
 
-      out-of-range-of : (n : ℕ) → At n ≡ foundOf (firstBadOf (ruleOf Ranges (p .counts)) (records planFollows 1 s)) → rules.readPlan s ≡ refuse 4 n
+      out-of-range-of : (n : ℕ) → At n ≡ foundOf (firstBadOf rules.numbersAreWithin (records planFollows 1 s)) → rules.readPlan s ≡ refuse 4 n
       unfolding rules.readPlan
       out-of-range-of n q =
           let o : firstBad rules.numbersAreWithin rs ≡ some n = found-some _ n (ranges-found (At n) q) in
           bind-ok _ walked ∙ then-ok _ counts-pass ∙ then-ok _ names-pass ∙ then-refuse _ (at-some 4 0 o) ∙ rw (zero-add n)
 
-      module _ (ranged : Nothing ≡ foundOf (firstBadOf (ruleOf Ranges (p .counts)) (records planFollows 1 s))) where
+      module _ (ranged : Nothing ≡ foundOf (firstBadOf rules.numbersAreWithin (records planFollows 1 s))) where
         ranges-pass : at 4 0 (firstBad rules.numbersAreWithin rs) ≡ ok tt
         ranges-pass = at-none 4 0 (found-none (firstBad rules.numbersAreWithin rs) (ranges-found Nothing ranged))
 
@@ -164,20 +163,20 @@ module _ (s : List ℕ) (p : Plan) (r : Reading) (g : gatheredOf (records planFo
         (bad-count-of s p rs walked laid k e h ∙ ap (refuse 2) (omega arith))
 
     module _ (counted : 6 ≤ k) where
-      pub way-names : (n : ℕ) → At n ≡ foundOf (firstBadOf (ruleOf Names (p .counts)) (records planFollows 1 s))
+      pub way-names : (n : ℕ) → At n ≡ foundOf (firstBadOf (rules.namesAreThere (listed (p .counts))) (records planFollows 1 s))
           → r ≡ record { answer = Refused (NotThere (record { 0 = n })); plan = emptyPlan } → Reads r (rules.readPlan s)
       way-names n q w =
           gathered-as p (records planFollows 1 s) g λ rs walked laid.
           refused-reads r (NotThere (record { 0 = n })) (rules.readPlan s) w (not-there-of s p rs walked laid k e counted n q)
 
-      module _ (named : Nothing ≡ foundOf (firstBadOf (ruleOf Names (p .counts)) (records planFollows 1 s))) where
-        pub way-ranges : (n : ℕ) → At n ≡ foundOf (firstBadOf (ruleOf Ranges (p .counts)) (records planFollows 1 s))
+      module _ (named : Nothing ≡ foundOf (firstBadOf (rules.namesAreThere (listed (p .counts))) (records planFollows 1 s))) where
+        pub way-ranges : (n : ℕ) → At n ≡ foundOf (firstBadOf rules.numbersAreWithin (records planFollows 1 s))
             → r ≡ record { answer = Refused (OutOfRange (record { 0 = n })); plan = emptyPlan } → Reads r (rules.readPlan s)
         way-ranges n q w =
             gathered-as p (records planFollows 1 s) g λ rs walked laid.
             refused-reads r (OutOfRange (record { 0 = n })) (rules.readPlan s) w (out-of-range-of s p rs walked laid k e counted named n q)
 
-        module _ (ranged : Nothing ≡ foundOf (firstBadOf (ruleOf Ranges (p .counts)) (records planFollows 1 s))) where
+        module _ (ranged : Nothing ≡ foundOf (firstBadOf rules.numbersAreWithin (records planFollows 1 s))) where
           pub way-unfit : (n : ℕ) → unfitOf (At n) ≡ rules.rule5 (seen p)
               → r ≡ record { answer = Refused (Unfit (record { 0 = n })); plan = emptyPlan } → Reads r (rules.readPlan s)
           way-unfit n q w =

@@ -17,10 +17,11 @@ use Rattle.records.specs.Reader.{nextAt}
 use Rattle.records.specs.declared.Sort.the-variants.{Plan}
 use Rattle.records.specs.declared.Step.{Step}
 use Rattle.records.specs.declared.Step.the-variants.{Record, End, Wrong}
-use Rattle.records.proofs.Steps.{from, onward, one-step, Found, found}
+use Rattle.records.proofs.Steps.{from, onward, one-step, found}
 use Rattle.plan.proofs.SoFar.{record-cut}
+use Rattle.planrules.specs.declared.Found.{Found}
 use Rattle.planrules.specs.declared.Found.the-variants.{At, Nothing}
-use Rattle.planrules.specs.Scans.{foundOf, isOk, firstBadOf}
+use Rattle.planrules.specs.Scans.{foundOf, earlierOf, isOk, firstBadOf}
 
 -- n places further on
 abbrev shifted : ℕ → Option ℕ → Option ℕ
@@ -48,58 +49,77 @@ module _ (order : ℕ → ℕ → Bool) (m : ℕ) (test : Rec → Bool) (r : Rec
   failed-record n (ok rs) s e = rw (e, add-zero n)
   failed-record n (refuse k p) s e = true-false (sym s)
 
--- the scan so far: n records are passed
-pub record Scanned (s : List ℕ) (test : Rec → Bool) (previous at n : ℕ) : Type 0 where
+-- what was found before, else what is found from here on
+abbrev orLater : Found → Option ℕ → Found
+orLater (At k) o = At k
+orLater Nothing o = foundOf o
+
+later-none : (f : Found) → orLater f none ≡ f
+later-none (At k) = refl
+later-none Nothing = refl
+
+module _ (order : ℕ → ℕ → Bool) (m : ℕ) (test : Rec → Bool) (r : Rec) (n : ℕ) (w : Res (List Rec)) (s : isOk w ≡ true) where
+  -- one record more is looked at
+  one-later : (f : Found) (good : Bool) → test r ≡ good
+      → orLater f (shifted n (firstBadOf test (before order m r w))) ≡ orLater (earlierOf f good n) (shifted (n + 1) (firstBadOf test w))
+  one-later (At k) good e = refl
+  one-later Nothing true e = ap foundOf (passed-record order m test r n w e)
+  one-later Nothing false e = ap foundOf (failed-record order m test r n w s e)
+
+-- the scan so far: n records are looked at
+pub record Scanned (s : List ℕ) (test : Rec → Bool) (previous at n : ℕ) (f : Found) : Type 0 where
   pub inside : at ≤ length s
   pub sound : isOk (from Plan 1 s previous at) ≡ true
-  pub rest : firstBadOf test (records planFollows 1 s) ≡ shifted n (firstBadOf test (from Plan 1 s previous at))
+  pub whole : foundOf (firstBadOf test (records planFollows 1 s)) ≡ orLater f (shifted n (firstBadOf test (from Plan 1 s previous at)))
   pub counted : n ≤ at
 
 module _ (s : List ℕ) (test : Rec → Bool) where
-  pub scanned-none : isOk (records planFollows 1 s) ≡ true → Scanned s test 0 0 0
+  pub scanned-none : isOk (records planFollows 1 s) ≡ true → Scanned s test 0 0 0 Nothing
   unfolding records from
-  scanned-none e = record { inside = omega arith; sound = e; rest = sym (shifted-none _); counted = omega arith }
+  scanned-none e = record { inside = omega arith; sound = e; whole = ap foundOf (sym (shifted-none (firstBadOf test (records planFollows 1 s)))); counted = omega arith }
 
-  module _ (previous at n : ℕ) (h : Scanned s test previous at n) where
+  module _ (previous at n : ℕ) (f : Found) (h : Scanned s test previous at n f) where
     onwards : (step : Step) → nextAt Plan s previous at ≡ step
-        → firstBadOf test (records planFollows 1 s) ≡ shifted n (firstBadOf test (onward Plan 1 s step))
+        → foundOf (firstBadOf test (records planFollows 1 s)) ≡ orLater f (shifted n (firstBadOf test (onward Plan 1 s step)))
     onwards step q =
-        h .rest ∙ ap (λ (w : Res (List Rec)). shifted n (firstBadOf test w)) (one-step Plan 1 s previous at (h .inside) ∙ ap (onward Plan 1 s) q)
+        h .whole ∙ ap (λ (w : Res (List Rec)). orLater f (shifted n (firstBadOf test w))) (one-step Plan 1 s previous at (h .inside) ∙ ap (onward Plan 1 s) q)
 
     sound-on : (step : Step) → nextAt Plan s previous at ≡ step → isOk (onward Plan 1 s step) ≡ true
     sound-on step q =
         sym (ap (isOk {A = List Rec}) (one-step Plan 1 s previous at (h .inside) ∙ ap (onward Plan 1 s) q)) ∙ h .sound
 
-    module _ (kind body next : ℕ) (e : nextAt Plan s previous at ≡ Record kind body next) where
-      cut-out : recordOf kind (take (next - body) (drop body s)) ≡ recordOf kind (drop body s)
-      cut-out =
-          let f = found Plan s previous at kind body next e in
-          let w : next - body ≡ bodyLength kind = omega (arith, f .body-place, f .next-place) in
-          rw w (record-cut kind (drop body s))
+    pub scanned-more : (kind body next : ℕ) (lent : List ℕ) (good : Bool) (g : Found) → nextAt Plan s previous at ≡ Record kind body next
+        → lent ≡ take (next - body) (drop body s) → good ≡ test (recordOf kind lent) → g ≡ earlierOf f good n
+        → Scanned s test kind next (n + 1) g
+    scanned-more kind body next lent good g e l q t =
+        let u = found Plan s previous at kind body next e in
+        let w : next - body ≡ bodyLength kind = omega (arith, u .body-place, u .next-place) in
+        let v : test (recordOf kind (drop body s)) ≡ good = sym (rw (l, w, record-cut kind (drop body s)) at q) in
+        let behind : isOk (from Plan 1 s kind next) ≡ true
+        = sound-behind planFollows 1 test (recordOf kind (drop body s)) (from Plan 1 s kind next) (sound-on (Record kind body next) e) in
+        record {
+          inside = u .fits;
+          sound = behind;
+          whole =
+              onwards (Record kind body next) e
+              ∙ one-later planFollows 1 test (recordOf kind (drop body s)) n (from Plan 1 s kind next) behind f good v
+              ∙ rw t;
+          counted = omega (arith, h .counted, u .further);
+        }
 
-      pub scanned-more : test (recordOf kind (take (next - body) (drop body s))) ≡ true → Scanned s test kind next (n + 1)
-      scanned-more q =
-          let f = found Plan s previous at kind body next e in
-          record {
-            inside = f .fits;
-            sound = sound-behind planFollows 1 test (recordOf kind (drop body s)) (from Plan 1 s kind next) (sound-on (Record kind body next) e);
-            rest =
-                onwards (Record kind body next) e
-                ∙ passed-record planFollows 1 test (recordOf kind (drop body s)) n (from Plan 1 s kind next) (rw cut-out at q);
-            counted = omega (arith, h .counted, f .further);
-          }
-
-      pub scanned-met : test (recordOf kind (take (next - body) (drop body s))) ≡ false
-          → At n ≡ foundOf (firstBadOf test (records planFollows 1 s))
-      scanned-met q =
-          sym (ap foundOf
-          (onwards (Record kind body next) e
-          ∙ failed-record planFollows 1 test (recordOf kind (drop body s)) n (from Plan 1 s kind next)
-          (sound-behind planFollows 1 test (recordOf kind (drop body s)) (from Plan 1 s kind next) (sound-on (Record kind body next) e))
-          (rw cut-out at q)))
-
-    pub scanned-end : nextAt Plan s previous at ≡ End → Nothing ≡ foundOf (firstBadOf test (records planFollows 1 s))
-    scanned-end e = sym (ap foundOf (onwards End e))
+    pub scanned-end : nextAt Plan s previous at ≡ End → f ≡ foundOf (firstBadOf test (records planFollows 1 s))
+    scanned-end e = sym (onwards End e ∙ later-none f)
 
     pub scanned-wrong : {C : Type 0} (place : ℕ) → nextAt Plan s previous at ≡ Wrong place → C
     scanned-wrong place e = true-false (sym (sound-on (Wrong place) e))
+
+    -- the next record is counted at a place inside of the file, and what stands behind it is less
+    pub scanned-number : (kind body next : ℕ) → nextAt Plan s previous at ≡ Record kind body next → n < length s
+    scanned-number kind body next e =
+        let u = found Plan s previous at kind body next e in
+        omega (arith, u .fits, u .further, h .counted)
+
+    pub scanned-less : (kind body next : ℕ) → nextAt Plan s previous at ≡ Record kind body next → length s - next < length s - at
+    scanned-less kind body next e =
+        let u = found Plan s previous at kind body next e in
+        omega (arith, u .fits, u .further)

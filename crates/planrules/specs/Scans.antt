@@ -19,6 +19,12 @@ abbrev pub foundOf : Option ℕ → Found
 foundOf none = Nothing
 foundOf (some k) = At k
 
+-- what was found before, else the n-th if it is bad
+abbrev pub earlierOf : Found → Bool → ℕ → Found
+earlierOf (At k) good n = At k
+earlierOf Nothing true n = Nothing
+earlierOf Nothing false n = At n
+
 -- whether an answer is a value
 abbrev pub isOk : {A : Type 0} → Res A → Bool
 isOk (ok a) = true

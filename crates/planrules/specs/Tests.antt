@@ -4,12 +4,13 @@ use mathlib.Core.List.{List}
 use lib.Dec.{leb, eqb}
 use lib.ListN.{getD, take}
 use Prim.Native.Nat.{ℕ, _+_, _/_}
+use Rattle.laws.specs.Res.{Res}
 use Rattle.laws.specs.Lists.{any}
 use Rattle.laws.specs.Numbers as numbers
 use Rattle.rules.specs.Records.{Rec}
 use Rattle.rules.specs.Plan.{Plan, Mode, Task, Invocation, nth, noInvocation, leastCounts, mostCounts, namesAreThere, numbersAreWithin, isHome, fitsItsMode, theInvocation, sameRun}
-use Rattle.planrules.specs.declared.numbers.Rule.{Rule}
-use Rattle.planrules.specs.declared.numbers.Rule.the-variants.{Names, Ranges}
+use Rattle.planrules.specs.declared.numbers.Firsts.{Firsts}
+use Rattle.planrules.specs.Scans.{foundOf, firstBadOf}
 
 -- Refusal 2: "a count of things, the number of nodes included, is outside its range" (k counts kinds from 2 on).
 unfoldable pub countsFit : List ℕ → ℕ → Bool
@@ -19,10 +20,13 @@ countsFit counts k = leb (nth leastCounts k) (nth counts (2 + k)) && leb (nth co
 abbrev pub listed : List ℕ → ℕ → ℕ
 listed counts kind = getD counts kind 0
 
--- Refusal 3's test of a record, and refusal 4's.
-abbrev pub ruleOf : Rule → List ℕ → Rec → Bool
-ruleOf Names counts = namesAreThere (listed counts)
-ruleOf Ranges counts = numbersAreWithin
+-- The first of a file's records that fails refusal 3's test, and the first that fails refusal 4's.
+abbrev pub firstsOf : List ℕ → Res (List Rec) → Firsts
+firstsOf counts file =
+    record {
+      named = foundOf (firstBadOf (namesAreThere (listed counts)) file);
+      ranged = foundOf (firstBadOf numbersAreWithin file);
+    }
 
 -- Refusal 5, of an invocation with its rate, its mode and its task: "rate doesn't divide mode period; invocation period doesn't divide
 -- switch period; worst time above invocation period; task and mode of different modules".

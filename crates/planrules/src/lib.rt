@@ -13,7 +13,6 @@ mod counts;
 mod fits;
 mod numbers;
 
-use crate::numbers::Rule;
 use answers::Refusal;
 use plan::Plan;
 use plan::gather::Outcome;
@@ -62,11 +61,12 @@ fn judged(s: &[u8], p: Plan) -> Reading
     if k < 6 {
         return refused(Refusal::BadCount((k + 2) as u8));
     }
-    let named = numbers::first_bad(s, Rule::Names, counts);
+    let firsts = numbers::first_bad(s, counts);
+    let named = firsts.named;
     if let Found::At(n) = named {
         return refused(Refusal::NotThere(RecordNo(n)));
     }
-    let ranged = numbers::first_bad(s, Rule::Ranges, counts);
+    let ranged = firsts.ranged;
     if let Found::At(n) = ranged {
         return refused(Refusal::OutOfRange(RecordNo(n)));
     }

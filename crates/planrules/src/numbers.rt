@@ -4,8 +4,8 @@ ghost use mathlib.Core.Bool.{true, _&&_};
 ghost use lib.Dec.{leb};
 ghost use Rattle.rules.specs.Records as records;
 ghost use Rattle.rules.specs.Plan.{namesAreThere, numbersAreWithin};
-ghost use Rattle.planrules.specs.Scans.{foundOf, firstBadOf, isOk};
-ghost use Rattle.planrules.specs.Tests.{listed, ruleOf};
+ghost use Rattle.planrules.specs.Scans.{earlierOf, isOk};
+ghost use Rattle.planrules.specs.Tests.{listed, firstsOf};
 use crate::Found;
 use crate::both;
 use plan::bodies;
@@ -13,10 +13,11 @@ use records::Sort;
 use records::Step;
 use units::Ticks;
 
-// Refusal 3's rule, that what a number names is there, and refusal 4's, that every other number is within its range.
-pub enum Rule {
-    Names,
-    Ranges,
+// The first record that breaks refusal 3's rule, that what a number names is there, and the first that breaks refusal 4's, that
+// every other number is within its range.
+pub struct Firsts {
+    pub named: Found,
+    pub ranged: Found,
 }
 
 fn within(low: u32, x: u32, high: u32) -> bool
@@ -98,35 +99,42 @@ fn numbers_are_within(kind: u8, body: &[u8]) -> bool
     }
 }
 
-fn keeps(rule: Rule, counts: [usize; 8], kind: u8, body: &[u8]) -> bool
-    ensures { λ r. ⌜ r ≡ ruleOf rule counts (records.recordOf kind (now (body .entry))) ⌝ }
+// What was found before, else the n-th record if it is bad.
+fn earlier(found: Found, good: bool, n: usize) -> Found
+    ensures { λ r. ⌜ r ≡ earlierOf found good n ⌝ }
 {
-    match rule {
-        Rule::Names => names_are_there(counts, kind, body),
-        Rule::Ranges => numbers_are_within(kind, body),
+    match found {
+        Found::At(k) => Found::At(k),
+        Found::Nothing => { if good { Found::Nothing } else { Found::At(n) } }
     }
 }
 
-// The number of the first record that breaks the rule, in a file that keeps the record rules.
-pub fn first_bad(s: &[u8], rule: Rule, counts: [usize; 8]) -> Found
+// The numbers of the first records that break the two rules, in a file that keeps the record rules.
+pub fn first_bad(s: &[u8], counts: [usize; 8]) -> Firsts
     requires { ⌜ isOk (records.records records.planFollows 1 (now s)) ≡ true ⌝ }
-    ensures { λ r. ⌜ r ≡ foundOf (firstBadOf (ruleOf rule counts) (records.records records.planFollows 1 (now (s .entry)))) ⌝ }
+    ensures { λ r. ⌜ r ≡ firstsOf counts (records.records records.planFollows 1 (now (s .entry))) ⌝ }
 {
     let mut previous: u8 = 0;
     let mut at: usize = 0;
     let mut n: usize = 0;
+    let mut named = Found::Nothing;
+    let mut ranged = Found::Nothing;
     loop {
         match records::next(s, Sort::Plan, previous, at) {
-            Step::Record { kind, body, next } => {
-                if !keeps(rule, counts, kind, records::body(s, body, next)) {
-                    return Found::At(n);
-                }
+            Step::Record {
+                kind,
+                body: start,
+                next,
+            } => {
+                let body = records::body(s, start, next);
+                named = earlier(named, names_are_there(counts, kind, body), n);
+                ranged = earlier(ranged, numbers_are_within(kind, body), n);
                 previous = kind;
                 at = next;
                 n += 1;
             }
-            Step::End => return Found::Nothing,
-            Step::Wrong(_) => return Found::Nothing,
+            Step::End => return Firsts { named, ranged },
+            Step::Wrong(_) => return Firsts { named, ranged },
         }
     }
 }

@@ -2,12 +2,12 @@
 -- Assumes nothing.
 use mathlib.Core.Path.{_≡_, refl}
 use mathlib.Core.List.{List, [], _∷_}
-use Prim.Native.Nat.{ℕ, zero, suc, _+_}
-use native.Mathlib.Nat.{add-zero, add-assoc}
-use lib.ListN.{getD, take, drop}
+use Prim.Native.Nat.{ℕ, _+_}
+use native.Mathlib.Nat.{add-assoc}
+use lib.ListN.{take, drop}
 use lib.Seq.{drop-drop}
 use Rattle.laws.specs.Numbers.{number}
-use Rattle.rules.specs.Records.{Field, free, width, widths, fields, decoded, recordOf, Rec}
+use Rattle.rules.specs.Records.{Field, width, fields, decoded, recordOf}
 
 -- the numbers of fields that stand from `offset` bytes behind `body`
 abbrev pub laidFrom : List Field → List ℕ → ℕ → ℕ → List ℕ
@@ -32,12 +32,3 @@ module _ (s : List ℕ) (body : ℕ) where
   pub numbers-laid : (kind : ℕ) → recordOf kind (drop body s) .numbers ≡ laid (fields kind) s body
   unfolding recordOf
   numbers-laid kind = decoded-laid (fields kind)
-
--- the number at place j of any list of fields; behind its end both sides are 0
-pub decoded-at : (s : List ℕ) (body : ℕ) (fs : List Field) (j : ℕ)
-    → getD (decoded fs (drop body s)) j 0
-    ≡ number (take (width (getD fs j (free 0))) (drop (body + widths (take j fs)) s))
-decoded-at s body [] j = refl
-decoded-at s body (f ∷ fs) zero = rw (add-zero body)
-decoded-at s body (f ∷ fs) (suc j) =
-    rw (drop-drop (width f) body s, ← add-assoc body (width f) (widths (take j fs))) (decoded-at s (body + width f) fs j)

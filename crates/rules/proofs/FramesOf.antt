@@ -5,9 +5,8 @@ use mathlib.Core.List.{List, [], _∷_, List·Memᴰ, List·Memᴰ·head, List·
 use mathlib.Core.Logic.{_⊎_, inl, inr}
 use native.Mathlib.Nat.{le-refl, le-trans, le-antisymm, le-max-left, le-max-right, max-eq-left, max-eq-right, le-of-lt}
 use native.Mathlib.Omega.{arith}
-use lib.ListN.{length, getD}
-use Prim.Native.Nat.{ℕ, _≤_, _<_, Ordering, Ordering·lt, Ordering·eq, Ordering·gt}
-use Rattle.laws.proofs.Members.{All, empty, also, Pairs, alone, before, all-member, all-weaker, pairs-getD}
+use Prim.Native.Nat.{_≤_, _<_, Ordering, Ordering·lt, Ordering·eq, Ordering·gt}
+use Rattle.laws.proofs.Members.{All, empty, also, Pairs, alone, before, all-member, all-weaker}
 use Rattle.laws.proofs.Orders.{lt≢eq, lt≢gt, eq≢gt, compare-less, compare-same, compare-case, less-of, same-of, more-of, sorted-unique, le-or-lt}
 use Rattle.rules.specs.Plan.{Plan}
 use Rattle.rules.specs.Frames.{Frame, frameOrder, merged, byOrder, withMessage, framesOf, messages, frames, busPeriod, busRuns}
@@ -218,11 +217,6 @@ frames-of (m ∷ ms) = insert-frame m ms (framesOf ms) (frames-of ms)
 pub plan-frames : (p : Plan) → IsFramesOf (messages (busPeriod p) (busRuns p)) (frames p)
 unfolding frames
 plan-frames p = frames-of (messages (busPeriod p) (busRuns p))
-
--- a lower number, a lower pair
-pub frames-in-order : {ms fs : List Frame} → IsFramesOf ms fs → (d : Frame) (j k : ℕ) → j < k → k < length fs
-    → Before (getD fs j d) (getD fs k d)
-frames-in-order h d j k = pairs-getD d (h .sorted) j k
 
 -- a pair stands once
 pub one-of-a-pair : {fs : List Frame} → Pairs Before fs → (a b : Frame) → List·Memᴰ a fs → List·Memᴰ b fs → a .task ≡ b .task

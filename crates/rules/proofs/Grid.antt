@@ -4,7 +4,7 @@ use mathlib.Core.Path.{_≡_, refl, sym, ap, ap₂, _∙_, subst}
 use mathlib.Core.Bool.{Bool, true, false, cond, _&&_}
 use mathlib.Core.List.{List, [], _∷_, _++_, append-assoc}
 use mathlib.Core.Logic.{_⊎_, inl, inr}
-use native.Mathlib.Nat.{eq-or-lt-of-le, zero-max, max-zero, suc-max-suc, suc-mul, eq-zero-or-pos, div-zero, div-mul-cancel, le-div-iff-mul-le, mul-le-mul-right, mul-pos, dvd-mul-left, ne-of-lt, eq-zero-of-zero-dvd, zero-mul, max-comm, dvd-refl, dvd-add, dvd-sub, le-of-dvd}
+use native.Mathlib.Nat.{eq-or-lt-of-le, zero-max, max-zero, suc-max-suc, suc-mul, eq-zero-or-pos, div-zero, div-mul-cancel, le-div-iff-mul-le, mul-le-mul-right, mul-pos, dvd-mul-left, ne-of-lt, eq-zero-of-zero-dvd, zero-mul, dvd-sub, le-of-dvd}
 use native.Mathlib.Omega.{arith}
 use borrow.Author.Tests.{eq-eqb, ne-eqb, eqb-true, ltb-true}
 use lib.Dec.{eqb, ltb}
@@ -60,18 +60,6 @@ grid-nothing f n d zero h = refl
 grid-nothing f n d (suc k) h =
     rw (row-empty (f d) d 0 n (λ u a b. h d u (omega arith) (omega arith) (omega arith)))
     (grid-nothing f n (suc d) k (λ e t a b c. h e t (omega arith) (omega arith) c))
-
--- deadlines behind deadlines
-pub grid-append : (f : ℕ → ℕ → ℕ) (n d j k : ℕ) → grid f n d (j + k) ≡ grid f n d j ++ grid f n (d + j) k
-grid-append f n d zero k =
-    let p : zero + k ≡ k = omega arith in
-    let q : d + zero ≡ d = omega arith in
-    rw (p, q)
-grid-append f n d (suc j) k =
-    let p : suc j + k ≡ suc (j + k) = omega arith in
-    let q : d + suc j ≡ suc d + j = omega arith in
-    rw (p, q)
-    (ap (λ (l : List Frame). row (f d) d 0 n ++ l) (grid-append f n (suc d) j k) ∙ sym (append-assoc (row (f d) d 0 n) (grid f n (suc d) j) (grid f n (suc d + j) k)))
 
 -- ---- a message put into the grid
 
@@ -331,12 +319,6 @@ module _ (period : ℕ) where
       frames-best (runs-within n rs h)
       ∙ grid-same (best (messages period rs)) (latest rs) n 1 period (λ d t a b c. runs-best rs d t a (omega arith))
 
--- one run more at the end, as a loop meets it
-pub latest-snoc : (rs : List Run) (r : Run) (d t : ℕ) → latest (rs ++ (r ∷ [])) d t ≡ max (latest rs d t) (ends r d t)
-latest-snoc [] r d t = max-comm (ends r d t) 0
-latest-snoc (s ∷ rs) r d t =
-    ap (max (ends s d t)) (latest-snoc rs r d t) ∙ sym (max-assoc (ends s d t) (latest rs d t) (ends r d t))
-
 -- ---- from deadline to deadline
 
 -- x is the first multiple of the period that is not before d
@@ -344,19 +326,6 @@ pub record Next (period d x : ℕ) : Type 0 where
   pub multiple : period ∣ x
   pub reached : d ≤ x
   pub first : x < d + period
-
-pub next-start : (period : ℕ) → 0 < period → Next period 1 period
-next-start period h = record { multiple = dvd-refl period; reached = h; first = omega arith }
-
--- nothing ends before x, so it is the first from any place up to x
-pub next-on : {period d x : ℕ} (e : ℕ) → Next period d x → d ≤ e → e ≤ x → Next period e x
-next-on {period} {d} {x} e f h w = let l : x < d + period = f .first in record { multiple = f .multiple; reached = w; first = omega arith }
-
--- x has come: the next one
-pub next-more : {period x : ℕ} → Next period x x → Next period (suc x) (x + period)
-next-more {period} {x} f =
-    let l : x < x + period = f .first in
-    record { multiple = dvd-add period (f .multiple) (dvd-refl period); reached = omega arith; first = omega arith }
 
 pub next-divides : {period d x : ℕ} (y : ℕ) → Next period d x → d ≤ y → y ≤ x → divides period y ≡ eqb x y
 next-divides {period} {d} {x} y f h w = by-same (by-divides period y) (by-eq x y) to (λ e. rw (← e) (f .multiple))

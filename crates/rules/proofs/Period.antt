@@ -3,14 +3,14 @@
 use mathlib.Core.Path.{_≡_, sym, ap, _∙_}
 use mathlib.Core.Bool.{Bool, true, _&&_, and-assoc, and-comm}
 use mathlib.Core.List.{List, [], _∷_, _++_, foldr}
-use native.Mathlib.Nat.{zero-lt-suc, dvd-refl, dvd-antisymm, one-dvd, dvd-zero}
-use lib.ListN.{length, getD}
-use Prim.Native.Nat.{ℕ, zero, suc, _<_, _∣_, suc-le-suc}
+use native.Mathlib.Nat.{dvd-refl, dvd-antisymm, one-dvd, dvd-zero}
+use lib.ListN.{length}
+use Prim.Native.Nat.{ℕ, _<_, _∣_}
 use Rattle.laws.specs.Lists.{keep, all}
 use Rattle.laws.specs.Numbers.{divides, gcd, lcm}
 use Rattle.laws.proofs.Lists.{all-map, all-snoc}
 use Rattle.laws.proofs.Tests.{Tests, by-itself, by-divides, by-and, by-all-keep}
-use Rattle.laws.proofs.Divisors.{divides-true, divides-is, lcm-divides, divides-gcd, lcm-pos, same-multiples, same-divisors}
+use Rattle.laws.proofs.Divisors.{divides-true, divides-is, lcm-divides, divides-gcd, same-multiples, same-divisors}
 use Rattle.rules.specs.Plan.{Mode, Plan, noMode, noInvocation, theMode, theInvocation, periodOf}
 use Rattle.rules.specs.Frames.{Run, runOf, ofBusTask, busRuns, withRun, periodOfRuns, busPeriod, withMode, ofSender, switchGrid}
 
@@ -75,12 +75,6 @@ period-snoc rs r =
     same-multiples (periodOfRuns (rs ++ (r ∷ []))) (periodOfRuns (r ∷ rs))
     (λ m. runs-divide m (rs ++ (r ∷ [])) ∙ all-snoc (periodDivides m) rs r
     ∙ and-comm (all (periodDivides m) rs) (periodDivides m r) ∙ sym (runs-divide m (r ∷ rs)))
-
-pub period-pos : (rs : List Run) → ((k : ℕ) (d : Run) → k < length rs → 0 < getD rs k d .period) → 0 < periodOfRuns rs
-unfolding periodOfRuns withRun
-period-pos [] h = zero-lt-suc 0
-period-pos (r ∷ rs) h =
-    lcm-pos (r .period) (periodOfRuns rs) (h zero r (zero-lt-suc (length rs))) (period-pos rs (λ k d w. h (suc k) d (suc-le-suc w)))
 
 -- ---- G
 

@@ -1,69 +1,23 @@
 -- A tick looks at the station's own places alone: 8 nodes, 16 modules, 32 tasks. States that agree at these are judged alike, start the
 -- same row and agree after the tick; so a history of states that agree with the rules' is a history of the rules, and demand 3 holds of it.
 use mathlib.Core.Path.{_≡_, refl, sym, ap, _∙_, subst}
-use mathlib.Core.Bool.{Bool, true, false}
+use mathlib.Core.Bool.{true}
 use mathlib.Core.List.{List, [], _∷_}
 use mathlib.Core.Option.{Option, none, some}
 use native.Mathlib.Omega.{arith}
 use lib.ListN.{length}
-use Prim.Native.Nat.{ℕ, zero, suc, _+_, _≤_, _<_}
+use Prim.Native.Nat.{ℕ, _<_}
 use Rattle.laws.specs.Res.{Res, ok, refuse, _>>_, unless}
-use Rattle.laws.specs.Lists.{firstBad, tab, upTo}
 use Rattle.laws.proofs.Res.{refuse≢ok, ok-injective, then-case, unless-ok}
-use Rattle.laws.proofs.Tests.{by-same}
 use Rattle.laws.proofs.Turns.{same-bad}
 use Rattle.rules.specs.Plan.{Plan, theTask, readPlan}
 use Rattle.rules.specs.Frames.{taskNode}
 use Rattle.rules.specs.Playing.{nodePlaces, modulePlaces, taskPlaces, Input}
-use Rattle.rules.specs.Station.{
-  Kept,
-  State,
-  runPeriod,
-  taskAge,
-  runAge,
-  isRunning,
-  isAwaited,
-  resultAwaited,
-  resultFits,
-  isLastChance,
-  resultInTime,
-  maySwitch,
-  mayTake,
-  changeAllowed,
-  judgedTick,
-  outAfter,
-  rowWith,
-  landsOn,
-  landedBy,
-  landedAfter,
-  heldBy,
-  heldAfter,
-  endsNow,
-  ownShows,
-  otherShows,
-  shownAfter,
-  modeAfter,
-  ageAfter,
-  givenAfter,
-  startingControl,
-  startingData,
-  modeByteBy,
-  modeByteAfter,
-  fullBy,
-  fullAfter,
-  loadBy,
-  loadAfter,
-  tick,
-  started,
-  Ticked,
-  step,
-  Begun,
-  begin,
-}
+use Rattle.rules.specs.Station.{Kept, State, runPeriod, taskAge, runAge, isRunning, isAwaited, resultAwaited, resultFits, isLastChance, resultInTime, maySwitch, mayTake, changeAllowed, judgedTick, outAfter, rowWith, landsOn, landedBy, landedAfter, heldBy, heldAfter, endsNow, ownShows, otherShows, shownAfter, modeAfter, ageAfter, givenAfter, startingControl, startingData, modeByteBy, modeByteAfter, fullBy, fullAfter, loadBy, loadAfter, tick, started, Ticked, step, Begun, begin}
 use Rattle.rules.specs.StationRange.{inRange, ticked}
 use Rattle.rules.specs.History.{played, boardValue, consumes}
 use Rattle.rules.proofs.PlanKept.{PlanKept, readable-kept}
-use Rattle.rules.proofs.StationRanges.{KeptIn, PlayIn, StateIn, range-tests}
+use Rattle.rules.proofs.StationRanges.{KeptIn, range-tests}
 use Rattle.rules.proofs.StationStays.{node-begins}
 use Rattle.rules.proofs.TransparentTick.{row-is}
 use Rattle.rules.proofs.Transparent.{consumed-on, consumed-there, transparent, transparent-own}
@@ -81,38 +35,6 @@ pub record Agree (s s′ : State) : Type 0 where
   pub full : s .full ≡ s′ .full
   pub load : s .load ≡ s′ .load
   pub modeByte : (m : ℕ) → m < modulePlaces → s .modeByte m ≡ s′ .modeByte m
-
-pub agree-refl : {s : State} → Agree s s
-agree-refl =
-    record {
-      clock = refl;
-      mode = λ m w. refl;
-      age = λ m w. refl;
-      given = λ t w. refl;
-      out = λ t w. refl;
-      landed = λ n v t w. refl;
-      shown = λ n v t w. refl;
-      held = λ n v m w. refl;
-      full = refl;
-      load = refl;
-      modeByte = λ m w. refl;
-    }
-
-pub agree-sym : {s s′ : State} → Agree s s′ → Agree s′ s
-agree-sym a =
-    record {
-      clock = sym (a .clock);
-      mode = λ m w. sym (a .mode m w);
-      age = λ m w. sym (a .age m w);
-      given = λ t w. sym (a .given t w);
-      out = λ t w. sym (a .out t w);
-      landed = λ n v t w. sym (a .landed n v t w);
-      shown = λ n v t w. sym (a .shown n v t w);
-      held = λ n v m w. sym (a .held n v m w);
-      full = sym (a .full);
-      load = sym (a .load);
-      modeByte = λ m w. sym (a .modeByte m w);
-    }
 
 pub agree-trans : {s s′ s″ : State} → Agree s s′ → Agree s′ s″ → Agree s s″
 agree-trans a b =
@@ -137,34 +59,6 @@ pub record SameInput (i i′ : Input) : Type 0 where
 
 pub same-input : {i : Input} → SameInput i i
 same-input = record { result = λ t w. refl; change = λ m w. refl }
-
--- ---- refusal 40
-
-module _ {k : Kept} {s s′ : State} (a : Agree s s′) where
-  play-agrees : (m : ℕ) → m < modulePlaces → PlayIn k s m → PlayIn k s′ m
-  play-agrees m w h =
-      record {
-        mode = rw (← a .mode m w) (h .mode);
-        own = λ v. rw (← a .mode m w) (h .own v);
-        age = rw (← a .mode m w, ← a .age m w) (h .age);
-        byte = rw (← a .modeByte m w) (h .byte);
-      }
-
-  pub range-agrees : StateIn k s → StateIn k s′
-  range-agrees h =
-      record {
-        clock = rw (← a .clock) (h .clock);
-        load = rw (← a .load) (h .load);
-        plays = λ m w. play-agrees m w (h .plays m w);
-        boxes = λ t w. rw (← a .out t w) (h .boxes t w);
-        landed = λ n v t w. rw (← a .landed n v t w) (h .landed n v t w);
-        shown = λ n v t w. rw (← a .shown n v t w) (h .shown n v t w);
-        held = λ n v m w. rw (← a .held n v m w) (h .held n v m w);
-      }
-
-pub inRange-agree : (k : Kept) {s s′ : State} → Agree s s′ → inRange k s ≡ inRange k s′
-inRange-agree k {s} {s′} a =
-    by-same (range-tests k s) (range-tests k s′) (λ h. (h .0, range-agrees a (h .1))) (λ h. (h .0, range-agrees (agree-sym a) (h .1)))
 
 -- ---- refusals 41 to 44
 
@@ -360,10 +254,6 @@ pub answer-refused : {r r′ : Res Ticked} {n p : ℕ} → SameAnswer r r′ →
 answer-refused (accepted row state) e = refuse≢ok (sym e)
 answer-refused (refused n p) e = e
 
-pub answer-sym : {r r′ : Res Ticked} → SameAnswer r r′ → SameAnswer r′ r
-answer-sym (accepted row state) = accepted (sym row) (agree-sym state)
-answer-sym (refused n p) = refused n p
-
 module _ (k : Kept) {s s′ : State} {i i′ : Input} (a : Agree s s′) (b : SameInput i i′) where
   pub step-agree : KeptIn k → SameAnswer (step k s i) (step k s′ i′)
   unfolding step
@@ -374,15 +264,6 @@ module _ (k : Kept) {s s′ : State} {i i′ : Input} (a : Agree s s′) (b : Sa
           (_>>_ r (ok (record { row = started k s′; state = tick k s′ i′ })))
       go (ok u) = accepted (started-agree kept a b) (tick-agree kept a b)
       go (refuse n p) = refused n p
-
-  -- on any station value
-  pub ticked-agree : SameAnswer (ticked k s i) (ticked k s′ i′)
-  unfolding ticked
-  ticked-agree = rw (inRange-agree k a) (go (inRange k s′) refl)
-    where
-      go : (c : Bool) → inRange k s′ ≡ c → SameAnswer (_>>_ (unless 40 0 c) (step k s i)) (_>>_ (unless 40 0 c) (step k s′ i′))
-      go true e = step-agree (range-tests k s′ .says e .0)
-      go false e = refused 40 0
 
 -- ---- histories
 

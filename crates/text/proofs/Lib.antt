@@ -1,3 +1,4 @@
 pub mod Decimals
 pub mod Putting
 pub mod Reading
+pub mod Fronts

@@ -1,65 +1,65 @@
+use mathlib.Core.Path.{refl}
 use native.Mathlib.Omega.{arith}
+use Prim.Native.Nat.{_-_}
+use Rattle.frames.specs.Walk.{Ready, limitOf}
+use Rattle.frames.proofs.Walking.{ready, Walked, walked-start, place-of, walked-turn, walk-less, walked-stop, walked-all}
 use borrow.Author.Needs.{needs}
-use Prim.Native.Nat.{suc, _-_}
-use Rattle.frames.proofs.Walking.{Walked, walked-start, walked-turn, walked-stop, walked-all, walk-less}
 use Rattle.frames.proofs.derive.Statement.{statement}
 use Rattle.frames.proofs.derive.Tie as tie
 
 abbrev Inv-loop : tie.InvT-loop
-Inv-loop task period worst runs cycle tasks₀ releases₀ deadlines₀ next₀ count₀ d₀ tasks releases deadlines next count d =
-    Walked task period worst runs cycle tasks₀ releases₀ deadlines₀ tasks releases deadlines next count d
+Inv-loop task period worst runs cycle tasks₀ releases₀ deadlines₀ limit size tree₀ root₀ count₀ tasks releases deadlines tree root count =
+    Ready task period worst runs size cycle × Walked task period worst runs size cycle tasks₀ releases₀ deadlines₀ tasks releases deadlines tree root count
 
 abbrev μ-loop : tie.MeasureT-loop
-μ-loop task period worst runs cycle tasks₀ releases₀ deadlines₀ next₀ count₀ d₀ tasks releases deadlines next count d =
-    suc cycle - d
+μ-loop task period worst runs cycle tasks₀ releases₀ deadlines₀ limit size tree₀ root₀ count₀ tasks releases deadlines tree root count =
+    limitOf cycle - root
 
-first-deadlines-requires : tie.Need-first-deadlines-requires Inv-loop μ-loop
-first-deadlines-requires c κs = search needs
+add-limit : tie.Need-add-limit Inv-loop μ-loop
+add-limit c = search needs
 
-add-least : tie.Need-add-least Inv-loop μ-loop
-add-least c = search needs
+mul-limit : tie.Need-mul-limit Inv-loop μ-loop
+mul-limit c = search needs
 
-least-requires : tie.Need-least-requires Inv-loop μ-loop
-least-requires c κs = search needs
+leaves-requires : tie.Need-leaves-requires Inv-loop μ-loop
+leaves-requires c κs = search needs
+
+plant-requires : tie.Need-plant-requires Inv-loop μ-loop
+plant-requires c κs = ready _ _ _ _ _ _ (c .leaves .ensures) (c .before .pre .1 .0) (c .before .pre .1 .1)
+
+grow-requires : tie.Need-grow-requires Inv-loop μ-loop
+grow-requires c κs = (c .before .plant .ensures .places, (c .before .before .leaves .ensures .1, c .before .before .leaves .ensures .2))
+
+array-read-root : tie.Need-array-read-root Inv-loop μ-loop
+array-read-root c = search needs
 
 loop-holds : tie.Need-loop-holds Inv-loop μ-loop
 loop-holds c =
-    walked-start _ _ _ _ _ _ _ _ _ _ (c .before .before .before .before .pre .1 .1) (c .before .before .first-deadlines .ensures .0) (c .before .before .first-deadlines .ensures .1) (c .least .ensures)
+    let r = ready _ _ _ _ _ _ (c .before .before .before .leaves .ensures) (c .before .before .before .before .pre .1 .0) (c .before .before .before .before .pre .1 .1) in
+    (r, walked-start _ _ _ _ _ _ _ _ _ r (c .before .before .plant .ensures) (c .grow .ensures) refl)
 
 meet-requires : tie.Need-meet-requires Inv-loop μ-loop
-meet-requires c κs = (
-  record {
-    few = c .before .before .before .before .before .before .before .pre .0;
-    short = c .before .before .before .before .before .before .before .pre .1 .0;
-    begun = c .before .before .loop .inv .begun;
-    inside = omega arith;
-    fair = c .before .before .before .before .before .before .before .pre .1 .1;
-  },
-  (c .before .before .loop .inv .places, c .before .before .loop .inv .due),
-)
+meet-requires c κs =
+    let p = place-of _ _ _ _ _ _ _ _ _ (c .before .before .loop .inv .0) (c .before .before .loop .inv .1) (omega arith) refl refl in
+    (c .before .before .loop .inv .0, ((p .begun, p .inside, p .short), (p .waiting, c .before .before .loop .inv .1 .root-is)))
 
-emit-requires : tie.Need-emit-requires Inv-loop μ-loop
-emit-requires c κs = search needs
+cast-put : tie.Need-cast-put Inv-loop μ-loop
+cast-put c = search needs
+
+put-requires : tie.Need-put-requires Inv-loop μ-loop
+put-requires c κs = let p = place-of _ _ _ _ _ _ _ _ _ (c .before .before .before .before .before .before .loop .inv .0) (c .before .before .before .before .before .before .loop .inv .1) (omega arith) refl refl in (p .short, c .before .before .before .before .before .before .loop .inv .1 .room)
 
 returns : tie.Need-returns Inv-loop μ-loop
-returns c =
-    walked-stop _ _ _ _ _ _ _ _ (c .before .before .before .before .before .before .before .before .before .before .before .before .before .before .pre .1 .1) (c .before .before .before .before .before .before .before .before .before .loop .inv) (c .before .before .before .before .before .before .meet .ensures .0) (c .before .emit .ensures) (omega arith) (omega arith)
-
-add-least-2 : tie.Need-add-least-2 Inv-loop μ-loop
-add-least-2 c = search needs
-
-least-requires-2 : tie.Need-least-requires-2 Inv-loop μ-loop
-least-requires-2 c κs = search needs
+returns c = walked-stop _ _ _ _ _ _ _ _ _ (c .before .before .before .before .before .before .before .before .loop .inv .0) (c .before .before .before .before .before .before .before .before .loop .inv .1) (omega arith) refl refl (c .before .before .before .before .before .meet .ensures) (c .before .put .ensures) (omega arith)
 
 loop-less : tie.Need-loop-less Inv-loop μ-loop
-loop-less c = walk-less (c .before .before .before .before .before .before .before .before .before .before .before .before .before .before .before .before .args .period .now) _ _ _ _ _ (omega arith) (c .before .before .before .before .before .before .before .before .meet .ensures .1 .1) (c .least2 .ensures)
+loop-less c = walk-less _ _ _ _ _ _ _ _ _ (c .before .before .before .before .before .before .before .before .loop .inv .0) (c .before .before .before .before .before .before .before .before .loop .inv .1) (omega arith) refl refl (c .before .before .before .before .before .meet .ensures) (c .before .put .ensures)
 
 loop-again : tie.Need-loop-again Inv-loop μ-loop
-loop-again c =
-    walked-turn _ _ _ _ _ _ _ _ (c .before .before .before .before .before .before .before .before .before .before .before .loop .inv) (c .before .before .before .before .before .before .before .before .meet .ensures .0) (c .before .before .before .emit .ensures) (omega arith) (omega arith) (c .before .before .before .before .before .before .before .before .meet .ensures .1 .0) (c .before .before .before .before .before .before .before .before .meet .ensures .1 .1) (c .least2 .ensures)
+loop-again c = (c .before .before .before .before .before .before .before .before .loop .inv .0, walked-turn _ _ _ _ _ _ _ _ _ (c .before .before .before .before .before .before .before .before .loop .inv .0) (c .before .before .before .before .before .before .before .before .loop .inv .1) (omega arith) refl refl (c .before .before .before .before .before .meet .ensures) (c .before .put .ensures) (omega arith))
 
 returns-2 : tie.Need-returns-2 Inv-loop μ-loop
-returns-2 c = walked-all _ _ _ _ _ _ _ _ (c .before .before .before .before .before .before .pre .1 .1) (c .before .loop .inv) (omega arith)
+returns-2 c = walked-all _ _ _ _ _ _ _ _ _ (c .before .loop .inv .0) (c .before .loop .inv .1) (omega arith)
 
 pub derive-spec : {M : Type 1} → statement M
 derive-spec =
@@ -67,15 +67,17 @@ derive-spec =
     (tie.spec
     Inv-loop
     μ-loop
-    first-deadlines-requires
-    add-least
-    least-requires
+    add-limit
+    mul-limit
+    leaves-requires
+    plant-requires
+    grow-requires
+    array-read-root
     loop-holds
     meet-requires
-    emit-requires
+    cast-put
+    put-requires
     returns
-    add-least-2
-    least-requires-2
     loop-less
     loop-again
     returns-2)

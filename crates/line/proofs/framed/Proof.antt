@@ -1,3 +1,4 @@
+use mathlib.Core.Path.{sym}
 use Rattle.plan.specs.Memory.{seen}
 use Rattle.answers.specs.declared.Refusal.the-variants.{TooManyFrames}
 use Rattle.line.proofs.Ways.{lays-refused}
@@ -18,10 +19,10 @@ refused-requires : tie.Need-refused-requires
 refused-requires c κs = search needs
 
 returns : tie.Need-returns
-returns c = lays-refused TooManyFrames _ _ (c .refused .ensures) (nine (seen (c .before .before .before .before .args .p)) (c .before .before .before .before .pre .0) (c .before .before .before .before .args .runs) _ (c .before .before .before .before .pre .1 .1 .0 .1) (c .before .before .before .before .pre .1 .1 .0 .2) _ (c .before .before .before .of .ensures) (c .before .before .before .before .pre .1 .1 .1) (c .before .if1 .taken))
+returns c = lays-refused TooManyFrames _ _ (c .refused .ensures) (nine (seen (c .before .before .before .args .p)) (c .before .before .before .pre .0) (c .before .before .before .args .runs) _ (c .before .before .before .pre .1 .1 .0 .1) (c .before .before .before .pre .1 .1 .0 .2) _ (c .before .before .of .ensures) (c .before .before .before .pre .1 .1 .1) (c .before .if1 .taken))
 
 closed-requires : tie.Need-closed-requires
-closed-requires c κs = (c .before .before .before .pre .0, (c .before .before .before .pre .1 .1 .0 .0, ((c .before .before .before .pre .1 .1 .0 .2, period-short (seen (c .before .before .before .args .p)) (c .before .before .before .pre .0) (c .before .before .before .args .runs) _ (c .before .before .before .pre .1 .1 .0 .1) (c .before .before .before .pre .1 .1 .0 .2) (c .before .before .before .pre .1 .0 .0) (c .before .before .before .pre .1 .0 .1)), ((frames-laid (seen (c .before .before .before .args .p)) (c .before .before .before .pre .0) (c .before .before .before .args .runs) _ (c .before .before .before .pre .1 .1 .0 .1) (c .before .before .before .pre .1 .1 .0 .2) _ (c .before .before .of .ensures), few-frames (seen (c .before .before .before .args .p)) (c .before .before .before .pre .0) (c .before .before .before .args .runs) _ (c .before .before .before .pre .1 .1 .0 .1) (c .before .before .before .pre .1 .1 .0 .2) _ (c .before .before .of .ensures) (c .if1 .left)), onward (seen (c .before .before .before .args .p)) (c .before .before .before .pre .0) (c .before .before .before .args .runs) _ (c .before .before .before .pre .1 .1 .0 .1) (c .before .before .before .pre .1 .1 .0 .2) _ (c .before .before .of .ensures) (c .before .before .before .pre .1 .1 .1) (c .if1 .left)))))
+closed-requires c κs = (c .before .before .before .before .before .before .pre .0, (c .before .before .before .before .before .before .pre .1 .1 .0 .0, ((c .before .before .before .before .before .before .pre .1 .1 .0 .2, period-short (seen (c .before .before .before .before .before .before .args .p)) (c .before .before .before .before .before .before .pre .0) (c .before .before .before .before .before .before .args .runs) _ (c .before .before .before .before .before .before .pre .1 .1 .0 .1) (c .before .before .before .before .before .before .pre .1 .1 .0 .2) (c .before .before .before .before .before .before .pre .1 .0 .0) (c .before .before .before .before .before .before .pre .1 .0 .1)), ((sym (frames-laid (seen (c .before .before .before .before .before .before .args .p)) (c .before .before .before .before .before .before .pre .0) (c .before .before .before .before .before .before .args .runs) _ (c .before .before .before .before .before .before .pre .1 .1 .0 .1) (c .before .before .before .before .before .before .pre .1 .1 .0 .2) _ (c .before .before .before .before .before .of .ensures)), few-frames (seen (c .before .before .before .before .before .before .args .p)) (c .before .before .before .before .before .before .pre .0) (c .before .before .before .before .before .before .args .runs) _ (c .before .before .before .before .before .before .pre .1 .1 .0 .1) (c .before .before .before .before .before .before .pre .1 .1 .0 .2) _ (c .before .before .before .before .before .of .ensures) (c .before .before .before .before .if1 .left)), onward (seen (c .before .before .before .before .before .before .args .p)) (c .before .before .before .before .before .before .pre .0) (c .before .before .before .before .before .before .args .runs) _ (c .before .before .before .before .before .before .pre .1 .1 .0 .1) (c .before .before .before .before .before .before .pre .1 .1 .0 .2) _ (c .before .before .before .before .before .of .ensures) (c .before .before .before .before .before .before .pre .1 .1 .1) (c .before .before .before .before .if1 .left)))))
 
 returns-2 : tie.Need-returns-2
 returns-2 c = search needs

@@ -1,4 +1,4 @@
-use mathlib.Core.Path.{refl}
+use mathlib.Core.Path.{sym}
 use native.Mathlib.Omega.{arith}
 use Rattle.plan.specs.Memory.{seen, busSeen}
 use Rattle.line.proofs.Small.{gap-small}
@@ -33,13 +33,13 @@ control-starts-requires c κs = search needs
 control-stops-requires : tie.Need-control-stops-requires
 control-stops-requires c κs = search needs
 
-cast-t19 : tie.Need-cast-t19
-cast-t19 c = search needs
+cast-t22 : tie.Need-cast-t22
+cast-t22 c = search needs
 
 returns : tie.Need-returns
 unfolding seen busSeen
 returns c =
-    line-is (seen (c .before .before .before .before .before .before .before .before .before .before .before .args .p)) _ _ _ _ _ _ _ (c .before .before .before .before .before .before .before .before .before .before .before .args .control) (c .before .before .before .before .before .before .before .before .before .before .before .args .frames) (c .before .before .before .before .before .before .before .before .before .before .before .pre .1 .0 .0) (c .before .before .before .before .before .before .before .before .before .gap-time .ensures .0) (c .before .before .before .before .before .before .before .before .before .before .before .pre .1 .0 .1) (c .before .before .before .before .before .before .before .times .ensures) (c .before .before .before .before .before .before .before .before .before .before .before .pre .1 .1 .0) (c .before .before .before .before .before .before .control-nodes .ensures) (c .before .before .before .before .before .control-starts .ensures) (c .before .before .before .before .control-stops .ensures) (c .before .before .before .before .before .before .before .before .before .before .before .pre .1 .1 .1 .0) (c .before .before .before .before .before .before .before .before .before .before .before .pre .1 .1 .1 .1)
+    line-is (seen (c .before .before .before .before .before .before .before .before .before .before .before .args .p)) _ _ _ _ _ _ _ (c .before .before .before .before .before .before .before .before .before .before .before .args .control) _ (c .before .before .before .before .before .before .before .before .before .before .before .pre .1 .0 .0) (c .before .before .before .before .before .before .before .before .before .gap-time .ensures .0) (c .before .before .before .before .before .before .before .before .before .before .before .pre .1 .0 .1) (c .before .before .before .before .before .before .before .times .ensures) (c .before .before .before .before .before .before .before .before .before .before .before .pre .1 .1 .0) (c .before .before .before .before .before .before .control-nodes .ensures) (c .before .before .before .before .before .control-starts .ensures) (c .before .before .before .before .control-stops .ensures) (sym (c .before .before .before .before .before .before .before .before .before .before .before .pre .1 .1 .1 .0)) (c .before .before .before .before .before .before .before .before .before .before .before .pre .1 .1 .1 .1)
 
 pub line-of-spec : {M : Type 1} → statement M
 line-of-spec =
@@ -51,5 +51,5 @@ line-of-spec =
     control-nodes-requires
     control-starts-requires
     control-stops-requires
-    cast-t19
+    cast-t22
     returns)

@@ -1,24 +1,17 @@
-use mathlib.Core.Path.{_≡_, refl, sym, ap, _∙_}
-use mathlib.Core.Bool.{true, false}
-use Prim.Native.Nat.{_-_, _≤_}
+use mathlib.Core.Path.{_≡_, refl, _∙_}
+use mathlib.Core.Bool.{true}
 use native.Mathlib.Omega.{arith}
-use lib.ListN.{length, replicate}
 use borrow.Author.Tests.{not-true, not-false}
-use Rattle.laws.specs.Lists.{all, tab, upTo}
-use Rattle.laws.specs.Loops.{stores}
-use Rattle.laws.proofs.Loops.{stores-none, stores-turn, stores-all}
+use lib.ListN.{length}
+use Prim.Native.Nat.{_-_, _≤_, _<_}
+use Rattle.laws.specs.Lists.{all, upTo}
 use Rattle.plan.specs.Memory.{seen, busSeen, taskLaid}
-use Rattle.line.specs.Line.{taskTime}
-use Rattle.line.specs.Tests.{flagAt, messageKeeps}
+use Rattle.line.specs.Tests.{messageKeeps}
 use Rattle.line.proofs.Scans.{all-on, all-here, all-end, message-test}
-use Rattle.line.proofs.Small.{time-small, time-of, times-stored}
+use Rattle.line.proofs.Small.{size-of}
 use borrow.Author.Needs.{needs}
 use Rattle.line.proofs.messages_fit.Statement.{statement}
 use Rattle.line.proofs.messages_fit.Tie as tie
-use Rattle.line.proofs.messages_fit.Reads as reads
-use Rattle.line.proofs.messages_fit.Lts as lts
-use Rattle.line.proofs.message_keeps.Reads as message-keeps-reads
-use Rattle.plan.proofs.look.task_count.Reads as task-count-reads
 
 abbrev Inv-loop : tie.InvT-loop
 Inv-loop p tasks count t₀ t = (t ≤ count) × (all (messageKeeps tasks (seen p)) (upTo t) ≡ true)
@@ -35,11 +28,21 @@ loop-holds c = (search needs, refl)
 array-read-message-keeps : tie.Need-array-read-message-keeps Inv-loop μ-loop
 array-read-message-keeps c = search needs
 
+mul-message-keeps : tie.Need-mul-message-keeps Inv-loop μ-loop
+mul-message-keeps c = search needs
+
+element-copy-out-message-keeps : tie.Need-element-copy-out-message-keeps Inv-loop μ-loop
+element-copy-out-message-keeps c = search needs
+
 message-keeps-requires : tie.Need-message-keeps-requires Inv-loop μ-loop
 message-keeps-requires c κs = search needs
 
 returns : tie.Need-returns Inv-loop μ-loop
-returns c = rw (← (c .before .before .before .before .task-count .ensures .0)) (all-here (messageKeeps (c .before .before .before .before .before .args .t2) (seen (c .before .before .before .before .before .args .p))) _ _ (c .before .before .loop-test .taken) (message-test _ _ _ _ (c .before .message-keeps .ensures) ∙ not-true _ (c .if1 .taken)))
+unfolding seen busSeen taskLaid
+returns c =
+    let p = c .before .before .before .before .before .args .t1 in
+    let w : c .before .before .before .loop .t < length (seen p .tasks) = omega arith in
+    rw (← (c .before .before .before .before .task-count .ensures .0)) (all-here (messageKeeps (c .before .before .before .before .before .args .t2) (seen p)) _ _ (c .before .before .loop-test .taken) (message-test _ (seen p) _ _ _ (size-of p _ w) (c .before .message-keeps .ensures) ∙ not-true _ (c .if1 .taken)))
 
 add-t : tie.Need-add-t Inv-loop μ-loop
 add-t c = search needs
@@ -48,10 +51,14 @@ loop-less : tie.Need-loop-less Inv-loop μ-loop
 loop-less c = search needs
 
 loop-again : tie.Need-loop-again Inv-loop μ-loop
-loop-again c = (search needs, all-on (messageKeeps (c .before .before .before .before .before .args .t2) (seen (c .before .before .before .before .before .args .p))) _ (c .before .before .before .loop .inv .1) (message-test _ _ _ _ (c .before .message-keeps .ensures) ∙ not-false _ (c .if1 .left)))
+unfolding seen busSeen taskLaid
+loop-again c =
+    let p = c .before .before .before .before .before .args .t1 in
+    let w : c .before .before .before .loop .t < length (seen p .tasks) = omega arith in
+    (search needs, all-on (messageKeeps (c .before .before .before .before .before .args .t2) (seen p)) _ (c .before .before .before .loop .inv .1) (message-test _ (seen p) _ _ _ (size-of p _ w) (c .before .message-keeps .ensures) ∙ not-false _ (c .if1 .left)))
 
 returns-2 : tie.Need-returns-2 Inv-loop μ-loop
-returns-2 c = rw (← (c .before .before .task-count .ensures .0)) (all-end (messageKeeps (c .before .before .before .args .t2) (seen (c .before .before .before .args .p))) _ _ (c .before .loop .inv .1) (c .before .loop .inv .0) (c .loop-test .left))
+returns-2 c = rw (← (c .before .before .task-count .ensures .0)) (all-end (messageKeeps (c .before .before .before .args .t2) (seen (c .before .before .before .args .t1))) _ _ (c .before .loop .inv .1) (c .before .loop .inv .0) (c .loop-test .left))
 
 pub messages-fit-spec : {M : Type 1} → statement M
 messages-fit-spec =
@@ -62,6 +69,8 @@ messages-fit-spec =
     task-count-requires
     loop-holds
     array-read-message-keeps
+    mul-message-keeps
+    element-copy-out-message-keeps
     message-keeps-requires
     returns
     add-t

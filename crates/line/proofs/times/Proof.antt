@@ -1,44 +1,50 @@
-use Rattle.plan.specs.declared.Task.{Task}
-use mathlib.Core.Path.{_≡_, refl, sym, ap, _∙_}
-use mathlib.Core.Bool.{true, false}
-use Prim.Native.Nat.{_-_, _≤_}
+use mathlib.Core.Path.{_≡_}
 use native.Mathlib.Omega.{arith}
 use lib.ListN.{length, replicate}
-use borrow.Author.Tests.{not-true, not-false}
-use Rattle.laws.specs.Lists.{all, tab, upTo}
+use Prim.Native.Nat.{_-_, _≤_, _<_}
 use Rattle.laws.specs.Loops.{stores}
-use Rattle.laws.proofs.Loops.{stores-none, stores-turn, stores-all}
-use Rattle.plan.specs.Memory.{seen, busSeen, taskLaid}
+use Rattle.laws.proofs.Loops.{stores-none, stores-turn}
+use Rattle.plan.specs.Memory.{seen, taskLaid}
 use Rattle.line.specs.Line.{taskTime}
-use Rattle.line.specs.Tests.{flagAt, messageKeeps}
-use Rattle.line.proofs.Scans.{all-on, all-here, all-end, message-test}
-use Rattle.line.proofs.Small.{time-small, time-of, times-stored}
+use Rattle.line.proofs.Small.{size-of, no-time-small, time-small, time-of, times-stored}
 use borrow.Author.Needs.{needs}
 use Rattle.line.proofs.times.Statement.{statement}
 use Rattle.line.proofs.times.Tie as tie
-use Rattle.line.proofs.times.Reads as reads
-use Rattle.line.proofs.times.Lts as lts
-use Rattle.bus.proofs.times.sending_time.Reads as sending-time-reads
-use Rattle.plan.proofs.look.task_at.Reads as task-at-reads
 
 abbrev Inv-loop : tie.InvT-loop
-Inv-loop p bus time₀ t₀ time t = (t ≤ 32) × (time ≡ stores (replicate 32 0) (taskTime (seen p)) t)
+Inv-loop p bus count none time₀ t₀ time t = (t ≤ count) × (time ≡ stores (replicate 32 none) (taskTime (seen p)) t)
 
 abbrev μ-loop : tie.MeasureT-loop
-μ-loop p bus time₀ t₀ time t = 32 - t
+μ-loop p bus count none time₀ t₀ time t = count - t
 
-loop-holds : tie.Need-loop-holds Inv-loop μ-loop
-loop-holds c = (search needs, stores-none _ (taskTime (seen (c .before .args .p))))
-
-task-at-requires : tie.Need-task-at-requires Inv-loop μ-loop
-task-at-requires c κs = search needs
+task-count-requires : tie.Need-task-count-requires Inv-loop μ-loop
+task-count-requires c κs = search needs
 
 sending-time-requires : tie.Need-sending-time-requires Inv-loop μ-loop
 sending-time-requires c κs = search needs
 
+cast-none : tie.Need-cast-none Inv-loop μ-loop
+unfolding seen taskLaid
+cast-none c = record { fits = no-time-small (seen (c .before .before .before .before .args .t1)) (c .before .before .before .before .pre) _ (c .before .sending-time .ensures .0) }
+
+loop-holds : tie.Need-loop-holds Inv-loop μ-loop
+loop-holds c = (search needs, stores-none _ (taskTime (seen (c .before .before .before .before .args .t1))))
+
+mul-task : tie.Need-mul-task Inv-loop μ-loop
+mul-task c = search needs
+
+element-copy-out-task : tie.Need-element-copy-out-task Inv-loop μ-loop
+element-copy-out-task c = search needs
+
+sending-time-requires-2 : tie.Need-sending-time-requires-2 Inv-loop μ-loop
+sending-time-requires-2 c κs = search needs
+
 cast-time : tie.Need-cast-time Inv-loop μ-loop
 unfolding seen taskLaid
-cast-time c = record { fits = time-small (seen (c .before .before .before .before .before .before .args .p)) (c .before .before .before .before .before .before .pre) _ _ _ (ap (λ (x : Task). x .size .0) (c .before .before .task-at .ensures)) (c .before .sending-time .ensures .0) }
+cast-time c =
+    let p = c .before .before .before .before .before .before .before .before .before .args .t1 in
+    let w : c .before .before .before .before .loop .t < length (seen p .tasks) = omega arith in
+    record { fits = time-small (seen p) (c .before .before .before .before .before .before .before .before .before .pre) _ _ _ (size-of p _ w) (c .before .sending-time2 .ensures .0) }
 
 mul-time : tie.Need-mul-time Inv-loop μ-loop
 mul-time c = search needs
@@ -54,10 +60,14 @@ loop-less c = search needs
 
 loop-again : tie.Need-loop-again Inv-loop μ-loop
 unfolding seen taskLaid
-loop-again c = (search needs, stores-turn _ (taskTime (seen (c .before .before .before .before .before .before .args .p))) _ (c .before .before .before .before .loop .inv .1) (time-of (seen (c .before .before .before .before .before .before .args .p)) _ _ _ (ap (λ (x : Task). x .size .0) (c .before .before .task-at .ensures)) (c .before .sending-time .ensures .0)))
+loop-again c =
+    let p = c .before .before .before .before .before .before .before .before .before .args .t1 in
+    let w : c .before .before .before .before .loop .t < length (seen p .tasks) = omega arith in
+    (search needs, stores-turn _ (taskTime (seen p)) _ (c .before .before .before .before .loop .inv .1) (time-of (seen p) _ _ _ (size-of p _ w) (c .before .sending-time2 .ensures .0)))
 
 returns : tie.Need-returns Inv-loop μ-loop
-returns c = times-stored _ (taskTime (seen (c .before .before .before .args .p))) _ (c .before .loop .inv .1) (c .before .loop .inv .0) (c .loop-test .left)
+unfolding seen taskLaid
+returns c = times-stored (seen (c .before .before .before .before .before .before .args .t1)) _ _ _ _ (c .before .before .before .sending-time .ensures .0) (c .before .before .before .before .task-count .ensures .0) (c .before .before .before .before .task-count .ensures .1) (c .before .loop .inv .1) (c .before .loop .inv .0) (c .loop-test .left)
 
 pub times-spec : {M : Type 1} → statement M
 times-spec =
@@ -65,9 +75,13 @@ times-spec =
     (tie.spec
     Inv-loop
     μ-loop
-    loop-holds
-    task-at-requires
+    task-count-requires
     sending-time-requires
+    cast-none
+    loop-holds
+    mul-task
+    element-copy-out-task
+    sending-time-requires-2
     cast-time
     mul-time
     array-write-time

@@ -8,11 +8,11 @@ use Rattle.planrules.proofs.judged.Tie as tie
 first-bad-requires : tie.Need-first-bad-requires
 first-bad-requires c κs = search needs
 
-add-t12 : tie.Need-add-t12
-add-t12 c = search needs
+add-t13 : tie.Need-add-t13
+add-t13 c = search needs
 
-cast-t13 : tie.Need-cast-t13
-cast-t13 c = search needs
+cast-t14 : tie.Need-cast-t14
+cast-t14 c = search needs
 
 refused-requires : tie.Need-refused-requires
 refused-requires c κs = search needs
@@ -31,14 +31,11 @@ refused-requires-2 c κs = search needs
 
 returns-2 : tie.Need-returns-2
 returns-2 c =
-    way-names _ _ _ (c .before .before .before .before .before .before .before .before .before .pre) _ (c .before .before .before .before .before .before .first-bad .ensures) (c .before .before .before .before .before .if1 .left) _
-    (sym (c .before .before .named .given .1) ∙ c .before .before .before .before .first-bad2 .ensures) (c .refused2 .ensures)
+    way-names _ _ _ (c .before .before .before .before .before .before .before .before .before .pre) _ (c .before .before .before .before .before .before .first-bad .ensures) (c .before .before .before .before .before .if1 .left) _ (sym (c .before .before .named .given .1) ∙ ap (λ f. f .named) (c .before .before .before .before .first-bad2 .ensures))
+    (c .refused2 .ensures)
 
 enum-told : tie.Need-enum-told
 enum-told c = search needs
-
-first-bad-requires-3 : tie.Need-first-bad-requires-3
-first-bad-requires-3 c κs = gathered-sound _ _ (c .before .before .before .before .before .before .before .pre)
 
 enum-known-ranged : tie.Need-enum-known-ranged
 enum-known-ranged c = search needs
@@ -48,8 +45,8 @@ refused-requires-3 c κs = search needs
 
 returns-3 : tie.Need-returns-3
 returns-3 c =
-    way-ranges _ _ _ (c .before .before .before .before .before .before .before .before .before .before .before .before .pre) _ (c .before .before .before .before .before .before .before .before .before .first-bad .ensures) (c .before .before .before .before .before .before .before .before .if1 .left)
-    (sym (c .before .before .before .before .before .enum-told .given .1) ∙ c .before .before .before .before .before .before .before .first-bad2 .ensures) _ (sym (c .before .before .ranged .given .1) ∙ c .before .before .before .before .first-bad3 .ensures) (c .refused3 .ensures)
+    way-ranges _ _ _ (c .before .before .before .before .before .before .before .before .before .before .before .pre) _ (c .before .before .before .before .before .before .before .before .first-bad .ensures) (c .before .before .before .before .before .before .before .if1 .left) (sym (c .before .before .before .before .enum-told .given .1) ∙ ap (λ f. f .named) (c .before .before .before .before .before .before .first-bad2 .ensures)) _ (sym (c .before .before .ranged .given .1) ∙ ap (λ f. f .ranged) (c .before .before .before .before .before .before .first-bad2 .ensures))
+    (c .refused3 .ensures)
 
 enum-told-2 : tie.Need-enum-told-2
 enum-told-2 c = search needs
@@ -65,24 +62,24 @@ refused-requires-4 c κs = search needs
 
 returns-4 : tie.Need-returns-4
 returns-4 c =
-    way-unfit _ _ _ (c .before .before .before .before .before .before .before .before .before .before .before .before .before .before .before .pre) _ (c .before .before .before .before .before .before .before .before .before .before .before .before .first-bad .ensures) (c .before .before .before .before .before .before .before .before .before .before .before .if1 .left)
-    (sym (c .before .before .before .before .before .before .before .before .enum-told .given .1) ∙ c .before .before .before .before .before .before .before .before .before .before .first-bad2 .ensures) (sym (c .before .before .before .before .before .enum-told2 .given .1) ∙ c .before .before .before .before .before .before .before .first-bad3 .ensures) _ (ap unfitOf (sym (c .before .before .fitted .given .1)) ∙ c .before .before .before .before .first-unfit .ensures) (c .refused4 .ensures)
+    way-unfit _ _ _ (c .before .before .before .before .before .before .before .before .before .before .before .before .before .before .pre) _ (c .before .before .before .before .before .before .before .before .before .before .before .first-bad .ensures) (c .before .before .before .before .before .before .before .before .before .before .if1 .left) (sym (c .before .before .before .before .before .before .before .enum-told .given .1) ∙ ap (λ f. f .named) (c .before .before .before .before .before .before .before .before .before .first-bad2 .ensures)) (sym (c .before .before .before .before .before .enum-told2 .given .1) ∙ ap (λ f. f .ranged) (c .before .before .before .before .before .before .before .before .before .first-bad2 .ensures)) _
+    (ap unfitOf (sym (c .before .before .fitted .given .1)) ∙ c .before .before .before .before .first-unfit .ensures) (c .refused4 .ensures)
 
 enum-told-3 : tie.Need-enum-told-3
 enum-told-3 c = search needs
 
 returns-5 : tie.Need-returns-5
 returns-5 c =
-    way-sound _ _ _ (c .before .before .before .before .before .before .before .before .before .before .before .before .before .pre) _ (c .before .before .before .before .before .before .before .before .before .before .first-bad .ensures) (c .before .before .before .before .before .before .before .before .before .if1 .left)
-    (sym (c .before .before .before .before .before .before .enum-told .given .1) ∙ c .before .before .before .before .before .before .before .before .first-bad2 .ensures) (sym (c .before .before .before .enum-told2 .given .1) ∙ c .before .before .before .before .before .first-bad3 .ensures) (ap unfitOf (sym (c .enum-told3 .given .1)) ∙ c .before .before .first-unfit .ensures) refl
+    way-sound _ _ _ (c .before .before .before .before .before .before .before .before .before .before .before .before .pre) _ (c .before .before .before .before .before .before .before .before .before .first-bad .ensures) (c .before .before .before .before .before .before .before .before .if1 .left) (sym (c .before .before .before .before .before .enum-told .given .1) ∙ ap (λ f. f .named) (c .before .before .before .before .before .before .before .first-bad2 .ensures)) (sym (c .before .before .before .enum-told2 .given .1) ∙ ap (λ f. f .ranged) (c .before .before .before .before .before .before .before .first-bad2 .ensures))
+    (ap unfitOf (sym (c .enum-told3 .given .1)) ∙ c .before .before .first-unfit .ensures) refl
 
 pub judged-spec : {M : Type 1} → statement M
 judged-spec =
     tie.close
     (tie.spec
     first-bad-requires
-    add-t12
-    cast-t13
+    add-t13
+    cast-t14
     refused-requires
     returns
     first-bad-requires-2
@@ -90,7 +87,6 @@ judged-spec =
     refused-requires-2
     returns-2
     enum-told
-    first-bad-requires-3
     enum-known-ranged
     refused-requires-3
     returns-3

@@ -1,4 +1,3 @@
-use borrow.Author.Needs.{needs}
 use mathlib.Core.Path.{_≡_, sym, _∙_}
 use native.Mathlib.Omega.{arith}
 use Prim.Native.Nat.{ℕ, _≤_, _<_, _-_}
@@ -10,14 +9,15 @@ use Rattle.rules.specs.Frames.{isBusTask}
 use Rattle.bus.specs.Senders.{byNumber, invokedBy, busTaskBy}
 use Rattle.bus.proofs.Things.{connection-here}
 use Rattle.bus.proofs.Marks.{bus-tasks-none, bus-tasks-turn}
+use borrow.Author.Needs.{needs}
 use Rattle.bus.proofs.senders.bus_tasks.Statement.{statement}
 use Rattle.bus.proofs.senders.bus_tasks.Tie as tie
 
 abbrev Inv-loop : tie.InvT-loop
-Inv-loop p n nodes invoked tasks₀ i₀ tasks i = (i ≤ n) × (tasks ≡ byNumber (busTaskBy (seen p) (take i (seen p .connections))))
+Inv-loop nodes invoked p n tasks₀ i₀ tasks i = (i ≤ n) × (tasks ≡ byNumber (busTaskBy (seen p) (take i (seen p .connections))))
 
 abbrev μ-loop : tie.MeasureT-loop
-μ-loop p n nodes invoked tasks₀ i₀ tasks i = n - i
+μ-loop nodes invoked p n tasks₀ i₀ tasks i = n - i
 
 producer : (p : Plan) (i : ℕ) → i < length (seen p .connections) → getD (seen p .connections) i noConnection .producer ≡ getD (p .connections) i (connectionLaid noConnection) .producer .0
 unfolding connectionSeen
@@ -30,14 +30,8 @@ consumer p i w = rw (connection-here p i w)
 connection-count-requires : tie.Need-connection-count-requires Inv-loop μ-loop
 connection-count-requires c κs = search needs
 
-task-nodes-requires : tie.Need-task-nodes-requires Inv-loop μ-loop
-task-nodes-requires c κs = search needs
-
-invoked-requires : tie.Need-invoked-requires Inv-loop μ-loop
-invoked-requires c κs = search needs
-
 loop-holds : tie.Need-loop-holds Inv-loop μ-loop
-loop-holds c = (search needs, bus-tasks-none (seen (c .before .before .before .args .t1)))
+loop-holds c = (search needs, bus-tasks-none (seen (c .before .args .t1)))
 
 mul-place : tie.Need-mul-place Inv-loop μ-loop
 mul-place c = search needs
@@ -60,14 +54,14 @@ place-requires-2 c κs = search needs
 array-read-marked : tie.Need-array-read-marked Inv-loop μ-loop
 array-read-marked c = search needs
 
-array-read-marked-2 : tie.Need-array-read-marked-2 Inv-loop μ-loop
-array-read-marked-2 c = search needs
+element-copy-out-marked : tie.Need-element-copy-out-marked Inv-loop μ-loop
+element-copy-out-marked c = search needs
 
-array-read-marked-3 : tie.Need-array-read-marked-3 Inv-loop μ-loop
-array-read-marked-3 c = search needs
+element-copy-out-marked-2 : tie.Need-element-copy-out-marked-2 Inv-loop μ-loop
+element-copy-out-marked-2 c = search needs
 
-array-read-marked-4 : tie.Need-array-read-marked-4 Inv-loop μ-loop
-array-read-marked-4 c = search needs
+element-copy-out-marked-3 : tie.Need-element-copy-out-marked-3 Inv-loop μ-loop
+element-copy-out-marked-3 c = search needs
 
 marked-requires : tie.Need-marked-requires Inv-loop μ-loop
 marked-requires c κs = search needs
@@ -84,20 +78,19 @@ loop-less c = search needs
 loop-again : tie.Need-loop-again Inv-loop μ-loop
 unfolding connectionLaid noConnection
 loop-again c =
-    let p = c .before .before .before .before .before .before .before .before .args .t1 in
-    let l = c .before .before .before .before .loop in
+    let p = c .before .before .before .before .before .before .before .before .before .args .t1 in
+    let l = c .before .before .before .before .before .before .before .loop in
     let w : l .i < length (seen p .connections) = omega arith in (
       search needs,
-      bus-tasks-turn (seen p) (l .i) _ _ (l .inv .1) (c .before .before .before .before .before .invoked .ensures)
-          (c .before .before .before .before .before .before .task-nodes .ensures) w
-          (producer p (l .i) w ∙ sym (c .before .before .place .ensures .0)) (consumer p (l .i) w ∙ sym (c .before .place2 .ensures .0))
+      bus-tasks-turn (seen p) (l .i) _ _ (l .inv .1) (c .before .before .before .before .before .before .before .before .before .pre .1) (c .before .before .before .before .before .before .before .before .before .pre .0) w
+          (producer p (l .i) w ∙ sym (c .before .before .before .before .before .place .ensures .0)) (consumer p (l .i) w ∙ sym (c .before .before .before .before .place2 .ensures .0))
           (omega arith) (omega arith) (c .marked .ensures),
     )
 
 returns : tie.Need-returns Inv-loop μ-loop
 unfolding isBusTask busTaskBy invokedBy
 returns c =
-    let q = seen (c .before .before .before .before .before .args .t1) in
+    let q = seen (c .before .before .before .args .t1) in
     let w : length (q .connections) ≤ c .before .loop .i = omega arith in
     rw (take-all (c .before .loop .i) (q .connections) w) at (c .before .loop .inv .1)
 
@@ -108,8 +101,6 @@ bus-tasks-spec =
     Inv-loop
     μ-loop
     connection-count-requires
-    task-nodes-requires
-    invoked-requires
     loop-holds
     mul-place
     element-copy-out-place
@@ -118,9 +109,9 @@ bus-tasks-spec =
     element-copy-out-place-2
     place-requires-2
     array-read-marked
-    array-read-marked-2
-    array-read-marked-3
-    array-read-marked-4
+    element-copy-out-marked
+    element-copy-out-marked-2
+    element-copy-out-marked-3
     marked-requires
     array-write-tasks
     add-i

@@ -1,34 +1,30 @@
-use borrow.Author.Needs.{needs}
 use mathlib.Core.Path.{_≡_}
 use native.Mathlib.Omega.{arith}
 use Prim.Native.Nat.{_≤_, _-_}
+use lib.ListN.{length}
 use Rattle.plan.specs.Memory.{seen}
 use Rattle.rules.specs.Plan.{Plan}
-use Rattle.rules.specs.Frames.{isBusTask, isSending}
+use Rattle.rules.specs.Frames.{busTasks, isBusTask, isSending}
 use Rattle.bus.specs.Senders.{byNumber, taskHome, sendingBy}
-use lib.ListN.{length}
-use Rattle.rules.specs.Frames.{busTasks}
 use Rattle.bus.proofs.Marks.{sending-none, sending-turn}
+use borrow.Author.Needs.{needs}
 use Rattle.bus.proofs.senders.sending_modules.Statement.{statement}
 use Rattle.bus.proofs.senders.sending_modules.Tie as tie
 
 abbrev Inv-loop : tie.InvT-loop
-Inv-loop tasks n homes modules₀ t₀ modules t = (t ≤ n) × ((q : Plan) → tasks ≡ byNumber (isBusTask q) → homes ≡ byNumber (taskHome q) → modules ≡ byNumber (sendingBy q t))
+Inv-loop homes tasks n modules₀ t₀ modules t = (t ≤ n) × ((q : Plan) → tasks ≡ byNumber (isBusTask q) → homes ≡ byNumber (taskHome q) → modules ≡ byNumber (sendingBy q t))
 
 abbrev μ-loop : tie.MeasureT-loop
-μ-loop tasks n homes modules₀ t₀ modules t = n - t
+μ-loop homes tasks n modules₀ t₀ modules t = n - t
 
 task-count-requires : tie.Need-task-count-requires Inv-loop μ-loop
 task-count-requires c κs = search needs
 
-task-homes-requires : tie.Need-task-homes-requires Inv-loop μ-loop
-task-homes-requires c κs = search needs
-
 loop-holds : tie.Need-loop-holds Inv-loop μ-loop
 loop-holds c = (search needs, λ q e f. sending-none q)
 
-array-read-place : tie.Need-array-read-place Inv-loop μ-loop
-array-read-place c = search needs
+element-copy-out-place : tie.Need-element-copy-out-place Inv-loop μ-loop
+element-copy-out-place c = search needs
 
 place-requires : tie.Need-place-requires Inv-loop μ-loop
 place-requires c κs = search needs
@@ -36,8 +32,8 @@ place-requires c κs = search needs
 array-read-either : tie.Need-array-read-either Inv-loop μ-loop
 array-read-either c = search needs
 
-array-read-either-2 : tie.Need-array-read-either-2 Inv-loop μ-loop
-array-read-either-2 c = search needs
+element-copy-out-either : tie.Need-element-copy-out-either Inv-loop μ-loop
+element-copy-out-either c = search needs
 
 either-requires : tie.Need-either-requires Inv-loop μ-loop
 either-requires c κs = search needs
@@ -54,17 +50,15 @@ loop-less c = search needs
 loop-again : tie.Need-loop-again Inv-loop μ-loop
 loop-again c = (
   search needs,
-  λ q e f.
-      sending-turn q (c .before .before .before .loop .t) (c .before .before .before .loop .inv .1 q e f) e f (omega arith) (omega arith)
-      (c .before .place .ensures .0) (c .either .ensures),
+  λ q e f. sending-turn q (c .before .before .before .before .before .loop .t) (c .before .before .before .before .before .loop .inv .1 q e f) e f (omega arith) (omega arith) (c .before .before .place .ensures .0) (c .either .ensures),
 )
 
 returns : tie.Need-returns Inv-loop μ-loop
 unfolding isSending sendingBy busTasks
 returns c =
-    let q = seen (c .before .before .before .before .args .p) in
+    let q = seen (c .before .before .before .args .p) in
     let e : c .before .loop .t ≡ length (q .tasks) = omega arith in
-    rw e at (c .before .loop .inv .1 q (c .before .before .before .before .pre) (c .before .before .task-homes .ensures))
+    rw e at (c .before .loop .inv .1 q (c .before .before .before .pre .1) (c .before .before .before .pre .0))
 
 pub sending-modules-spec : {M : Type 1} → statement M
 sending-modules-spec =
@@ -73,12 +67,11 @@ sending-modules-spec =
     Inv-loop
     μ-loop
     task-count-requires
-    task-homes-requires
     loop-holds
-    array-read-place
+    element-copy-out-place
     place-requires
     array-read-either
-    array-read-either-2
+    element-copy-out-either
     either-requires
     array-write-modules
     add-t

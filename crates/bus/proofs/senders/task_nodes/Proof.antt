@@ -1,8 +1,7 @@
-use borrow.Author.Needs.{needs}
 use mathlib.Core.Path.{_≡_, refl, _∙_}
 use native.Mathlib.Omega.{arith}
 use Prim.Native.Nat.{_≤_, _-_}
-use lib.ListN.{replicate}
+use lib.ListN.{length, getD, replicate}
 use Rattle.laws.specs.Loops.{stores}
 use Rattle.laws.proofs.Loops.{stores-turn}
 use Rattle.plan.specs.Memory.{seen}
@@ -10,33 +9,34 @@ use Rattle.rules.specs.Plan.{Plan}
 use Rattle.rules.specs.Frames.{moduleNode, taskNode}
 use Rattle.bus.specs.Senders.{byNumber, taskHome}
 use Rattle.bus.proofs.Tables.{filled}
-use Rattle.bus.proofs.Marks.{node-there}
+use Rattle.bus.proofs.Marks.{node-there, node-behind}
+use borrow.Author.Needs.{needs}
 use Rattle.bus.proofs.senders.task_nodes.Statement.{statement}
 use Rattle.bus.proofs.senders.task_nodes.Tie as tie
 
 abbrev Inv-loop : tie.InvT-loop
-Inv-loop nodes homes found₀ t₀ found t = (t ≤ 256) × ((q : Plan) → nodes ≡ byNumber (moduleNode q) → homes ≡ byNumber (taskHome q) → found ≡ stores (replicate 256 0) (taskNode q) t)
+Inv-loop nodes homes n found₀ t₀ found t = (t ≤ n) × ((q : Plan) → nodes ≡ byNumber (moduleNode q) → homes ≡ byNumber (taskHome q) → found ≡ stores (replicate 256 (getD nodes 0 0)) (taskNode q) t)
 
 abbrev μ-loop : tie.MeasureT-loop
-μ-loop nodes homes found₀ t₀ found t = 256 - t
+μ-loop nodes homes n found₀ t₀ found t = n - t
 
-module-nodes-requires : tie.Need-module-nodes-requires Inv-loop μ-loop
-module-nodes-requires c κs = search needs
+task-count-requires : tie.Need-task-count-requires Inv-loop μ-loop
+task-count-requires c κs = search needs
 
-task-homes-requires : tie.Need-task-homes-requires Inv-loop μ-loop
-task-homes-requires c κs = search needs
+element-copy-out-found : tie.Need-element-copy-out-found Inv-loop μ-loop
+element-copy-out-found c = search needs
 
 loop-holds : tie.Need-loop-holds Inv-loop μ-loop
 loop-holds c = (search needs, λ q e f. refl)
 
-array-read-place : tie.Need-array-read-place Inv-loop μ-loop
-array-read-place c = search needs
+element-copy-out-place : tie.Need-element-copy-out-place Inv-loop μ-loop
+element-copy-out-place c = search needs
 
 place-requires : tie.Need-place-requires Inv-loop μ-loop
 place-requires c κs = search needs
 
-array-read-found : tie.Need-array-read-found Inv-loop μ-loop
-array-read-found c = search needs
+element-copy-out-found-2 : tie.Need-element-copy-out-found-2 Inv-loop μ-loop
+element-copy-out-found-2 c = search needs
 
 array-write-found : tie.Need-array-write-found Inv-loop μ-loop
 array-write-found c = search needs
@@ -50,17 +50,15 @@ loop-less c = search needs
 loop-again : tie.Need-loop-again Inv-loop μ-loop
 loop-again c = (
   search needs,
-  λ q e f.
-      stores-turn _ _ _ (c .before .before .loop .inv .1 q e f)
-      (node-there q (c .before .before .loop .t) e f (omega arith) (omega arith) (c .place .ensures .0)),
+  λ q e f. stores-turn _ _ _ (c .before .before .before .before .loop .inv .1 q e f) (node-there q (c .before .before .before .before .loop .t) e f (omega arith) (omega arith) (c .before .place .ensures .0)),
 )
 
 returns : tie.Need-returns Inv-loop μ-loop
 returns c =
     let q = seen (c .before .before .before .before .args .p) in
-    let e : c .before .loop .t ≡ 256 = omega arith in
-    c .before .loop .inv .1 q (c .before .before .before .module-nodes .ensures) (c .before .before .task-homes .ensures)
-    ∙ rw e (filled (taskNode q) 0 256 (omega arith) (λ k h v. absurd (omega arith)))
+    let e : c .before .loop .t ≡ length (q .tasks) = omega arith in
+    c .before .loop .inv .1 q (c .before .before .before .before .pre .0) (c .before .before .before .before .pre .1)
+    ∙ rw e (filled (taskNode q) _ (length (q .tasks)) (omega arith) (λ k h v. node-behind q k (c .before .before .before .before .pre .0) h))
 
 pub task-nodes-spec : {M : Type 1} → statement M
 task-nodes-spec =
@@ -68,12 +66,12 @@ task-nodes-spec =
     (tie.spec
     Inv-loop
     μ-loop
-    module-nodes-requires
-    task-homes-requires
+    task-count-requires
+    element-copy-out-found
     loop-holds
-    array-read-place
+    element-copy-out-place
     place-requires
-    array-read-found
+    element-copy-out-found-2
     array-write-found
     add-t
     loop-less

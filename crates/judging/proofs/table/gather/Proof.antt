@@ -9,7 +9,7 @@ use Rattle.rules.specs.Records.{records, tableFollows}
 use Rattle.records.specs.declared.Sort.the-variants.{Table}
 use Rattle.records.proofs.Steps.{from}
 use Rattle.judging.specs.Memory.{emptyTable, tableFrom, gatheredFrom, reported}
-use Rattle.judging.proofs.Gathering.{facts, row-fits, control-fits, header-fits, row-turn, control-turn, header-turn, end-turn, wrong-turn}
+use Rattle.judging.proofs.Gathering.{facts, row-next, row-fits, control-fits, header-fits, row-turn, control-turn, header-turn, end-turn, wrong-turn}
 use borrow.Author.Needs.{needs}
 use Rattle.judging.proofs.table.gather.Statement.{statement}
 use Rattle.judging.proofs.table.gather.Tie as tie
@@ -39,6 +39,9 @@ data-row-requires c κs = row-fits (now (c .before .before .before .before .befo
 add-rows : tie.Need-add-rows Inv-loop μ-loop
 add-rows c = let f = facts (now (c .before .before .before .before .before .before .before .before .before .before .before .before .before .args .s)) _ (c .before .before .before .before .before .before .before .before .before .before .loop .previous) (c .before .before .before .before .before .before .before .before .before .before .loop .at) (c .before .before .before .before .before .before .before .before .before .before .loop .inv .0) (c .before .before .before .before .before .before .before .before .before .before .loop .head) (c .before .before .before .before .before .before .before .before .before .before .loop .control) (c .before .before .before .before .before .before .before .before .before .before .loop .rows) (c .before .before .before .before .before .before .before .before .before .before .loop .nodes) (c .before .before .before .before .before .before .before .before .before .before .loop .begins) (c .before .before .before .before .before .before .before .before .before .before .loop .ends) (c .before .before .before .before .before .before .before .before .before .before .loop .tasks) (c .before .before .before .before .before .before .before .before .before .before .loop .deadlines) (c .before .before .before .before .before .before .before .before .before .before .loop .starts) (c .before .before .before .before .before .before .before .before .before .before .loop .stops) (c .before .before .before .before .before .before .before .before .before .before .loop .inv .2) (c .before .before .before .before .before .before .before .before .before .next .ensures) (c .before .before .before .before .before .before .before .kind .given .1) in omega (arith, f .further, f .fits, c .before .before .before .before .before .before .before .before .before .before .before .before .before .good)
 
+add-at : tie.Need-add-at Inv-loop μ-loop
+add-at c = omega (arith, row-fits (now (c .before .before .before .before .before .before .before .before .before .before .before .before .before .args .s)) _ (c .before .before .before .before .before .before .before .before .before .before .loop .previous) (c .before .before .before .before .before .before .before .before .before .before .loop .at) (c .before .before .before .before .before .before .before .before .before .before .loop .inv .0) (c .before .before .before .before .before .before .before .before .before .before .loop .head) (c .before .before .before .before .before .before .before .before .before .before .loop .control) (c .before .before .before .before .before .before .before .before .before .before .loop .rows) (c .before .before .before .before .before .before .before .before .before .before .loop .nodes) (c .before .before .before .before .before .before .before .before .before .before .loop .begins) (c .before .before .before .before .before .before .before .before .before .before .loop .ends) (c .before .before .before .before .before .before .before .before .before .before .loop .tasks) (c .before .before .before .before .before .before .before .before .before .before .loop .deadlines) (c .before .before .before .before .before .before .before .before .before .before .loop .starts) (c .before .before .before .before .before .before .before .before .before .before .loop .stops) (c .before .before .before .before .before .before .before .before .before .before .loop .inv .2) (c .before .before .before .before .before .before .before .before .before .next .ensures) (c .before .before .before .before .before .before .before .kind .given .1) (c .before .before .before .before .before .if1 .taken), c .before .before .before .before .before .before .before .before .before .before .before .before .before .good)
+
 control-row-requires : tie.Need-control-row-requires Inv-loop μ-loop
 control-row-requires c κs = control-fits (now (c .before .before .before .before .before .before .before .before .before .before .before .before .args .s)) _ (c .before .before .before .before .before .before .before .before .before .loop .previous) (c .before .before .before .before .before .before .before .before .before .loop .at) (c .before .before .before .before .before .before .before .before .before .loop .inv .0) (c .before .before .before .before .before .before .before .before .before .loop .head) (c .before .before .before .before .before .before .before .before .before .loop .control) (c .before .before .before .before .before .before .before .before .before .loop .rows) (c .before .before .before .before .before .before .before .before .before .loop .nodes) (c .before .before .before .before .before .before .before .before .before .loop .begins) (c .before .before .before .before .before .before .before .before .before .loop .ends) (c .before .before .before .before .before .before .before .before .before .loop .tasks) (c .before .before .before .before .before .before .before .before .before .loop .deadlines) (c .before .before .before .before .before .before .before .before .before .loop .starts) (c .before .before .before .before .before .before .before .before .before .loop .stops) (c .before .before .before .before .before .before .before .before .before .loop .inv .2) (c .before .before .before .before .before .before .before .before .next .ensures) (c .before .before .before .before .before .before .kind .given .1) (c .before .before .before .if2 .taken)
 
@@ -49,10 +52,10 @@ first-record-requires : tie.Need-first-record-requires Inv-loop μ-loop
 first-record-requires c κs = header-fits (now (c .before .before .before .before .before .before .before .before .before .args .s)) _ (c .before .before .before .before .before .before .loop .previous) (c .before .before .before .before .before .before .loop .at) (c .before .before .before .before .before .before .loop .inv .0) (c .before .before .before .before .before .before .loop .head) (c .before .before .before .before .before .before .loop .control) (c .before .before .before .before .before .before .loop .rows) (c .before .before .before .before .before .before .loop .nodes) (c .before .before .before .before .before .before .loop .begins) (c .before .before .before .before .before .before .loop .ends) (c .before .before .before .before .before .before .loop .tasks) (c .before .before .before .before .before .before .loop .deadlines) (c .before .before .before .before .before .before .loop .starts) (c .before .before .before .before .before .before .loop .stops) (c .before .before .before .before .before .before .loop .inv .2) (c .before .before .before .before .before .next .ensures) (c .before .before .before .kind .given .1) (c .before .if1 .left) (c .if2 .left)
 
 loop-less : tie.Need-loop-less Inv-loop μ-loop
-loop-less c = let f = facts (now (c .before .before .before .before .before .before .before .before .before .before .before .before .before .args .s)) _ (c .before .before .before .before .before .before .before .before .before .before .loop .previous) (c .before .before .before .before .before .before .before .before .before .before .loop .at) (c .before .before .before .before .before .before .before .before .before .before .loop .inv .0) (c .before .before .before .before .before .before .before .before .before .before .loop .head) (c .before .before .before .before .before .before .before .before .before .before .loop .control) (c .before .before .before .before .before .before .before .before .before .before .loop .rows) (c .before .before .before .before .before .before .before .before .before .before .loop .nodes) (c .before .before .before .before .before .before .before .before .before .before .loop .begins) (c .before .before .before .before .before .before .before .before .before .before .loop .ends) (c .before .before .before .before .before .before .before .before .before .before .loop .tasks) (c .before .before .before .before .before .before .before .before .before .before .loop .deadlines) (c .before .before .before .before .before .before .before .before .before .before .loop .starts) (c .before .before .before .before .before .before .before .before .before .before .loop .stops) (c .before .before .before .before .before .before .before .before .before .before .loop .inv .2) (c .before .before .before .before .before .before .before .before .before .next .ensures) (c .before .before .before .before .before .before .before .kind .given .1) in omega (arith, f .further, f .fits)
+loop-less c = let f = facts (now (c .before .before .before .before .before .before .before .before .before .before .before .before .before .args .s)) _ (c .before .before .before .before .before .before .before .before .before .before .loop .previous) (c .before .before .before .before .before .before .before .before .before .before .loop .at) (c .before .before .before .before .before .before .before .before .before .before .loop .inv .0) (c .before .before .before .before .before .before .before .before .before .before .loop .head) (c .before .before .before .before .before .before .before .before .before .before .loop .control) (c .before .before .before .before .before .before .before .before .before .before .loop .rows) (c .before .before .before .before .before .before .before .before .before .before .loop .nodes) (c .before .before .before .before .before .before .before .before .before .before .loop .begins) (c .before .before .before .before .before .before .before .before .before .before .loop .ends) (c .before .before .before .before .before .before .before .before .before .before .loop .tasks) (c .before .before .before .before .before .before .before .before .before .before .loop .deadlines) (c .before .before .before .before .before .before .before .before .before .before .loop .starts) (c .before .before .before .before .before .before .before .before .before .before .loop .stops) (c .before .before .before .before .before .before .before .before .before .before .loop .inv .2) (c .before .before .before .before .before .before .before .before .before .next .ensures) (c .before .before .before .before .before .before .before .kind .given .1) in let n = row-next (now (c .before .before .before .before .before .before .before .before .before .before .before .before .before .args .s)) _ (c .before .before .before .before .before .before .before .before .before .before .loop .previous) (c .before .before .before .before .before .before .before .before .before .before .loop .at) (c .before .before .before .before .before .before .before .before .before .before .loop .inv .0) (c .before .before .before .before .before .before .before .before .before .before .loop .head) (c .before .before .before .before .before .before .before .before .before .before .loop .control) (c .before .before .before .before .before .before .before .before .before .before .loop .rows) (c .before .before .before .before .before .before .before .before .before .before .loop .nodes) (c .before .before .before .before .before .before .before .before .before .before .loop .begins) (c .before .before .before .before .before .before .before .before .before .before .loop .ends) (c .before .before .before .before .before .before .before .before .before .before .loop .tasks) (c .before .before .before .before .before .before .before .before .before .before .loop .deadlines) (c .before .before .before .before .before .before .before .before .before .before .loop .starts) (c .before .before .before .before .before .before .before .before .before .before .loop .stops) (c .before .before .before .before .before .before .before .before .before .before .loop .inv .2) (c .before .before .before .before .before .before .before .before .before .next .ensures) (c .before .before .before .before .before .before .before .kind .given .1) (c .before .before .before .before .before .if1 .taken) in omega (arith, f .further, n, f .fits)
 
 loop-again : tie.Need-loop-again Inv-loop μ-loop
-loop-again c = let f = facts (now (c .before .before .before .before .before .before .before .before .before .before .before .before .before .args .s)) _ (c .before .before .before .before .before .before .before .before .before .before .loop .previous) (c .before .before .before .before .before .before .before .before .before .before .loop .at) (c .before .before .before .before .before .before .before .before .before .before .loop .inv .0) (c .before .before .before .before .before .before .before .before .before .before .loop .head) (c .before .before .before .before .before .before .before .before .before .before .loop .control) (c .before .before .before .before .before .before .before .before .before .before .loop .rows) (c .before .before .before .before .before .before .before .before .before .before .loop .nodes) (c .before .before .before .before .before .before .before .before .before .before .loop .begins) (c .before .before .before .before .before .before .before .before .before .before .loop .ends) (c .before .before .before .before .before .before .before .before .before .before .loop .tasks) (c .before .before .before .before .before .before .before .before .before .before .loop .deadlines) (c .before .before .before .before .before .before .before .before .before .before .loop .starts) (c .before .before .before .before .before .before .before .before .before .before .loop .stops) (c .before .before .before .before .before .before .before .before .before .before .loop .inv .2) (c .before .before .before .before .before .before .before .before .before .next .ensures) (c .before .before .before .before .before .before .before .kind .given .1) in (f .fits, omega (arith, f .further, c .before .before .before .before .before .before .before .before .before .before .loop .inv .1), row-turn (now (c .before .before .before .before .before .before .before .before .before .before .before .before .before .args .s)) _ (c .before .before .before .before .before .before .before .before .before .before .loop .previous) (c .before .before .before .before .before .before .before .before .before .before .loop .at) (c .before .before .before .before .before .before .before .before .before .before .loop .inv .0) (c .before .before .before .before .before .before .before .before .before .before .loop .head) (c .before .before .before .before .before .before .before .before .before .before .loop .control) (c .before .before .before .before .before .before .before .before .before .before .loop .rows) (c .before .before .before .before .before .before .before .before .before .before .loop .nodes) (c .before .before .before .before .before .before .before .before .before .before .loop .begins) (c .before .before .before .before .before .before .before .before .before .before .loop .ends) (c .before .before .before .before .before .before .before .before .before .before .loop .tasks) (c .before .before .before .before .before .before .before .before .before .before .loop .deadlines) (c .before .before .before .before .before .before .before .before .before .before .loop .starts) (c .before .before .before .before .before .before .before .before .before .before .loop .stops) (c .before .before .before .before .before .before .before .before .before .before .loop .inv .2) (c .before .before .before .before .before .before .before .before .before .next .ensures) (c .before .before .before .before .before .before .before .kind .given .1) (c .before .before .before .before .before .if1 .taken) (c .data-row .ensures .0) (c .data-row .ensures .1 .0) (c .data-row .ensures .1 .1 .0) (c .data-row .ensures .1 .1 .1))
+loop-again c = let f = facts (now (c .before .before .before .before .before .before .before .before .before .before .before .before .before .args .s)) _ (c .before .before .before .before .before .before .before .before .before .before .loop .previous) (c .before .before .before .before .before .before .before .before .before .before .loop .at) (c .before .before .before .before .before .before .before .before .before .before .loop .inv .0) (c .before .before .before .before .before .before .before .before .before .before .loop .head) (c .before .before .before .before .before .before .before .before .before .before .loop .control) (c .before .before .before .before .before .before .before .before .before .before .loop .rows) (c .before .before .before .before .before .before .before .before .before .before .loop .nodes) (c .before .before .before .before .before .before .before .before .before .before .loop .begins) (c .before .before .before .before .before .before .before .before .before .before .loop .ends) (c .before .before .before .before .before .before .before .before .before .before .loop .tasks) (c .before .before .before .before .before .before .before .before .before .before .loop .deadlines) (c .before .before .before .before .before .before .before .before .before .before .loop .starts) (c .before .before .before .before .before .before .before .before .before .before .loop .stops) (c .before .before .before .before .before .before .before .before .before .before .loop .inv .2) (c .before .before .before .before .before .before .before .before .before .next .ensures) (c .before .before .before .before .before .before .before .kind .given .1) in let n = row-next (now (c .before .before .before .before .before .before .before .before .before .before .before .before .before .args .s)) _ (c .before .before .before .before .before .before .before .before .before .before .loop .previous) (c .before .before .before .before .before .before .before .before .before .before .loop .at) (c .before .before .before .before .before .before .before .before .before .before .loop .inv .0) (c .before .before .before .before .before .before .before .before .before .before .loop .head) (c .before .before .before .before .before .before .before .before .before .before .loop .control) (c .before .before .before .before .before .before .before .before .before .before .loop .rows) (c .before .before .before .before .before .before .before .before .before .before .loop .nodes) (c .before .before .before .before .before .before .before .before .before .before .loop .begins) (c .before .before .before .before .before .before .before .before .before .before .loop .ends) (c .before .before .before .before .before .before .before .before .before .before .loop .tasks) (c .before .before .before .before .before .before .before .before .before .before .loop .deadlines) (c .before .before .before .before .before .before .before .before .before .before .loop .starts) (c .before .before .before .before .before .before .before .before .before .before .loop .stops) (c .before .before .before .before .before .before .before .before .before .before .loop .inv .2) (c .before .before .before .before .before .before .before .before .before .next .ensures) (c .before .before .before .before .before .before .before .kind .given .1) (c .before .before .before .before .before .if1 .taken) in (omega (arith, f .fits, n), omega (arith, f .further, n, c .before .before .before .before .before .before .before .before .before .before .loop .inv .1), row-turn (now (c .before .before .before .before .before .before .before .before .before .before .before .before .before .args .s)) _ (c .before .before .before .before .before .before .before .before .before .before .loop .previous) (c .before .before .before .before .before .before .before .before .before .before .loop .at) (c .before .before .before .before .before .before .before .before .before .before .loop .inv .0) (c .before .before .before .before .before .before .before .before .before .before .loop .head) (c .before .before .before .before .before .before .before .before .before .before .loop .control) (c .before .before .before .before .before .before .before .before .before .before .loop .rows) (c .before .before .before .before .before .before .before .before .before .before .loop .nodes) (c .before .before .before .before .before .before .before .before .before .before .loop .begins) (c .before .before .before .before .before .before .before .before .before .before .loop .ends) (c .before .before .before .before .before .before .before .before .before .before .loop .tasks) (c .before .before .before .before .before .before .before .before .before .before .loop .deadlines) (c .before .before .before .before .before .before .before .before .before .before .loop .starts) (c .before .before .before .before .before .before .before .before .before .before .loop .stops) (c .before .before .before .before .before .before .before .before .before .before .loop .inv .2) (c .before .before .before .before .before .before .before .before .before .next .ensures) (c .before .before .before .before .before .before .before .kind .given .1) (c .before .before .before .before .before .if1 .taken) (c .data-row .ensures .0) (c .data-row .ensures .1 .0) (c .data-row .ensures .1 .1 .0) (c .data-row .ensures .1 .1 .1))
 
 loop-less-2 : tie.Need-loop-less-2 Inv-loop μ-loop
 loop-less-2 c = let f = facts (now (c .before .before .before .before .before .before .before .before .before .before .before .before .before .args .s)) _ (c .before .before .before .before .before .before .before .before .before .before .loop .previous) (c .before .before .before .before .before .before .before .before .before .before .loop .at) (c .before .before .before .before .before .before .before .before .before .before .loop .inv .0) (c .before .before .before .before .before .before .before .before .before .before .loop .head) (c .before .before .before .before .before .before .before .before .before .before .loop .control) (c .before .before .before .before .before .before .before .before .before .before .loop .rows) (c .before .before .before .before .before .before .before .before .before .before .loop .nodes) (c .before .before .before .before .before .before .before .before .before .before .loop .begins) (c .before .before .before .before .before .before .before .before .before .before .loop .ends) (c .before .before .before .before .before .before .before .before .before .before .loop .tasks) (c .before .before .before .before .before .before .before .before .before .before .loop .deadlines) (c .before .before .before .before .before .before .before .before .before .before .loop .starts) (c .before .before .before .before .before .before .before .before .before .before .loop .stops) (c .before .before .before .before .before .before .before .before .before .before .loop .inv .2) (c .before .before .before .before .before .before .before .before .before .next .ensures) (c .before .before .before .before .before .before .before .kind .given .1) in omega (arith, f .further, f .fits)
@@ -81,4 +84,4 @@ unfolding reported
 returns-2 c = sym (wrong-turn (now (c .before .before .before .before .before .before .before .args .s)) _ (c .before .before .before .before .loop .previous) (c .before .before .before .before .loop .at) (c .before .before .before .before .loop .inv .0) (c .before .before .before .before .loop .head) (c .before .before .before .before .loop .control) (c .before .before .before .before .loop .rows) (c .before .before .before .before .loop .nodes) (c .before .before .before .before .loop .begins) (c .before .before .before .before .loop .ends) (c .before .before .before .before .loop .tasks) (c .before .before .before .before .loop .deadlines) (c .before .before .before .before .loop .starts) (c .before .before .before .before .loop .stops) (c .before .before .before .before .loop .inv .2) (c .before .before .before .next .ensures) (c .before .place .given .1))
 
 pub gather-spec : {M : Type 1} → statement M
-gather-spec = tie.close (tie.spec Inv-loop μ-loop empty-requires loop-holds next-requires enum-known-kind data-row-requires add-rows control-row-requires add-control first-record-requires loop-less loop-again loop-less-2 loop-again-2 loop-less-3 loop-again-3 enum-told returns enum-known-place returns-2)
+gather-spec = tie.close (tie.spec Inv-loop μ-loop empty-requires loop-holds next-requires enum-known-kind data-row-requires add-rows add-at control-row-requires add-control first-record-requires loop-less loop-again loop-less-2 loop-again-2 loop-less-3 loop-again-3 enum-told returns enum-known-place returns-2)

@@ -12,23 +12,23 @@ connection-count-requires c κs = search needs
 mul-result : tie.Need-mul-result
 mul-result c = search needs
 
-element-copy-out-result : tie.Need-element-copy-out-result
-element-copy-out-result c = search needs
+array-copy-out-result : tie.Need-array-copy-out-result
+array-copy-out-result c = search needs
 
 returns : tie.Need-returns
 unfolding connectionLaid connectionSeen seen countSeen noConnection
 returns c =
-    let p = c .before .before .before .args .t1 in
-    let k = c .before .before .before .args .k in
+    let p = c .before .before .before .before .args .p in
+    let k = c .before .before .before .before .args .k in
     ap connectionLaid (sym (part-at connectionSeen (countSeen p 7) (p .connections) k (connectionLaid noConnection) (omega arith)))
 
 returns-2 : tie.Need-returns-2
 unfolding connectionLaid connectionSeen seen countSeen noConnection
 returns-2 c =
-    let p = c .before .before .args .t1 in
-    let k = c .before .before .args .k in
+    let p = c .before .before .before .args .p in
+    let k = c .before .before .before .args .k in
     ap connectionLaid (sym (part-behind connectionSeen (countSeen p 7) (p .connections) k noConnection (omega arith)))
 
 pub connection-at-spec : {M : Type 1} → statement M
 connection-at-spec =
-    tie.close (tie.spec connection-count-requires mul-result element-copy-out-result returns returns-2)
+    tie.close (tie.spec connection-count-requires mul-result array-copy-out-result returns returns-2)

@@ -13,23 +13,23 @@ invocation-count-requires c κs = search needs
 mul-result : tie.Need-mul-result
 mul-result c = search needs
 
-element-copy-out-result : tie.Need-element-copy-out-result
-element-copy-out-result c = search needs
+array-copy-out-result : tie.Need-array-copy-out-result
+array-copy-out-result c = search needs
 
 returns : tie.Need-returns
 unfolding invocationLaid invocationSeen seen countSeen rules.theInvocation
 returns c =
-    let p = c .before .before .before .args .t1 in
-    let k = c .before .before .before .args .k in
+    let p = c .before .before .before .before .args .p in
+    let k = c .before .before .before .before .args .k in
     ap invocationLaid (sym (part-at invocationSeen (countSeen p 6) (p .invocations) k (invocationLaid rules.noInvocation) (omega arith)))
 
 returns-2 : tie.Need-returns-2
 unfolding invocationLaid invocationSeen seen countSeen rules.theInvocation
 returns-2 c =
-    let p = c .before .before .args .t1 in
-    let k = c .before .before .args .k in
+    let p = c .before .before .before .args .p in
+    let k = c .before .before .before .args .k in
     ap invocationLaid (sym (part-behind invocationSeen (countSeen p 6) (p .invocations) k rules.noInvocation (omega arith)))
 
 pub invocation-at-spec : {M : Type 1} → statement M
 invocation-at-spec =
-    tie.close (tie.spec invocation-count-requires mul-result element-copy-out-result returns returns-2)
+    tie.close (tie.spec invocation-count-requires mul-result array-copy-out-result returns returns-2)

@@ -9,23 +9,23 @@ use Rattle.plan.proofs.look.module_at.Tie as tie
 module-count-requires : tie.Need-module-count-requires
 module-count-requires c κs = search needs
 
-element-copy-out-result : tie.Need-element-copy-out-result
-element-copy-out-result c = search needs
+array-copy-out-result : tie.Need-array-copy-out-result
+array-copy-out-result c = search needs
 
 returns : tie.Need-returns
 unfolding moduleLaid moduleSeen seen countSeen
 returns c =
-    let p = c .before .before .before .args .t1 in
-    let k = c .before .before .before .args .k in
+    let p = c .before .before .before .before .args .p in
+    let k = c .before .before .before .before .args .k in
     ap moduleLaid (sym (part-at moduleSeen (countSeen p 3) (p .modules) k (moduleLaid 0) (omega arith)))
 
 returns-2 : tie.Need-returns-2
 unfolding moduleLaid moduleSeen seen countSeen
 returns-2 c =
-    let p = c .before .before .args .t1 in
-    let k = c .before .before .args .k in
+    let p = c .before .before .before .args .p in
+    let k = c .before .before .before .args .k in
     ap moduleLaid (sym (part-behind moduleSeen (countSeen p 3) (p .modules) k 0 (omega arith)))
 
 pub module-at-spec : {M : Type 1} → statement M
 module-at-spec =
-    tie.close (tie.spec module-count-requires element-copy-out-result returns returns-2)
+    tie.close (tie.spec module-count-requires array-copy-out-result returns returns-2)

@@ -13,23 +13,23 @@ task-count-requires c κs = search needs
 mul-result : tie.Need-mul-result
 mul-result c = search needs
 
-element-copy-out-result : tie.Need-element-copy-out-result
-element-copy-out-result c = search needs
+array-copy-out-result : tie.Need-array-copy-out-result
+array-copy-out-result c = search needs
 
 returns : tie.Need-returns
 unfolding taskLaid taskSeen seen countSeen rules.theTask
 returns c =
-    let p = c .before .before .before .args .t1 in
-    let k = c .before .before .before .args .k in
+    let p = c .before .before .before .before .args .p in
+    let k = c .before .before .before .before .args .k in
     ap taskLaid (sym (part-at taskSeen (countSeen p 5) (p .tasks) k (taskLaid rules.noTask) (omega arith)))
 
 returns-2 : tie.Need-returns-2
 unfolding taskLaid taskSeen seen countSeen rules.theTask
 returns-2 c =
-    let p = c .before .before .args .t1 in
-    let k = c .before .before .args .k in
+    let p = c .before .before .before .args .p in
+    let k = c .before .before .before .args .k in
     ap taskLaid (sym (part-behind taskSeen (countSeen p 5) (p .tasks) k rules.noTask (omega arith)))
 
 pub task-at-spec : {M : Type 1} → statement M
 task-at-spec =
-    tie.close (tie.spec task-count-requires mul-result element-copy-out-result returns returns-2)
+    tie.close (tie.spec task-count-requires mul-result array-copy-out-result returns returns-2)

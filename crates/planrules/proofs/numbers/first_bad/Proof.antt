@@ -1,23 +1,23 @@
 use borrow.Author.Needs.{needs}
-use borrow.Author.Tests.{not-true, not-false}
 use mathlib.Core.Path.{sym, _∙_}
 use native.Mathlib.Omega.{arith}
 use lib.ListN.{length}
 use Prim.Native.Nat.{_-_}
-use Rattle.records.proofs.Steps.{found}
-use Rattle.planrules.specs.Tests.{ruleOf}
-use Rattle.planrules.proofs.RecordScan.{Scanned, scanned-none, scanned-more, scanned-met, scanned-end, scanned-wrong}
+use Rattle.rules.specs.Plan.{namesAreThere, numbersAreWithin}
+use Rattle.planrules.specs.Tests.{listed}
+use Rattle.planrules.proofs.RecordScan.{Scanned, scanned-none, scanned-more, scanned-end, scanned-wrong, scanned-number, scanned-less}
 use Rattle.planrules.proofs.numbers.first_bad.Statement.{statement}
 use Rattle.planrules.proofs.numbers.first_bad.Tie as tie
 
 abbrev Inv-loop : tie.InvT-loop
-Inv-loop s rule counts previous₀ at₀ n₀ previous at n = Scanned s (ruleOf rule counts) previous at n
+Inv-loop s counts previous₀ at₀ n₀ named₀ ranged₀ previous at n named ranged =
+    Scanned s (namesAreThere (listed counts)) previous at n named × Scanned s numbersAreWithin previous at n ranged
 
 abbrev μ-loop : tie.MeasureT-loop
-μ-loop s rule counts previous₀ at₀ n₀ previous at n = length s - at
+μ-loop s counts previous₀ at₀ n₀ named₀ ranged₀ previous at n named ranged = length s - at
 
 loop-holds : tie.Need-loop-holds Inv-loop μ-loop
-loop-holds c = scanned-none _ _ (c .before .pre)
+loop-holds c = (scanned-none _ _ (c .before .pre), scanned-none _ _ (c .before .pre))
 
 next-requires : tie.Need-next-requires Inv-loop μ-loop
 next-requires c κs = search needs
@@ -28,40 +28,42 @@ enum-known-kind c = search needs
 body-requires : tie.Need-body-requires Inv-loop μ-loop
 body-requires c κs = search needs
 
-keeps-requires : tie.Need-keeps-requires Inv-loop μ-loop
-keeps-requires c κs = search needs
+names-are-there-requires : tie.Need-names-are-there-requires Inv-loop μ-loop
+names-are-there-requires c κs = search needs
 
-returns : tie.Need-returns Inv-loop μ-loop
-returns c =
-    scanned-met _ _ _ _ _ (c .before .before .before .before .before .before .before .loop .inv) _ _ _ (sym (c .before .before .before .before .before .before .next .ensures) ∙ c .before .before .before .before .kind .given .1)
-    (rw (← c .before .before .body .ensures) (sym (c .before .keeps .ensures) ∙ not-true _ (c .if1 .taken)))
+earlier-requires : tie.Need-earlier-requires Inv-loop μ-loop
+earlier-requires c κs = search needs
+
+numbers-are-within-requires : tie.Need-numbers-are-within-requires Inv-loop μ-loop
+numbers-are-within-requires c κs = search needs
+
+earlier-requires-2 : tie.Need-earlier-requires-2 Inv-loop μ-loop
+earlier-requires-2 c κs = search needs
 
 add-n : tie.Need-add-n Inv-loop μ-loop
-add-n c =
-    let f = found _ _ _ _ _ _ _ (sym (c .before .before .before .before .before .before .next .ensures) ∙ c .before .before .before .before .kind .given .1) in
-    omega (arith, f .further, f .fits, c .before .before .before .before .before .before .before .loop .inv .counted, c .before .before .before .before .before .before .before .before .before .good .0 .0)
+add-n c = omega (arith, scanned-number _ _ _ _ _ _ (c .before .before .before .before .before .before .before .before .before .loop .inv .0) _ _ _ (sym (c .before .before .before .before .before .before .before .before .next .ensures) ∙ c .before .before .before .before .before .before .kind .given .1), c .before .before .before .before .before .before .before .before .before .before .before .good .0 .0)
 
 loop-less : tie.Need-loop-less Inv-loop μ-loop
-loop-less c =
-    let f = found _ _ _ _ _ _ _ (sym (c .before .before .before .before .before .before .next .ensures) ∙ c .before .before .before .before .kind .given .1) in
-    omega (arith, f .further, f .fits)
+loop-less c = scanned-less _ _ _ _ _ _ (c .before .before .before .before .before .before .before .before .before .loop .inv .0) _ _ _ (sym (c .before .before .before .before .before .before .before .before .next .ensures) ∙ c .before .before .before .before .before .before .kind .given .1)
 
 loop-again : tie.Need-loop-again Inv-loop μ-loop
-loop-again c =
-    scanned-more _ _ _ _ _ (c .before .before .before .before .before .before .before .loop .inv) _ _ _ (sym (c .before .before .before .before .before .before .next .ensures) ∙ c .before .before .before .before .kind .given .1)
-    (rw (← c .before .before .body .ensures) (sym (c .before .keeps .ensures) ∙ not-false _ (c .if1 .left)))
+loop-again c = (
+  scanned-more _ _ _ _ _ _ (c .before .before .before .before .before .before .before .before .before .loop .inv .0) _ _ _ _ _ _ (sym (c .before .before .before .before .before .before .before .before .next .ensures) ∙ c .before .before .before .before .before .before .kind .given .1) (c .before .before .before .before .body .ensures) (c .before .before .before .names-are-there .ensures) (c .before .before .earlier .ensures),
+  scanned-more _ _ _ _ _ _ (c .before .before .before .before .before .before .before .before .before .loop .inv .1) _ _ _ _ _ _ (sym (c .before .before .before .before .before .before .before .before .next .ensures) ∙ c .before .before .before .before .before .before .kind .given .1) (c .before .before .before .before .body .ensures) (c .before .numbers-are-within .ensures) (c .earlier2 .ensures),
+)
 
 enum-told : tie.Need-enum-told Inv-loop μ-loop
 enum-told c = search needs
 
-returns-2 : tie.Need-returns-2 Inv-loop μ-loop
-returns-2 c = scanned-end _ _ _ _ _ (c .before .before .before .loop .inv) (sym (c .before .before .next .ensures) ∙ c .enum-told .given .1)
+returns : tie.Need-returns Inv-loop μ-loop
+returns c =
+    rw (scanned-end _ _ _ _ _ _ (c .before .before .before .loop .inv .0) (sym (c .before .before .next .ensures) ∙ c .enum-told .given .1), scanned-end _ _ _ _ _ _ (c .before .before .before .loop .inv .1) (sym (c .before .before .next .ensures) ∙ c .enum-told .given .1))
 
 enum-told-2 : tie.Need-enum-told-2 Inv-loop μ-loop
 enum-told-2 c = search needs
 
-returns-3 : tie.Need-returns-3 Inv-loop μ-loop
-returns-3 c = scanned-wrong _ _ _ _ _ (c .before .before .before .loop .inv) _ (sym (c .before .before .next .ensures) ∙ c .enum-told2 .given .1)
+returns-2 : tie.Need-returns-2 Inv-loop μ-loop
+returns-2 c = scanned-wrong _ _ _ _ _ _ (c .before .before .before .loop .inv .0) _ (sym (c .before .before .next .ensures) ∙ c .enum-told2 .given .1)
 
 pub first-bad-spec : {M : Type 1} → statement M
 first-bad-spec =
@@ -73,12 +75,14 @@ first-bad-spec =
     next-requires
     enum-known-kind
     body-requires
-    keeps-requires
-    returns
+    names-are-there-requires
+    earlier-requires
+    numbers-are-within-requires
+    earlier-requires-2
     add-n
     loop-less
     loop-again
     enum-told
-    returns-2
+    returns
     enum-told-2
-    returns-3)
+    returns-2)

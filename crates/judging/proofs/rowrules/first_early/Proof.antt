@@ -1,0 +1,59 @@
+-- `judging::rowrules::first_early` meets its contract: no row before starts too early.
+-- Assumes nothing.
+use mathlib.Core.Path.{_≡_, refl, sym}
+use mathlib.Core.Option.{none}
+use Prim.Native.Nat.{_-_, _≤_}
+use native.Mathlib.Omega.{arith}
+use borrow.Author.Tests.{lt-leb, le-leb}
+use denote.Ref.{now}
+use Rattle.laws.specs.Lists.{firstBad, upTo}
+use Rattle.laws.proofs.Loops.{firstBad-upTo-more}
+use Rattle.judging.specs.Rows.{releaseKept}
+use Rattle.judging.proofs.Places.{scan-hit, scan-end}
+use borrow.Author.Needs.{needs}
+use Rattle.judging.proofs.rowrules.first_early.Statement.{statement}
+use Rattle.judging.proofs.rowrules.first_early.Tie as tie
+
+abbrev Inv-loop : tie.InvT-loop
+Inv-loop starts releases numbers count k₀ k = (k ≤ count) × (firstBad (releaseKept starts releases numbers) (upTo k) ≡ none)
+
+abbrev μ-loop : tie.MeasureT-loop
+μ-loop starts releases numbers count k₀ k = count - k
+
+loop-holds : tie.Need-loop-holds Inv-loop μ-loop
+loop-holds c = (search needs, refl)
+
+mul-if1 : tie.Need-mul-if1 Inv-loop μ-loop
+mul-if1 c = search needs
+
+element-copy-out-if1 : tie.Need-element-copy-out-if1 Inv-loop μ-loop
+element-copy-out-if1 c = search needs
+
+mul-release-of : tie.Need-mul-release-of Inv-loop μ-loop
+mul-release-of c = search needs
+
+element-copy-out-release-of : tie.Need-element-copy-out-release-of Inv-loop μ-loop
+element-copy-out-release-of c = search needs
+
+release-of-requires : tie.Need-release-of-requires Inv-loop μ-loop
+release-of-requires c κs = search needs
+
+returns : tie.Need-returns Inv-loop μ-loop
+unfolding releaseKept
+returns c = scan-hit (releaseKept (now (c .before .before .before .before .before .before .args .starts)) (now (c .before .before .before .before .before .before .args .releases)) (now (c .before .before .before .before .before .before .args .numbers))) (c .before .before .before .before .before .loop .inv .1) (c .before .before .before .before .loop-test .taken) (rw (sym (c .before .release-of .ensures)) (lt-leb _ _ (c .if1 .taken)))
+
+add-k : tie.Need-add-k Inv-loop μ-loop
+add-k c = search needs
+
+loop-less : tie.Need-loop-less Inv-loop μ-loop
+loop-less c = search needs
+
+loop-again : tie.Need-loop-again Inv-loop μ-loop
+unfolding releaseKept
+loop-again c = (omega (arith, c .before .before .before .before .loop-test .taken), firstBad-upTo-more (releaseKept (now (c .before .before .before .before .before .before .args .starts)) (now (c .before .before .before .before .before .before .args .releases)) (now (c .before .before .before .before .before .before .args .numbers))) (c .before .before .before .before .before .loop .k) (c .before .before .before .before .before .loop .inv .1) (rw (sym (c .before .release-of .ensures)) (le-leb _ _ (c .if1 .left))))
+
+returns-2 : tie.Need-returns-2 Inv-loop μ-loop
+returns-2 c = scan-end (releaseKept (now (c .before .before .args .starts)) (now (c .before .before .args .releases)) (now (c .before .before .args .numbers))) (c .before .loop .inv .1) (c .loop-test .left) (c .before .loop .inv .0)
+
+pub first-early-spec : {M : Type 1} → statement M
+first-early-spec = tie.close (tie.spec Inv-loop μ-loop loop-holds mul-if1 element-copy-out-if1 mul-release-of element-copy-out-release-of release-of-requires returns add-k loop-less loop-again returns-2)

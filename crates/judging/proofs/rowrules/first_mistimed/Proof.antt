@@ -1,0 +1,65 @@
+-- `judging::rowrules::first_mistimed` meets its contract: no row before breaks the rule.
+-- Assumes nothing.
+use mathlib.Core.Path.{_≡_, refl, sym}
+use mathlib.Core.Option.{none}
+use Prim.Native.Nat.{_-_, _≤_}
+use native.Mathlib.Omega.{arith}
+use borrow.Author.Tests.{not-true, not-false}
+use denote.Ref.{now}
+use Rattle.laws.specs.Lists.{firstBad, upTo}
+use Rattle.laws.proofs.Loops.{firstBad-upTo-more}
+use Rattle.judging.specs.Rows.{timeKept}
+use Rattle.judging.proofs.Places.{scan-hit, scan-end}
+use borrow.Author.Needs.{needs}
+use Rattle.judging.proofs.rowrules.first_mistimed.Statement.{statement}
+use Rattle.judging.proofs.rowrules.first_mistimed.Tie as tie
+
+abbrev Inv-loop : tie.InvT-loop
+Inv-loop tasks starts stops times resolution count k₀ k = (k ≤ count) × (firstBad (timeKept tasks starts stops times resolution) (upTo k) ≡ none)
+
+abbrev μ-loop : tie.MeasureT-loop
+μ-loop tasks starts stops times resolution count k₀ k = count - k
+
+loop-holds : tie.Need-loop-holds Inv-loop μ-loop
+loop-holds c = (search needs, refl)
+
+mul-time-kept : tie.Need-mul-time-kept Inv-loop μ-loop
+mul-time-kept c = search needs
+
+element-copy-out-time-kept : tie.Need-element-copy-out-time-kept Inv-loop μ-loop
+element-copy-out-time-kept c = search needs
+
+mul-time-kept-2 : tie.Need-mul-time-kept-2 Inv-loop μ-loop
+mul-time-kept-2 c = search needs
+
+element-copy-out-time-kept-2 : tie.Need-element-copy-out-time-kept-2 Inv-loop μ-loop
+element-copy-out-time-kept-2 c = search needs
+
+element-copy-out-time-of : tie.Need-element-copy-out-time-of Inv-loop μ-loop
+element-copy-out-time-of c = search needs
+
+time-of-requires : tie.Need-time-of-requires Inv-loop μ-loop
+time-of-requires c κs = search needs
+
+time-kept-requires : tie.Need-time-kept-requires Inv-loop μ-loop
+time-kept-requires c κs = search needs
+
+returns : tie.Need-returns Inv-loop μ-loop
+unfolding timeKept
+returns c = scan-hit (timeKept (now (c .before .before .before .before .before .before .before .before .args .tasks)) (now (c .before .before .before .before .before .before .before .before .args .starts)) (now (c .before .before .before .before .before .before .before .before .args .stops)) (now (c .before .before .before .before .before .before .before .before .args .times)) (c .before .before .before .before .before .before .before .before .args .resolution)) (c .before .before .before .before .before .before .before .loop .inv .1) (c .before .before .before .before .before .before .loop-test .taken) (rw (sym (c .before .before .time-of .ensures), sym (c .before .time-kept .ensures)) (not-true _ (c .if1 .taken)))
+
+add-k : tie.Need-add-k Inv-loop μ-loop
+add-k c = search needs
+
+loop-less : tie.Need-loop-less Inv-loop μ-loop
+loop-less c = search needs
+
+loop-again : tie.Need-loop-again Inv-loop μ-loop
+unfolding timeKept
+loop-again c = (omega (arith, c .before .before .before .before .before .before .loop-test .taken), firstBad-upTo-more (timeKept (now (c .before .before .before .before .before .before .before .before .args .tasks)) (now (c .before .before .before .before .before .before .before .before .args .starts)) (now (c .before .before .before .before .before .before .before .before .args .stops)) (now (c .before .before .before .before .before .before .before .before .args .times)) (c .before .before .before .before .before .before .before .before .args .resolution)) (c .before .before .before .before .before .before .before .loop .k) (c .before .before .before .before .before .before .before .loop .inv .1) (rw (sym (c .before .before .time-of .ensures), sym (c .before .time-kept .ensures)) (not-false _ (c .if1 .left))))
+
+returns-2 : tie.Need-returns-2 Inv-loop μ-loop
+returns-2 c = scan-end (timeKept (now (c .before .before .args .tasks)) (now (c .before .before .args .starts)) (now (c .before .before .args .stops)) (now (c .before .before .args .times)) (c .before .before .args .resolution)) (c .before .loop .inv .1) (c .loop-test .left) (c .before .loop .inv .0)
+
+pub first-mistimed-spec : {M : Type 1} → statement M
+first-mistimed-spec = tie.close (tie.spec Inv-loop μ-loop loop-holds mul-time-kept element-copy-out-time-kept mul-time-kept-2 element-copy-out-time-kept-2 element-copy-out-time-of time-of-requires time-kept-requires returns add-k loop-less loop-again returns-2)
