@@ -4,6 +4,7 @@ use answers::Refusal;
 use frames::laid::Frames;
 use libc::STDOUT_FILENO;
 use maker::Answer;
+use records::little::put32;
 
 pub fn print_refusal(why: Refusal) {
     io::write_all(STDOUT_FILENO, b"refused ");
@@ -37,11 +38,25 @@ fn job(name: &[u8], plan: &[u8], buf: &mut [u8]) {
     io::write_all(STDOUT_FILENO, b"\n");
 }
 
+// Job A with another worst time of task 0.
+fn a_with_worst_time(worst: u32) -> [u8; 86] {
+    let mut plan = plans::A;
+    put32(&mut plan, 56, worst);
+    plan
+}
+
+// Job A with another resolution.
+fn a_with_resolution(resolution: u32) -> [u8; 86] {
+    let mut plan = plans::A;
+    put32(&mut plan, 13, resolution);
+    plan
+}
+
 // No table is longer than the first buffer; job A's is longer than the second.
 fn a_to_c() {
     let a = plans::A;
-    let longest = plans::a_with_worst_time(19_904);
-    let too_long = plans::a_with_worst_time(19_905);
+    let longest = a_with_worst_time(19_904);
+    let too_long = a_with_worst_time(19_905);
     let mut buf = [0u8; 4096];
     let mut short = [0u8; 74];
     job(b"A: ", &a, &mut buf);
@@ -51,7 +66,7 @@ fn a_to_c() {
 }
 
 fn d_to_j() {
-    let off = plans::a_with_resolution(7);
+    let off = a_with_resolution(7);
     let j = plans::J;
     let mut buf = [0u8; 4096];
     job(b"D: ", b"", &mut buf);

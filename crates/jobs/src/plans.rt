@@ -1,6 +1,4 @@
 // The plans of the jobs, record by record.
-use records::little::put32;
-
 // Job A: 1,000 kbit/s, overhead 8, payload 0 to 254, gap 10, resolution 1.
 pub const A: [u8; 86] = [
     1,
@@ -219,17 +217,3 @@ pub const J: [u8; 125] = [
     3,
     0, // the reader reads X, Y and Z; end
 ];
-
-// Job A with another worst time of task 0.
-pub fn a_with_worst_time(worst: u32) -> [u8; 86] {
-    let mut plan = A;
-    put32(&mut plan, 56, worst);
-    plan
-}
-
-// Job A with another resolution.
-pub fn a_with_resolution(resolution: u32) -> [u8; 86] {
-    let mut plan = A;
-    put32(&mut plan, 13, resolution);
-    plan
-}

@@ -1,6 +1,4 @@
 // The tables of the jobs, record by record.
-use records::little::put32;
-
 // Job A's table, as the maker gives it.
 pub const A: [u8; 75] = [
     16,
@@ -178,14 +176,3 @@ pub const J: [u8; 95] = [
     0, // X, Y, Z, Y
     0, // end
 ];
-
-// The table of job A with another start and stop in a data row, counted from 0.
-pub fn a_with_times(row: usize, start: u32, stop: u32) -> [u8; 75] {
-    let mut table = A;
-    if row < 4 {
-        let at = 18 + 14 * row;
-        put32(&mut table, at + 6, start);
-        put32(&mut table, at + 10, stop);
-    }
-    table
-}
