@@ -1,10 +1,10 @@
 -- What the parts of a tick give, on the station's structs and arrays. That they are the rules' is a law (`proofs/`).
-use mathlib.Core.Bool.{Bool, _&&_}
+use mathlib.Core.Bool.{Bool, true, false, _&&_}
 use mathlib.Core.Path.{_≡_}
 use mathlib.Core.List.{List}
 use mathlib.Core.Option.{Option, none, some}
 use lib.Dec.{leb}
-use lib.ListN.{getD}
+use lib.ListN.{getD, replicate}
 use Prim.Native.Nat.{ℕ, _%_, _<_}
 use Rattle.laws.specs.Lists.{all, upTo}
 use Rattle.laws.specs.Loops.{stores}
@@ -19,6 +19,7 @@ use Rattle.stationsteps.specs.Steps.{numberAt, outRule, heldRule, modeRule, age
 use Rattle.stationsteps.specs.Nodes.{landingOf, nodeRule}
 use Rattle.stationsteps.specs.declared.nodes.Node.{Node}
 use Rattle.stationsteps.specs.declared.nodes.Landing.{Landing}
+use Rattle.stationsteps.specs.declared.nodes.Landing.the-variants.{Nothing}
 use Rattle.units.specs.declared.Ticks.{Ticks}
 use Rattle.station.specs.declared.Modules.{Modules}
 use Rattle.station.specs.declared.Modes.{Modes}
@@ -26,6 +27,7 @@ use Rattle.station.specs.declared.Tasks.{Tasks}
 use Rattle.station.specs.declared.Controls.{Controls}
 use Rattle.station.specs.declared.Play.{Play}
 use Rattle.station.specs.declared.Moved.{Moved}
+use Rattle.station.specs.declared.Turn.{Turn}
 use Rattle.station.specs.declared.ControlRow.{ControlRow}
 use Rattle.station.specs.declared.DataRow.{DataRow}
 use Rattle.station.specs.declared.Said.{Said}
@@ -91,11 +93,16 @@ saidBy controls carries deadlines starts stops (some r) d = Control (controlAt c
 saidBy controls carries deadlines starts stops none (some r) = Data (dataAt carries deadlines starts stops r)
 saidBy controls carries deadlines starts stops none none = Quiet
 
+-- (b) of a control frame, at each place of the mode bytes held
+abbrev pub heldNow : Modules → Controls → Play → ℕ → ℕ
+heldNow modules controls play =
+    heldRule (modules .sending) (modules .sites) (play .bytes) (controls .nodes) (play .held)
+    (rowWith (numberAt (controls .stops)) (controls .count) (play .clock .0))
+
 -- (a), (b) of the mode bytes, (d) and (f)
 unfoldable pub playBy : List Given → List Change → Modules → Modes → Tasks → Controls → Play → Ticks → Option ℕ → Option ℕ → List Bool
     → List ℕ → List ℕ → List ℕ → Play
 playBy results changes modules modes tasks controls play period control message ends runs carries deadlines =
-    let ended = rowWith (numberAt (controls .stops)) (controls .count) (play .clock .0) in
     let out = outRule results (play .out) in
     let running = modeRule changes (play .running) in
     record {
@@ -106,8 +113,7 @@ playBy results changes modules modes tasks controls play period control message 
           stores (play .bytes) (modeByteRule (modules .sending) (modules .sites) running (controls .nodes) (play .bytes) control) 16;
       givens = stores (play .givens) (givenRule results changes ends (tasks .homes) (play .givens)) 32;
       out = stores (play .out) out 32;
-      held =
-          stores (play .held) (heldRule (modules .sending) (modules .sites) (play .bytes) (controls .nodes) (play .held) ended) 128;
+      held = stores (play .held) (heldNow modules controls play) 128;
       full = fullRule (tasks .bus) runs running (tasks .homes) carries deadlines (play .full) message;
       load = loadRule out carries (play .load) message;
     }
@@ -137,10 +143,12 @@ abbrev pub nodesBy : Modules → Tasks → Play → ℕ → Landing → List Boo
 nodesBy modules tasks next clock landing ends runs nodes =
     stores nodes (nodeRule ends (tasks .homes) (modules .sites) (next .out) (next .held) (tasks .bus) runs clock landing nodes) 8
 
+-- the turn of a tick that is refused
+abbrev pub atRest : Play → Turn
+atRest play = record { play = play; idle = true; clock = play .clock; landing = Nothing; ends = replicate 32 false }
+
 -- what is read from the arrays just filled
 pub record Reads (results : List Given) (modules : Modules) (controls : Controls) (play next : Play) : Type 0 where
   pub out : (t : ℕ) → getD (next .out) t 0 ≡ outRule results (play .out) t
   pub held : (j : ℕ) → j < 128
-      → getD (next .held) j 0
-      ≡ heldRule (modules .sending) (modules .sites) (play .bytes) (controls .nodes) (play .held)
-      (rowWith (numberAt (controls .stops)) (controls .count) (play .clock .0)) j
+      → getD (next .held) j 0 ≡ heldNow modules controls play j

@@ -1,6 +1,9 @@
 // The played station: its tick, total on any station value, and what a node shows.
 ghost use mathlib.Core.Path.{_≡_};
-ghost use Prim.Native.Nat.{_<_};
+ghost use Prim.Native.Nat.{ℕ, _<_};
+ghost use lib.ListN.{getD};
+ghost use Rattle.laws.specs.Loops.{stores};
+ghost use Rattle.laws.specs.Res.{ok};
 ghost use Rattle.laws.specs.Lists.{all, upTo};
 ghost use Rattle.rules.specs.StationRange.{ticked};
 ghost use mathlib.Core.List.{List};
@@ -8,7 +11,7 @@ ghost use Rattle.stationsteps.specs.declared.nodes.Node.{Node as AnyNode};
 ghost use Rattle.stationjudge.specs.Inputs.{foundOf, inputOf};
 ghost use Rattle.stationjudge.specs.Judging.{judgedOf};
 ghost use Rattle.station.specs.Memory.{keptOf, notBegun, stateOf};
-ghost use Rattle.station.specs.Parts.{Reads, controlAt, dataAt, judgedBy, keptTest, landingBy, heldTest, movedBy, nodesBy, playBy, refusedBy, saidBy, stateTest};
+ghost use Rattle.station.specs.Parts.{Reads, atRest, heldNow, controlAt, dataAt, judgedBy, keptTest, landingBy, heldTest, movedBy, nodesBy, playBy, refusedBy, saidBy, stateTest};
 ghost use Rattle.station.specs.Answers.{Answers};
 ghost use Rattle.station.specs.Turns.{Turns, Valued, stationBy};
 use answers::Refusal;
@@ -365,6 +368,23 @@ fn started<'a>(
     }
 }
 
+// (b) of a control frame: the mode bytes that the nodes hold, by the control row that stops now.
+fn held_by(modules: Modules, controls: Controls, play: Play) -> [u8; 128]
+    ensures { λ r. ⌜ r ≡ stores (play .held) (heldNow modules controls play) 128 ⌝ }
+    ensures reads { λ r. ⌜ ((j : ℕ) → j < 128 → getD r j 0 ≡ heldNow modules controls play j) ⌝ }
+{
+    let ended = row_with(&controls.stops, controls.count as usize, play.clock.0);
+    let old = play.held;
+    held_after(
+        old,
+        ended,
+        &controls.nodes,
+        &modules.sending,
+        &modules.sites,
+        &play.bytes,
+    )
+}
+
 // The steps but for the nodes; `control` and `message` are the rows that start now.
 fn played<'a>(
     results: [Given; 32],
@@ -385,18 +405,9 @@ fn played<'a>(
     ensures { λ r. ⌜ r ≡ playBy results changes modules modes tasks controls play period (foundOf control) (foundOf message) (now (ends .entry)) (now (runs .entry)) (now (carries .entry)) (now (deadlines .entry)) ⌝ }
     ensures reads { λ r. ⌜ Reads results modules controls play r ⌝ }
 {
-    let ended = row_with(&controls.stops, controls.count as usize, play.clock.0);
     let old_out = play.out;
     let out = out_after(results, old_out);
-    let old_held = play.held;
-    let held = held_after(
-        old_held,
-        ended,
-        &controls.nodes,
-        &modules.sending,
-        &modules.sites,
-        &play.bytes,
-    );
+    let held = held_by(modules, controls, play);
     let old_running = play.running;
     let running = modes_after(changes, old_running);
     let old_ages = play.ages;
@@ -423,9 +434,8 @@ fn played<'a>(
         runs,
     );
     let load = load_after(play.load, message, carries, &out);
-    let clock = Ticks(one_on(play.clock.0, period.0));
     Play {
-        clock,
+        clock: Ticks(one_on(play.clock.0, period.0)),
         running,
         ages,
         bytes,
@@ -510,6 +520,74 @@ fn what_lands<'a>(
     )
 }
 
+// A turn that leaves all as it was.
+fn at_rest(play: Play) -> Turn
+    ensures { λ r. ⌜ r ≡ atRest play ⌝ }
+{
+    let clock = play.clock;
+    Turn {
+        play,
+        idle: true,
+        clock,
+        landing: Landing::Nothing,
+        ends: [false; 32],
+    }
+}
+
+// A tick that is not refused, but for the nodes: (a) to (f).
+fn accepted<'a>(
+    results: [Given; 32],
+    changes: [Change; 16],
+    modules: Modules,
+    modes: Modes,
+    tasks: Tasks,
+    controls: Controls,
+    datas: u16,
+    period: Ticks,
+    play: Play,
+    runs: &'a [u32; 1024],
+    carries: &'a [u8; 256],
+    deadlines: &'a [u32; 256],
+    starts: &'a [u32; 256],
+    stops: &'a [u32; 256],
+) -> Turned
+    requires { ⌜ ok tt ≡ refusedBy results changes modules modes tasks controls datas period play (now runs) (now carries) (now deadlines) (now starts) (now stops) ⌝ }
+    ensures { λ r. ⌜ ((nodes : List AnyNode) → Valued nodes → Turns (stationBy modules modes tasks controls datas period (now (runs .entry)) (now (carries .entry)) (now (deadlines .entry)) (now (starts .entry)) (now (stops .entry)) play nodes) results changes (r .said) (r .turn)) ⌝ }
+{
+    let ends = ends_now(runs, &play.running, &play.ages, &tasks.homes);
+    let next = moves(
+        results,
+        changes,
+        modules,
+        modes,
+        tasks,
+        controls,
+        datas,
+        period,
+        play,
+        &ends,
+        runs,
+        carries,
+        deadlines,
+        starts,
+        stops,
+    );
+    let landing = what_lands(modules, tasks, datas, play, carries, stops);
+    let idle = is_idle(landing, &ends);
+    let said = next.said;
+    let after = next.play;
+    Turned {
+        said,
+        turn: Turn {
+            play: after,
+            idle,
+            clock: play.clock,
+            landing,
+            ends,
+        },
+    }
+}
+
 // A tick but for the nodes: a refusal, or (a) to (f). The station may hold any nodes.
 pub fn turned_by<'a>(
     results: [Given; 32],
@@ -547,48 +625,24 @@ pub fn turned_by<'a>(
     ) {
         Judged::Refused(x) => Turned {
             said: Said::Refused(x),
-            turn: Turn {
-                play,
-                idle: true,
-                clock: play.clock,
-                landing: Landing::Nothing,
-                ends: [false; 32],
-            },
+            turn: at_rest(play),
         },
-        Judged::Fine => {
-            let ends = ends_now(runs, &play.running, &play.ages, &tasks.homes);
-            let next = moves(
-                results,
-                changes,
-                modules,
-                modes,
-                tasks,
-                controls,
-                datas,
-                period,
-                play,
-                &ends,
-                runs,
-                carries,
-                deadlines,
-                starts,
-                stops,
-            );
-            let landing = what_lands(modules, tasks, datas, play, carries, stops);
-            let idle = is_idle(landing, &ends);
-            let said = next.said;
-            let after = next.play;
-            Turned {
-                said,
-                turn: Turn {
-                    play: after,
-                    idle,
-                    clock: play.clock,
-                    landing,
-                    ends,
-                },
-            }
-        }
+        Judged::Fine => accepted(
+            results,
+            changes,
+            modules,
+            modes,
+            tasks,
+            controls,
+            datas,
+            period,
+            play,
+            runs,
+            carries,
+            deadlines,
+            starts,
+            stops,
+        ),
     }
 }
 

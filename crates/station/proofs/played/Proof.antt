@@ -1,8 +1,9 @@
-use mathlib.Core.Path.{ap, _∙_}
+-- `station::played` meets its contract: each part of the play is what its step gives.
+-- Assumes nothing.
+use mathlib.Core.Path.{_∙_}
 use denote.Ref.{now}
-use Rattle.laws.specs.Loops.{stores}
 use Rattle.stationjudge.specs.Inputs.{foundOf}
-use Rattle.stationsteps.specs.Steps.{heldRule, modeRule, outRule}
+use Rattle.stationsteps.specs.Steps.{modeRule, outRule}
 use Rattle.station.specs.Parts.{playBy}
 use Rattle.station.proofs.Ways.{bytes-same, full-same, load-same, play-made}
 use borrow.Author.Needs.{needs}
@@ -10,28 +11,21 @@ use Rattle.station.proofs.played.Statement.{statement}
 use Rattle.station.proofs.played.Tie as tie
 use Rattle.station.proofs.played.Reads as reads
 use Rattle.station.proofs.played.Lts as lts
+use Rattle.station.proofs.held_by.Reads as held-by-reads
 use Rattle.stationsteps.proofs.ages_after.Reads as ages-after-reads
 use Rattle.stationsteps.proofs.bytes_after.Reads as bytes-after-reads
 use Rattle.stationsteps.proofs.full_after.Reads as full-after-reads
 use Rattle.stationsteps.proofs.givens_after.Reads as givens-after-reads
-use Rattle.stationsteps.proofs.held_after.Reads as held-after-reads
 use Rattle.stationsteps.proofs.load_after.Reads as load-after-reads
 use Rattle.stationsteps.proofs.modes_after.Reads as modes-after-reads
 use Rattle.stationsteps.proofs.one_on.Reads as one-on-reads
 use Rattle.stationsteps.proofs.out_after.Reads as out-after-reads
-use Rattle.stationsteps.proofs.row_with.Reads as row-with-reads
-
-cast-row-with : tie.Need-cast-row-with
-cast-row-with c = search needs
-
-row-with-requires : tie.Need-row-with-requires
-row-with-requires c κs = search needs
 
 out-after-requires : tie.Need-out-after-requires
 out-after-requires c κs = search needs
 
-held-after-requires : tie.Need-held-after-requires
-held-after-requires c κs = search needs
+held-by-requires : tie.Need-held-by-requires
+held-by-requires c κs = search needs
 
 modes-after-requires : tie.Need-modes-after-requires
 modes-after-requires c κs = search needs
@@ -57,24 +51,21 @@ one-on-requires c κs = search needs
 returns : tie.Need-returns
 unfolding playBy
 returns c =
-    let a = c .before .before .before .before .before .before .before .before .before .before .before .before .before .before .before .before .before .before .before .before .before .before .before .before .before .before .before .before .before .before .before .before .before .before .before .before .before .before .before .before .before .before .before .args in (
+    let a = c .before .before .before .before .before .before .before .before .before .before .before .before .before .before .before .before .before .before .before .before .before .before .before .before .before .before .before .before .before .before .before .args in (
       play-made (c .one-on .ensures) (c .before .before .before .before .before .before .before .before .before .before .before .before .before .before .before .before .before .before .before .before .before .before .before .before .before .before .modes-after .ensures .0) (c .before .before .before .before .before .before .before .before .before .before .before .before .before .before .before .before .before .before .before .before .ages-after .ensures)
           (c .before .before .before .before .before .before .before .before .bytes-after .ensures ∙ bytes-same _ (modeRule (a .changes) (a .t7 .running)) (c .before .before .before .before .before .before .before .before .before .before .before .before .before .before .before .before .before .before .before .before .before .before .before .before .before .before .modes-after .ensures .1) (a .t3 .sending) (a .t3 .sites) (a .t6 .nodes) (a .t7 .bytes) (foundOf (a .control)))
-          (c .before .before .before .before .before .before .before .before .before .before .before .before .before .before .before .before .givens-after .ensures) (c .before .before .before .before .before .before .before .before .before .before .before .before .before .before .before .before .before .before .before .before .before .before .before .before .before .before .before .before .before .before .before .before .before .before .before .before .before .out-after .ensures .0)
-          (c .before .before .before .before .before .before .before .before .before .before .before .before .before .before .before .before .before .before .before .before .before .before .before .before .before .before .before .before .held-after .ensures .0 ∙ ap (λ o. stores (a .t7 .held) (heldRule (a .t3 .sending) (a .t3 .sites) (a .t7 .bytes) (a .t6 .nodes) (a .t7 .held) o) 128) (c .before .before .before .before .before .before .before .before .before .before .before .before .before .before .before .before .before .before .before .before .before .before .before .before .before .before .before .before .before .before .before .before .before .before .before .before .before .before .before .row-with .ensures))
+          (c .before .before .before .before .before .before .before .before .before .before .before .before .before .before .before .before .givens-after .ensures) (c .before .before .before .before .before .before .before .before .before .before .before .before .before .before .before .before .before .before .before .before .before .before .before .before .before .before .before .before .before .out-after .ensures .0) (c .before .before .before .before .before .before .before .before .before .before .before .before .before .before .before .before .before .before .before .before .before .before .before .before .before .before .before .before .held-by .ensures .0)
           (c .before .before .before .full-after .ensures ∙ full-same _ (modeRule (a .changes) (a .t7 .running)) (c .before .before .before .before .before .before .before .before .before .before .before .before .before .before .before .before .before .before .before .before .before .before .before .before .before .before .modes-after .ensures .1) (a .t5 .bus) (now (a .runs)) (a .t5 .homes) (now (a .carries)) (now (a .deadlines)) (a .t7 .full) (foundOf (a .message)))
-          (c .before .load-after .ensures ∙ load-same _ (outRule (a .results) (a .t7 .out)) (c .before .before .before .before .before .before .before .before .before .before .before .before .before .before .before .before .before .before .before .before .before .before .before .before .before .before .before .before .before .before .before .before .before .before .before .before .before .out-after .ensures .1) (now (a .carries)) (a .t7 .load) (foundOf (a .message))),
-      record { out = c .before .before .before .before .before .before .before .before .before .before .before .before .before .before .before .before .before .before .before .before .before .before .before .before .before .before .before .before .before .before .before .before .before .before .before .before .before .out-after .ensures .1; held = λ j w. c .before .before .before .before .before .before .before .before .before .before .before .before .before .before .before .before .before .before .before .before .before .before .before .before .before .before .before .before .held-after .ensures .1 j w ∙ ap (λ o. (heldRule (a .t3 .sending) (a .t3 .sites) (a .t7 .bytes) (a .t6 .nodes) (a .t7 .held) o j)) (c .before .before .before .before .before .before .before .before .before .before .before .before .before .before .before .before .before .before .before .before .before .before .before .before .before .before .before .before .before .before .before .before .before .before .before .before .before .before .before .row-with .ensures) },
+          (c .before .load-after .ensures ∙ load-same _ (outRule (a .results) (a .t7 .out)) (c .before .before .before .before .before .before .before .before .before .before .before .before .before .before .before .before .before .before .before .before .before .before .before .before .before .before .before .before .before .out-after .ensures .1) (now (a .carries)) (a .t7 .load) (foundOf (a .message))),
+      record { out = c .before .before .before .before .before .before .before .before .before .before .before .before .before .before .before .before .before .before .before .before .before .before .before .before .before .before .before .before .before .out-after .ensures .1; held = c .before .before .before .before .before .before .before .before .before .before .before .before .before .before .before .before .before .before .before .before .before .before .before .before .before .before .before .before .held-by .ensures .1 },
     )
 
 pub played-spec : {M : Type 1} → statement M
 played-spec =
     tie.close
     (tie.spec
-    cast-row-with
-    row-with-requires
     out-after-requires
-    held-after-requires
+    held-by-requires
     modes-after-requires
     ages-after-requires
     givens-after-requires

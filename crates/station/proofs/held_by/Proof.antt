@@ -1,0 +1,32 @@
+-- `station::held_by` meets its contract: the row that stops now is the row that the rule looks for.
+-- Assumes nothing.
+use mathlib.Core.Path.{ap, _∙_}
+use Rattle.laws.specs.Loops.{stores}
+use Rattle.stationsteps.specs.Steps.{heldRule}
+use borrow.Author.Needs.{needs}
+use Rattle.station.proofs.held_by.Statement.{statement}
+use Rattle.station.proofs.held_by.Tie as tie
+use Rattle.station.proofs.held_by.Reads as reads
+use Rattle.station.proofs.held_by.Lts as lts
+use Rattle.stationsteps.proofs.held_after.Reads as held-after-reads
+use Rattle.stationsteps.proofs.row_with.Reads as row-with-reads
+
+cast-row-with : tie.Need-cast-row-with
+cast-row-with c = search needs
+
+row-with-requires : tie.Need-row-with-requires
+row-with-requires c κs = search needs
+
+held-after-requires : tie.Need-held-after-requires
+held-after-requires c κs = search needs
+
+returns : tie.Need-returns
+returns c =
+    let a = c .before .before .before .before .before .before .before .before .before .before .before .before .before .args in
+    let when = c .before .before .before .before .before .before .before .before .before .row-with .ensures in (
+      c .held-after .ensures .0 ∙ ap (λ o. stores (a .t3 .held) (heldRule (a .t1 .sending) (a .t1 .sites) (a .t3 .bytes) (a .t2 .nodes) (a .t3 .held) o) 128) when,
+      λ j w. c .held-after .ensures .1 j w ∙ ap (λ o. heldRule (a .t1 .sending) (a .t1 .sites) (a .t3 .bytes) (a .t2 .nodes) (a .t3 .held) o j) when,
+    )
+
+pub held-by-spec : {M : Type 1} → statement M
+held-by-spec = tie.close (tie.spec cast-row-with row-with-requires held-after-requires returns)
