@@ -1,31 +1,34 @@
 //! Files that the repository keeps for its programs: the example plan, what a program reads, what it
 //! must write. `cargo run --release --bin store` writes them; a test holds them against what stands there.
 
+mod cases;
+mod jobs;
+mod plans;
+mod tables;
+
 use crate::generate::{PLENTY, job_a};
 use crate::{FrameRow, MOST_FRAMES, make};
+use cases::Case;
 
 pub struct Stored {
     /// From the root of the repository.
-    pub path: &'static str,
+    pub path: String,
     pub bytes: Vec<u8>,
+}
+
+fn stored(path: &str, bytes: Vec<u8>) -> Stored {
+    Stored { path: path.to_string(), bytes }
 }
 
 pub fn all() -> Vec<Stored> {
     let plan = job_a().bytes();
-    let cases: Vec<Case> = include_str!("../vectors/make.txt").lines().map(Case::read).collect();
-    vec![
-        Stored { path: "docs/examples/job-a.plan", bytes: plan.clone() },
-        Stored { path: "crates/bustable/stdin", bytes: plan.clone() },
-        Stored { path: "crates/bustable/stdout", bytes: table_of(&plan) },
-        Stored {
-            path: "crates/maketables/data/cases",
-            bytes: cases.iter().flat_map(Case::bytes).collect(),
-        },
-        Stored {
-            path: "crates/maketables/stdout",
-            bytes: cases.iter().flat_map(Case::line).collect(),
-        },
-    ]
+    let mut files = vec![
+        stored("docs/examples/job-a.plan", plan.clone()),
+        stored("crates/bustable/stdin", plan.clone()),
+        stored("crates/bustable/stdout", table_of(&plan)),
+    ];
+    files.extend(vectors());
+    files
 }
 
 fn table_of(plan: &[u8]) -> Vec<u8> {
@@ -35,46 +38,24 @@ fn table_of(plan: &[u8]) -> Vec<u8> {
     table
 }
 
-/// A line of `make.txt`: what is given, and the answer as it stands there.
-struct Case {
-    plan: Vec<u8>,
-    rows: u32,
-    room: u32,
-    answer: &'static str,
-}
-
-impl Case {
-    fn read(line: &'static str) -> Case {
-        let (given, answer) = line.split_once(" -> ").expect("an arrow");
-        let [plan, rows, room] = given.split(' ').collect::<Vec<_>>()[..] else { panic!("{line}") };
-        Case {
-            plan: if plan == "-" { Vec::new() } else { bytes(plan) },
-            rows: rows.parse().expect("a number of rows"),
-            room: room.parse().unwrap_or(PLENTY as u32),
-            answer,
-        }
+/// What the program `vectors` reads, a file for each sort of case in the order of its arguments, and
+/// what it must write.
+fn vectors() -> Vec<Stored> {
+    let sorts: [(&str, Vec<Case>); 4] = [
+        ("jobs", jobs::all()),
+        ("plans", plans::own()),
+        ("make", plans::vectors()),
+        ("check", tables::all()),
+    ];
+    let mut files = Vec::new();
+    let (mut words, mut lines) = (String::new(), String::new());
+    for (name, cases) in sorts {
+        let bytes = cases.iter().flat_map(Case::bytes).collect();
+        files.push(stored(&format!("crates/vectors/data/{name}"), bytes));
+        words.push_str(&format!("{name}\n"));
+        lines.extend(cases.iter().map(|case| format!("{}{}\n", case.text, case.line)));
     }
-
-    /// The case as `maketables` reads it.
-    fn bytes(&self) -> Vec<u8> {
-        let head = [self.rows, self.room, self.plan.len() as u32].map(u32::to_le_bytes);
-        [&head.concat(), &self.plan[..]].concat()
-    }
-
-    /// The line that `maketables` must write: the answer, how many bytes of the buffer are kept, how
-    /// many of the 256 rows by value are zero.
-    fn line(&self) -> Vec<u8> {
-        let mut words = self.answer.split(' ');
-        let (length, frames) = match words.next() {
-            Some("table") => (words.next().expect("a table").len() / 2, words.skip(1).count()),
-            _ => (0, 0),
-        };
-        let kept = self.room as usize - length;
-        format!("{} kept {kept} zero {}\n", self.answer, MOST_FRAMES - frames).into_bytes()
-    }
-}
-
-fn bytes(hex: &str) -> Vec<u8> {
-    let byte = |place| u8::from_str_radix(&hex[place..place + 2], 16).expect("two hex digits");
-    (0..hex.len()).step_by(2).map(byte).collect()
+    files.push(stored("crates/vectors/args", words.into_bytes()));
+    files.push(stored("crates/vectors/stdout", lines.into_bytes()));
+    files
 }

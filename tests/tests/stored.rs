@@ -6,7 +6,7 @@ use std::path::Path;
 fn stored_files() {
     let root = Path::new(env!("CARGO_MANIFEST_DIR")).join("..");
     for stored in reference::stored::all() {
-        let there = std::fs::read(root.join(stored.path)).unwrap_or_default();
+        let there = std::fs::read(root.join(&stored.path)).unwrap_or_default();
         assert!(there == stored.bytes, "{} is not what `store` writes", stored.path);
     }
 }

@@ -8,5 +8,5 @@ use Rattle.input.specs.declared.Input.{Input}
 use Rattle.input.specs.declared.Input.the-variants.{Bytes}
 use Rattle.input.specs.Within.{Within}
 
-pub counted : (r : Input) (n : ℕ) (buf : List ℕ) → Within r buf → r ≡ Bytes n → Counts n buf
-counted r n buf w e = subst (λ (i : Input). Within i buf) e w
+pub counted : {r : Input} {n : ℕ} (buf : List ℕ) → Within r buf → r ≡ Bytes n → Counts n buf
+counted buf w e = subst (λ (i : Input). Within i buf) e w

@@ -1,0 +1,17 @@
+use Prim.Native.Nat.{_-_, _≤_}
+use borrow.Author.Needs.{needs}
+use Rattle.vectors.proofs.lines.say_rows.Statement.{statement}
+use Rattle.vectors.proofs.lines.say_rows.Tie as tie
+
+abbrev Inv-loop : tie.InvT-loop
+Inv-loop rows n k₀ k = k ≤ n
+
+abbrev μ-loop : tie.MeasureT-loop
+μ-loop rows n k₀ k = n - k
+
+pub say-rows-spec : {M : Type 1} → statement M
+say-rows-spec =
+    tie.close
+    (tie.spec Inv-loop μ-loop (λ c. search needs) (λ c. search needs) (λ c. search needs) (λ c. search needs) (λ c. search needs)
+    (λ c. search needs) (λ c. search needs) (λ c. search needs) (λ c κs. search needs) (λ c. search needs) (λ c. search needs)
+    (λ c. search needs) (λ c. search needs) (λ c. search needs))

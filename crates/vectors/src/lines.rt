@@ -1,0 +1,60 @@
+// Lines: an answer and what is left of what was lent, as text on standard output.
+ghost use Prim.Native.Nat.{_≤_};
+use answers::Refusal;
+use libc::STDOUT_FILENO;
+use rows::Rows;
+
+pub fn say(text: &[u8]) {
+    io::write_all(STDOUT_FILENO, text);
+}
+
+fn say_number(before: &[u8], x: u64) {
+    say(before);
+    io::print_decimal(STDOUT_FILENO, x);
+}
+
+pub fn say_refusal(why: Refusal) {
+    say_number(b"refused ", why.number() as u64);
+    say_number(b" at ", why.place() as u64);
+}
+
+fn wide(x: u8) -> u64 {
+    x as u64
+}
+
+// The bytes in front of `end`.
+pub fn say_table(buf: &[u8], end: usize) {
+    say(b"table ");
+    let mut i = 0;
+    while i < end && i < buf.len() {
+        io::print_hex(STDOUT_FILENO, wide(buf[i]), 2);
+        i += 1;
+    }
+}
+
+fn say_row(task: u8, release: u32, deadline: u32, start: u32) {
+    say_number(b" ", task as u64);
+    say_number(b",", release as u64);
+    say_number(b",", deadline as u64);
+    say_number(b",", start as u64);
+}
+
+pub fn say_rows(rows: Rows) {
+    let n = rows.frames;
+    let mut k = 0;
+    while k < n && k < 256 {
+        say_row(
+            rows.task[k],
+            rows.release[k],
+            rows.deadline[k],
+            rows.start[k],
+        );
+        k += 1;
+    }
+}
+
+// How many bytes of the buffer are as they were, and how many of the rows by value are zero.
+pub fn say_left(bytes: u64, rows: u64) {
+    say_number(b" kept ", bytes);
+    say_number(b" zero ", rows);
+}

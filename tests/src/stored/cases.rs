@@ -1,0 +1,130 @@
+//! A case of the program `vectors`: what it is given, and the line that it must write.
+
+use crate::generate::PLENTY;
+use crate::plan;
+use crate::{FrameRow, MOST_FRAMES, Refusal, check, make};
+
+/// What stands in a lent buffer.
+const OLD: u8 = 165;
+
+#[derive(Clone, Copy)]
+pub enum What {
+    Read = 0,
+    Make = 1,
+    Check = 2,
+}
+
+pub struct Case {
+    pub what: What,
+    pub rows: usize,
+    pub room: usize,
+    /// Stands in front of the line.
+    pub text: String,
+    pub plan: Vec<u8>,
+    pub table: Vec<u8>,
+    pub line: String,
+}
+
+impl Case {
+    fn new(what: What, plan: &[u8]) -> Case {
+        let (text, line) = (String::new(), String::new());
+        Case { what, rows: MOST_FRAMES, room: 0, text, plan: plan.to_vec(), table: Vec::new(), line }
+    }
+
+    /// A plan that is read, answered by this implementation. The same holds of the next two.
+    pub fn read(file: &[u8]) -> Case {
+        let line = match plan::read(file) {
+            Ok(_) => "sound".to_string(),
+            Err(refusal) => refused(refusal),
+        };
+        Case { line, ..Case::new(What::Read, file) }
+    }
+
+    pub fn make(plan: &[u8], rows: usize, room: usize) -> Case {
+        let mut lent = vec![FrameRow::default(); rows];
+        let mut buffer = vec![OLD; room];
+        let line = match make(plan, &mut lent, &mut buffer) {
+            Ok(length) => format!("table {} rows{}", hex(&buffer[..length]), frames(&lent)),
+            Err(refusal) => refused(refusal),
+        };
+        Case::made(plan, rows, room, &line)
+    }
+
+    pub fn check(plan: &[u8], table: &[u8], rows: usize) -> Case {
+        let mut lent = vec![FrameRow::default(); rows];
+        let line = match check(plan, table, &mut lent) {
+            Ok(()) => format!("passed rows{}", frames(&lent)),
+            Err(refusal) => refused(refusal),
+        };
+        Case::checked(plan, table, rows, &line)
+    }
+
+    /// A plan whose table is made, with its answer: behind it stand how many bytes of the buffer are
+    /// kept, and how many of the rows by value are zero.
+    pub fn made(plan: &[u8], rows: usize, room: usize, answer: &str) -> Case {
+        let mut words = answer.split(' ');
+        let (length, frames) = match words.next() {
+            Some("table") => (words.next().expect("a table").len() / 2, words.skip(1).count()),
+            _ => (0, 0),
+        };
+        let line = format!("{answer} kept {} zero {}", room - length, MOST_FRAMES - frames);
+        Case { rows, room, line, ..Case::new(What::Make, plan) }
+    }
+
+    /// A table that is checked, with its answer.
+    pub fn checked(plan: &[u8], table: &[u8], rows: usize, answer: &str) -> Case {
+        let (table, line) = (table.to_vec(), answer.to_string());
+        Case { rows, table, line, ..Case::new(What::Check, plan) }
+    }
+
+    pub fn called(self, name: &str) -> Case {
+        Case { text: format!("{name}: "), ..self }
+    }
+
+    /// The case as the program reads it.
+    pub fn bytes(&self) -> Vec<u8> {
+        let lengths = [self.text.len(), self.plan.len(), self.table.len()];
+        let head = [[self.what as usize, self.rows, self.room], lengths].concat();
+        let head: Vec<u8> = head.into_iter().flat_map(number).collect();
+        [&head, self.text.as_bytes(), &self.plan, &self.table].concat()
+    }
+}
+
+fn number(x: usize) -> [u8; 4] {
+    u32::try_from(x).expect("four bytes").to_le_bytes()
+}
+
+fn refused(refusal: Refusal) -> String {
+    format!("refused {} at {}", refusal.number, refusal.place)
+}
+
+/// A row of a frame has a deadline, and a zero row has none.
+fn frames(rows: &[FrameRow]) -> String {
+    let frames = rows.iter().filter(|row| row.deadline > 0);
+    let text =
+        |row: &FrameRow| format!(" {},{},{},{}", row.task, row.release, row.deadline, row.start);
+    frames.map(text).collect()
+}
+
+fn hex(bytes: &[u8]) -> String {
+    bytes.iter().map(|byte| format!("{byte:02x}")).collect()
+}
+
+/// The bytes that a vector's hex digits stand for; `-` is none.
+pub fn bytes(hex: &str) -> Vec<u8> {
+    let digits = if hex == "-" { "" } else { hex };
+    let byte = |place| u8::from_str_radix(&digits[place..place + 2], 16).expect("two hex digits");
+    (0..digits.len()).step_by(2).map(byte).collect()
+}
+
+/// The three words in front of a vector's arrow, and the answer behind it.
+pub fn vector(line: &str) -> ([&str; 3], &str) {
+    let (given, answer) = line.split_once(" -> ").expect("an arrow");
+    let words: Vec<&str> = given.split(' ').collect();
+    (words.try_into().expect("three words"), answer)
+}
+
+/// A number of bytes lent, plenty where the vector leaves it open.
+pub fn room(word: &str) -> usize {
+    word.parse().unwrap_or(PLENTY)
+}

@@ -1,0 +1,35 @@
+//! Plans: those of the vectors, each read and its table made, and our own, read.
+
+use super::cases::{Case, bytes, room, vector};
+
+const VECTORS: &str = include_str!("../../vectors/make.txt");
+
+/// Our own plans, each behind its length in four bytes: the empty file and every other proper prefix of
+/// job A's plan; files that break the order of kinds, with known and unknown kinds; each count, name,
+/// number and rule of refusals 2 to 5 within its limit and beyond it; plans with several faults; noise
+/// of 70,000 bytes, 34,990 modules, and job A's plan with one byte changed.
+const OWN: &[u8] = include_bytes!("../../vectors/plans");
+
+pub fn own() -> Vec<Case> {
+    let mut cases = Vec::new();
+    let mut rest = OWN;
+    while let Some((length, behind)) = rest.split_first_chunk() {
+        let (plan, next) = behind.split_at(u32::from_le_bytes(*length) as usize);
+        cases.push(Case::read(plan));
+        rest = next;
+    }
+    cases
+}
+
+pub fn vectors() -> Vec<Case> {
+    let mut cases: Vec<Case> = Vec::new();
+    for line in VECTORS.lines() {
+        let ([plan, rows, lent], answer) = vector(line);
+        let plan = bytes(plan);
+        if cases.last().is_none_or(|last| last.plan != plan) {
+            cases.push(Case::read(&plan));
+        }
+        cases.push(Case::made(&plan, rows.parse().expect("a number of rows"), room(lent), answer));
+    }
+    cases
+}
