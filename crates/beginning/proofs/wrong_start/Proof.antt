@@ -4,9 +4,6 @@ use Rattle.beginning.specs.Starting.{startTest}
 use borrow.Author.Needs.{needs}
 use Rattle.beginning.proofs.wrong_start.Statement.{statement}
 use Rattle.beginning.proofs.wrong_start.Tie as tie
-use Rattle.beginning.proofs.wrong_start.Reads as reads
-use Rattle.beginning.proofs.wrong_start.Lts as lts
-use Rattle.beginning.proofs.holds_own.Reads as holds-own-reads
 
 abbrev Inv-loop : tie.InvT-loop
 Inv-loop modules modes homes starting m₀ m = (m ≤ 16) × Passed (startTest starting modules modes homes) m
@@ -16,21 +13,6 @@ abbrev μ-loop : tie.MeasureT-loop
 
 loop-holds : tie.Need-loop-holds Inv-loop μ-loop
 loop-holds c = (search needs, passed-none)
-
-mul-start : tie.Need-mul-start Inv-loop μ-loop
-mul-start c = search needs
-
-array-copy-out-start : tie.Need-array-copy-out-start Inv-loop μ-loop
-array-copy-out-start c = search needs
-
-holds-own-requires : tie.Need-holds-own-requires Inv-loop μ-loop
-holds-own-requires c κs = search needs
-
-add-m : tie.Need-add-m Inv-loop μ-loop
-add-m c = search needs
-
-loop-less : tie.Need-loop-less Inv-loop μ-loop
-loop-less c = search needs
 
 loop-again : tie.Need-loop-again Inv-loop μ-loop
 unfolding startTest
@@ -46,15 +28,5 @@ returns-2 c = passed-end (c .before .loop .inv .1) (c .before .loop .inv .0) (c 
 pub wrong-start-spec : {M : Type 1} → statement M
 wrong-start-spec =
     tie.close
-    (tie.spec
-    Inv-loop
-    μ-loop
-    loop-holds
-    mul-start
-    array-copy-out-start
-    holds-own-requires
-    add-m
-    loop-less
-    loop-again
-    returns
-    returns-2)
+    (tie.spec Inv-loop μ-loop loop-holds (λ c. search needs) (λ c. search needs) (λ c κs. search needs) (λ c. search needs)
+    (λ c. search needs) loop-again returns returns-2)

@@ -2,8 +2,6 @@ use borrow.Author.Needs.{needs}
 use Rattle.framerows.proofs.Filled.{end-none, end-all}
 use Rattle.framerows.proofs.end_in.Statement.{statement}
 use Rattle.framerows.proofs.end_in.Tie as tie
-use Rattle.framerows.proofs.end_in.Reads as reads
-use Rattle.framerows.proofs.end_in.Lts as lts
 
 returns : tie.Need-returns
 returns c = (end-none _ (search needs), search needs)

@@ -2,8 +2,6 @@ use borrow.Author.Needs.{needs}
 use Rattle.framerows.proofs.Filled.{within-below, within-past}
 use Rattle.framerows.proofs.within.Statement.{statement}
 use Rattle.framerows.proofs.within.Tie as tie
-use Rattle.framerows.proofs.within.Reads as reads
-use Rattle.framerows.proofs.within.Lts as lts
 
 returns : tie.Need-returns
 returns c = (within-below _ (search needs), search needs)

@@ -15,23 +15,11 @@ abbrev μ-loop : tie.MeasureT-loop
 μ-loop task period worst runs cycle tasks₀ releases₀ deadlines₀ limit size tree₀ root₀ count₀ tasks releases deadlines tree root count =
     limitOf cycle - root
 
-add-limit : tie.Need-add-limit Inv-loop μ-loop
-add-limit c = search needs
-
-mul-limit : tie.Need-mul-limit Inv-loop μ-loop
-mul-limit c = search needs
-
-leaves-requires : tie.Need-leaves-requires Inv-loop μ-loop
-leaves-requires c κs = search needs
-
 plant-requires : tie.Need-plant-requires Inv-loop μ-loop
 plant-requires c κs = ready _ _ _ _ _ _ (c .leaves .ensures) (c .before .pre .1 .0) (c .before .pre .1 .1)
 
 grow-requires : tie.Need-grow-requires Inv-loop μ-loop
 grow-requires c κs = (c .before .plant .ensures .places, (c .before .before .leaves .ensures .1, c .before .before .leaves .ensures .2))
-
-array-read-root : tie.Need-array-read-root Inv-loop μ-loop
-array-read-root c = search needs
 
 loop-holds : tie.Need-loop-holds Inv-loop μ-loop
 loop-holds c =
@@ -42,9 +30,6 @@ meet-requires : tie.Need-meet-requires Inv-loop μ-loop
 meet-requires c κs =
     let p = place-of _ _ _ _ _ _ _ _ _ (c .before .before .loop .inv .0) (c .before .before .loop .inv .1) (omega arith) refl refl in
     (c .before .before .loop .inv .0, ((p .begun, p .inside, p .short), (p .waiting, c .before .before .loop .inv .1 .root-is)))
-
-cast-put : tie.Need-cast-put Inv-loop μ-loop
-cast-put c = search needs
 
 put-requires : tie.Need-put-requires Inv-loop μ-loop
 put-requires c κs = let p = place-of _ _ _ _ _ _ _ _ _ (c .before .before .before .before .before .before .loop .inv .0) (c .before .before .before .before .before .before .loop .inv .1) (omega arith) refl refl in (p .short, c .before .before .before .before .before .before .loop .inv .1 .room)
@@ -64,20 +49,5 @@ returns-2 c = walked-all _ _ _ _ _ _ _ _ _ (c .before .loop .inv .0) (c .before 
 pub derive-spec : {M : Type 1} → statement M
 derive-spec =
     tie.close
-    (tie.spec
-    Inv-loop
-    μ-loop
-    add-limit
-    mul-limit
-    leaves-requires
-    plant-requires
-    grow-requires
-    array-read-root
-    loop-holds
-    meet-requires
-    cast-put
-    put-requires
-    returns
-    loop-less
-    loop-again
-    returns-2)
+    (tie.spec Inv-loop μ-loop (λ c. search needs) (λ c. search needs) (λ c κs. search needs) plant-requires grow-requires
+    (λ c. search needs) loop-holds meet-requires (λ c. search needs) put-requires returns loop-less loop-again returns-2)

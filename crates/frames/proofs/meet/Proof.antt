@@ -15,49 +15,13 @@ Inv-loop task period worst runs cycle size d t first tree₀ end root₀ best₀
 abbrev μ-loop : tie.MeasureT-loop
 μ-loop task period worst runs cycle size d t first tree₀ end root₀ best₀ tree root best = suc (codeOf d t) * 64 - root
 
-mul-end : tie.Need-mul-end Inv-loop μ-loop
-mul-end c = search needs
-
-add-end : tie.Need-add-end Inv-loop μ-loop
-add-end c = search needs
-
-add-end-2 : tie.Need-add-end-2 Inv-loop μ-loop
-add-end-2 c = search needs
-
-mul-end-2 : tie.Need-mul-end-2 Inv-loop μ-loop
-mul-end-2 c = search needs
-
 loop-holds : tie.Need-loop-holds Inv-loop μ-loop
 loop-holds c = taking-start _ _ _ _ _ _ _ _ (c .pre .0) (c .pre .1 .1 .0) (c .pre .1 .1 .1)
-
-cast-i : tie.Need-cast-i Inv-loop μ-loop
-cast-i c = search needs
-
-mul-behind-release : tie.Need-mul-behind-release Inv-loop μ-loop
-mul-behind-release c = search needs
-
-element-copy-out-behind-release : tie.Need-element-copy-out-behind-release Inv-loop μ-loop
-element-copy-out-behind-release c = search needs
-
-mul-behind-release-2 : tie.Need-mul-behind-release-2 Inv-loop μ-loop
-mul-behind-release-2 c = search needs
-
-element-copy-out-behind-release-2 : tie.Need-element-copy-out-behind-release-2 Inv-loop μ-loop
-element-copy-out-behind-release-2 c = search needs
 
 behind-release-requires : tie.Need-behind-release-requires Inv-loop μ-loop
 behind-release-requires c κs =
     let e = ending _ _ _ _ _ _ _ _ (c .before .before .before .before .pre .0) (c .before .before .before .before .pre .1 .0 .1) (c .before .before .before .before .pre .1 .0 .2) (c .before .before .before .loop .inv) (omega arith) refl in
     (le-of-dvd (c .before .before .before .before .pre .1 .0 .0) (e .multiple), (e .fair .slow, omega (arith, c .before .before .before .before .pre .1 .0 .1, c .before .before .before .before .pre .0 .short)))
-
-larger-requires : tie.Need-larger-requires Inv-loop μ-loop
-larger-requires c κs = search needs
-
-mul-raise : tie.Need-mul-raise Inv-loop μ-loop
-mul-raise c = search needs
-
-element-copy-out-raise : tie.Need-element-copy-out-raise Inv-loop μ-loop
-element-copy-out-raise c = search needs
 
 mul-raise-2 : tie.Need-mul-raise-2 Inv-loop μ-loop
 mul-raise-2 c = let e = ending _ _ _ _ _ _ _ _ (c .before .before .before .before .before .before .before .before .pre .0) (c .before .before .before .before .before .before .before .before .pre .1 .0 .1) (c .before .before .before .before .before .before .before .before .pre .1 .0 .2) (c .before .before .before .before .before .before .before .loop .inv) (omega arith) refl in omega (arith, e .fair .within, c .before .before .before .before .before .before .before .before .pre .0 .short)
@@ -82,26 +46,6 @@ returns c = taking-end _ _ _ _ _ _ _ _ (c .before .before .pre .0) (c .before .l
 pub meet-spec : {M : Type 1} → statement M
 meet-spec =
     tie.close
-    (tie.spec
-    Inv-loop
-    μ-loop
-    mul-end
-    add-end
-    add-end-2
-    mul-end-2
-    loop-holds
-    cast-i
-    mul-behind-release
-    element-copy-out-behind-release
-    mul-behind-release-2
-    element-copy-out-behind-release-2
-    behind-release-requires
-    larger-requires
-    mul-raise
-    element-copy-out-raise
-    mul-raise-2
-    add-raise
-    raise-requires
-    loop-less
-    loop-again
-    returns)
+    (tie.spec Inv-loop μ-loop (λ c. search needs) (λ c. search needs) (λ c. search needs) (λ c. search needs) loop-holds
+    (λ c. search needs) (λ c. search needs) (λ c. search needs) (λ c. search needs) (λ c. search needs) behind-release-requires
+    (λ c κs. search needs) (λ c. search needs) (λ c. search needs) mul-raise-2 add-raise raise-requires loop-less loop-again returns)

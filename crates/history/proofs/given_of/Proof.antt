@@ -5,8 +5,6 @@ use mathlib.Core.Path.{refl}
 use borrow.Author.Needs.{needs}
 use Rattle.history.proofs.given_of.Statement.{statement}
 use Rattle.history.proofs.given_of.Tie as tie
-use Rattle.history.proofs.given_of.Reads as reads
-use Rattle.history.proofs.given_of.Lts as lts
 
 abbrev Inv-loop : tie.InvT-loop
 Inv-loop places given₀ t₀ given t = (t ≤ 32) × Filled given₀ (givenAt places) t given
@@ -16,24 +14,6 @@ abbrev μ-loop : tie.MeasureT-loop
 
 loop-holds : tie.Need-loop-holds Inv-loop μ-loop
 loop-holds c = (search needs, filled-none)
-
-mul-there : tie.Need-mul-there Inv-loop μ-loop
-mul-there c = search needs
-
-array-copy-out-there : tie.Need-array-copy-out-there Inv-loop μ-loop
-array-copy-out-there c = search needs
-
-mul-given : tie.Need-mul-given Inv-loop μ-loop
-mul-given c = search needs
-
-array-set-from-given : tie.Need-array-set-from-given Inv-loop μ-loop
-array-set-from-given c = search needs
-
-add-t : tie.Need-add-t Inv-loop μ-loop
-add-t c = search needs
-
-loop-less : tie.Need-loop-less Inv-loop μ-loop
-loop-less c = search needs
 
 loop-again : tie.Need-loop-again Inv-loop μ-loop
 loop-again c = (search needs, filled-turn (c .before .before .loop .inv .1) refl)
@@ -45,15 +25,5 @@ returns c = filled-end (c .before .loop .inv .1) (c .before .loop .inv .0) (c .l
 pub given-of-spec : {M : Type 1} → statement M
 given-of-spec =
     tie.close
-    (tie.spec
-    Inv-loop
-    μ-loop
-    loop-holds
-    mul-there
-    array-copy-out-there
-    mul-given
-    array-set-from-given
-    add-t
-    loop-less
-    loop-again
-    returns)
+    (tie.spec Inv-loop μ-loop loop-holds (λ c. search needs) (λ c. search needs) (λ c. search needs) (λ c. search needs)
+    (λ c. search needs) (λ c. search needs) loop-again returns)

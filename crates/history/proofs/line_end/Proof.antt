@@ -7,8 +7,6 @@ use mathlib.Core.Path.{_≡_, refl, sym, _∙_}
 use borrow.Author.Needs.{needs}
 use Rattle.history.proofs.line_end.Statement.{statement}
 use Rattle.history.proofs.line_end.Tie as tie
-use Rattle.history.proofs.line_end.Reads as reads
-use Rattle.history.proofs.line_end.Lts as lts
 
 abbrev Inv-loop : tie.InvT-loop
 Inv-loop s from at₀ at = (lineEnd s at ≡ lineEnd s from) × (from ≤ length s → at ≤ length s) × (from ≤ at)
@@ -19,17 +17,8 @@ abbrev μ-loop : tie.MeasureT-loop
 loop-holds : tie.Need-loop-holds Inv-loop μ-loop
 loop-holds c = (refl, λ h. h, search needs)
 
-shared-slice-read-if1 : tie.Need-shared-slice-read-if1 Inv-loop μ-loop
-shared-slice-read-if1 c = search needs
-
 returns : tie.Need-returns Inv-loop μ-loop
 returns c = (sym (line-feed (c .before .before .before .before .args .s .now) (c .before .before .before .loop .at) (c .before .before .loop-test .taken) (c .if1 .taken)) ∙ c .before .before .before .loop .inv .0, (c .before .before .before .loop .inv .1, c .before .before .before .loop .inv .2))
-
-add-at : tie.Need-add-at Inv-loop μ-loop
-add-at c = search needs
-
-loop-less : tie.Need-loop-less Inv-loop μ-loop
-loop-less c = search needs
 
 loop-again : tie.Need-loop-again Inv-loop μ-loop
 loop-again c = (line-more (c .before .before .before .before .args .s .now) (c .before .before .before .loop .at) (c .before .before .loop-test .taken) (c .if1 .left) ∙ c .before .before .before .loop .inv .0, λ h. omega arith, omega arith)
@@ -40,13 +29,4 @@ returns-2 c = (sym (line-over (c .before .before .args .s .now) (c .before .loop
 pub line-end-spec : {M : Type 1} → statement M
 line-end-spec =
     tie.close
-    (tie.spec
-    Inv-loop
-    μ-loop
-    loop-holds
-    shared-slice-read-if1
-    returns
-    add-at
-    loop-less
-    loop-again
-    returns-2)
+    (tie.spec Inv-loop μ-loop loop-holds (λ c. search needs) returns (λ c. search needs) (λ c. search needs) loop-again returns-2)

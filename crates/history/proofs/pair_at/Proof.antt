@@ -2,40 +2,6 @@ use Rattle.history.specs.Reading.{pairAt}
 use borrow.Author.Needs.{needs}
 use Rattle.history.proofs.pair_at.Statement.{statement}
 use Rattle.history.proofs.pair_at.Tie as tie
-use Rattle.history.proofs.pair_at.Reads as reads
-use Rattle.history.proofs.pair_at.Lts as lts
-use Rattle.history.proofs.behind.Reads as behind-reads
-use Rattle.text.proofs.read_decimal.Reads as read-decimal-reads
-
-read-decimal-requires : tie.Need-read-decimal-requires
-read-decimal-requires c κs = search needs
-
-enum-told : tie.Need-enum-told
-enum-told c = search needs
-
-enum-known-place : tie.Need-enum-known-place
-enum-known-place c = search needs
-
-slice-aggregate-behind : tie.Need-slice-aggregate-behind
-slice-aggregate-behind c = search needs
-
-behind-requires : tie.Need-behind-requires
-behind-requires c κs = search needs
-
-enum-told-2 : tie.Need-enum-told-2
-enum-told-2 c = search needs
-
-enum-known-second : tie.Need-enum-known-second
-enum-known-second c = search needs
-
-read-decimal-requires-2 : tie.Need-read-decimal-requires-2
-read-decimal-requires-2 c κs = search needs
-
-enum-told-3 : tie.Need-enum-told-3
-enum-told-3 c = search needs
-
-enum-known-value : tie.Need-enum-known-value
-enum-known-value c = search needs
 
 returns : tie.Need-returns
 unfolding pairAt
@@ -56,18 +22,6 @@ returns-4 c = rw (← c .before .before .before .before .before .before .before 
 pub pair-at-spec : {M : Type 1} → statement M
 pair-at-spec =
     tie.close
-    (tie.spec
-    read-decimal-requires
-    enum-told
-    enum-known-place
-    slice-aggregate-behind
-    behind-requires
-    enum-told-2
-    enum-known-second
-    read-decimal-requires-2
-    enum-told-3
-    enum-known-value
-    returns
-    returns-2
-    returns-3
-    returns-4)
+    (tie.spec (λ c κs. search needs) (λ c. search needs) (λ c. search needs) (λ c. search needs) (λ c κs. search needs)
+    (λ c. search needs) (λ c. search needs) (λ c κs. search needs) (λ c. search needs) (λ c. search needs) returns returns-2
+    returns-3 returns-4)

@@ -12,34 +12,14 @@ use Rattle.line.proofs.Ways.{lays-refused, lays-sound, ten-message, ten
 use borrow.Author.Needs.{needs}
 use Rattle.line.proofs.closed.Statement.{statement}
 use Rattle.line.proofs.closed.Tie as tie
-use Rattle.line.proofs.closed.Reads as reads
-use Rattle.line.proofs.closed.Lts as lts
-use Rattle.cycle.proofs.control.control_end.Reads as control-end-reads
-use Rattle.cycle.proofs.control.control_rows.Reads as control-rows-reads
-use Rattle.line.proofs.controls_fit.Reads as controls-fit-reads
-use Rattle.line.proofs.line_of.Reads as line-of-reads
-use Rattle.line.proofs.messages_fit.Reads as messages-fit-reads
-use Rattle.line.proofs.refused.Reads as refused-reads
-
-messages-fit-requires : tie.Need-messages-fit-requires
-messages-fit-requires c κs = search needs
-
-refused-requires : tie.Need-refused-requires
-refused-requires c κs = search needs
 
 returns : tie.Need-returns
 unfolding seen sendersOf countSeen busSeen
 returns c = lays-refused PayloadTooLarge _ _ (c .refused .ensures) (ten-message (seen (c .before .before .before .before .before .args .t1)) _ _ (omega (arith, c .before .before .before .before .before .pre .0 .taskCount .most)) (omega (arith, c .before .before .before .before .before .pre .0 .nodeCount .most)) (ap (λ (x : Senders). x .tasks) (c .before .before .before .before .before .pre .1 .0)) (ap (λ (x : Senders). x .payloads) (c .before .before .before .before .before .pre .1 .0)) (c .before .before .before .before .before .pre .1 .1 .1 .1) (sym (c .before .before .messages-fit .ensures) ∙ not-true _ (c .before .if1 .taken)))
 
-element-copy-out-controls-fit : tie.Need-element-copy-out-controls-fit
-element-copy-out-controls-fit c = search needs
-
 controls-fit-requires : tie.Need-controls-fit-requires
 unfolding seen sendersOf countSeen busSeen
 controls-fit-requires c κs = (omega (arith, c .before .before .before .before .before .pre .0 .nodeCount .most))
-
-refused-requires-2 : tie.Need-refused-requires-2
-refused-requires-2 c κs = search needs
 
 returns-2 : tie.Need-returns-2
 unfolding seen sendersOf countSeen busSeen
@@ -48,9 +28,6 @@ returns-2 c = lays-refused PayloadTooLarge _ _ (c .refused2 .ensures) (ten-contr
 control-end-requires : tie.Need-control-end-requires
 unfolding seen sendersOf countSeen busSeen
 control-end-requires c κs = (c .before .before .before .before .before .before .before .pre .0 .nodeCount .most, (ap (λ (x : Senders). x .payloads) (c .before .before .before .before .before .before .before .pre .1 .0)))
-
-refused-requires-3 : tie.Need-refused-requires-3
-refused-requires-3 c κs = search needs
 
 returns-3 : tie.Need-returns-3
 unfolding seen sendersOf countSeen busSeen
@@ -71,17 +48,5 @@ returns-4 c = lays-sound (layoutOf (seen (c .before .before .before .before .bef
 pub closed-spec : {M : Type 1} → statement M
 closed-spec =
     tie.close
-    (tie.spec
-    messages-fit-requires
-    refused-requires
-    returns
-    element-copy-out-controls-fit
-    controls-fit-requires
-    refused-requires-2
-    returns-2
-    control-end-requires
-    refused-requires-3
-    returns-3
-    control-rows-requires
-    line-of-requires
-    returns-4)
+    (tie.spec (λ c κs. search needs) (λ c κs. search needs) returns (λ c. search needs) controls-fit-requires (λ c κs. search needs)
+    returns-2 control-end-requires (λ c κs. search needs) returns-3 control-rows-requires line-of-requires returns-4)

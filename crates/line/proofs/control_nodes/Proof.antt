@@ -12,8 +12,6 @@ use Rattle.line.proofs.Scans.{any-on, any-here, any-end, all-on, all-he
 use borrow.Author.Needs.{needs}
 use Rattle.line.proofs.control_nodes.Statement.{statement}
 use Rattle.line.proofs.control_nodes.Tie as tie
-use Rattle.line.proofs.control_nodes.Reads as reads
-use Rattle.line.proofs.control_nodes.Lts as lts
 
 abbrev Inv-loop : tie.InvT-loop
 Inv-loop control nodes₀ k₀ nodes k = (k ≤ 8) × (nodes ≡ stores (replicate 8 0) (nodeIn control) k)
@@ -23,21 +21,6 @@ abbrev μ-loop : tie.MeasureT-loop
 
 loop-holds : tie.Need-loop-holds Inv-loop μ-loop
 loop-holds c = (search needs, stores-none _ (nodeIn (c .args .t1)))
-
-mul-nodes : tie.Need-mul-nodes Inv-loop μ-loop
-mul-nodes c = search needs
-
-element-copy-out-nodes : tie.Need-element-copy-out-nodes Inv-loop μ-loop
-element-copy-out-nodes c = search needs
-
-array-write-nodes : tie.Need-array-write-nodes Inv-loop μ-loop
-array-write-nodes c = search needs
-
-add-k : tie.Need-add-k Inv-loop μ-loop
-add-k c = search needs
-
-loop-less : tie.Need-loop-less Inv-loop μ-loop
-loop-less c = search needs
 
 loop-again : tie.Need-loop-again Inv-loop μ-loop
 unfolding nodeIn rowLaid
@@ -49,14 +32,5 @@ returns c = eight-stored _ (nodeIn (c .before .before .args .t1)) _ (c .before .
 pub control-nodes-spec : {M : Type 1} → statement M
 control-nodes-spec =
     tie.close
-    (tie.spec
-    Inv-loop
-    μ-loop
-    loop-holds
-    mul-nodes
-    element-copy-out-nodes
-    array-write-nodes
-    add-k
-    loop-less
-    loop-again
-    returns)
+    (tie.spec Inv-loop μ-loop loop-holds (λ c. search needs) (λ c. search needs) (λ c. search needs) (λ c. search needs)
+    (λ c. search needs) loop-again returns)

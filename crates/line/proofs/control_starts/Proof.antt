@@ -12,8 +12,6 @@ use Rattle.line.proofs.Scans.{any-on, any-here, any-end, all-on, all-he
 use borrow.Author.Needs.{needs}
 use Rattle.line.proofs.control_starts.Statement.{statement}
 use Rattle.line.proofs.control_starts.Tie as tie
-use Rattle.line.proofs.control_starts.Reads as reads
-use Rattle.line.proofs.control_starts.Lts as lts
 
 abbrev Inv-loop : tie.InvT-loop
 Inv-loop control starts₀ k₀ starts k = (k ≤ 8) × (starts ≡ stores (replicate 8 0) (startIn control) k)
@@ -23,24 +21,6 @@ abbrev μ-loop : tie.MeasureT-loop
 
 loop-holds : tie.Need-loop-holds Inv-loop μ-loop
 loop-holds c = (search needs, stores-none _ (startIn (c .args .t1)))
-
-mul-starts : tie.Need-mul-starts Inv-loop μ-loop
-mul-starts c = search needs
-
-element-copy-out-starts : tie.Need-element-copy-out-starts Inv-loop μ-loop
-element-copy-out-starts c = search needs
-
-mul-starts-2 : tie.Need-mul-starts-2 Inv-loop μ-loop
-mul-starts-2 c = search needs
-
-array-write-starts : tie.Need-array-write-starts Inv-loop μ-loop
-array-write-starts c = search needs
-
-add-k : tie.Need-add-k Inv-loop μ-loop
-add-k c = search needs
-
-loop-less : tie.Need-loop-less Inv-loop μ-loop
-loop-less c = search needs
 
 loop-again : tie.Need-loop-again Inv-loop μ-loop
 unfolding startIn rowLaid
@@ -52,15 +32,5 @@ returns c = eight-stored _ (startIn (c .before .before .args .t1)) _ (c .before 
 pub control-starts-spec : {M : Type 1} → statement M
 control-starts-spec =
     tie.close
-    (tie.spec
-    Inv-loop
-    μ-loop
-    loop-holds
-    mul-starts
-    element-copy-out-starts
-    mul-starts-2
-    array-write-starts
-    add-k
-    loop-less
-    loop-again
-    returns)
+    (tie.spec Inv-loop μ-loop loop-holds (λ c. search needs) (λ c. search needs) (λ c. search needs) (λ c. search needs)
+    (λ c. search needs) (λ c. search needs) loop-again returns)

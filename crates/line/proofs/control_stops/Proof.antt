@@ -12,8 +12,6 @@ use Rattle.line.proofs.Scans.{any-on, any-here, any-end, all-on, all-he
 use borrow.Author.Needs.{needs}
 use Rattle.line.proofs.control_stops.Statement.{statement}
 use Rattle.line.proofs.control_stops.Tie as tie
-use Rattle.line.proofs.control_stops.Reads as reads
-use Rattle.line.proofs.control_stops.Lts as lts
 
 abbrev Inv-loop : tie.InvT-loop
 Inv-loop control stops₀ k₀ stops k = (k ≤ 8) × (stops ≡ stores (replicate 8 0) (stopIn control) k)
@@ -23,24 +21,6 @@ abbrev μ-loop : tie.MeasureT-loop
 
 loop-holds : tie.Need-loop-holds Inv-loop μ-loop
 loop-holds c = (search needs, stores-none _ (stopIn (c .args .t1)))
-
-mul-stops : tie.Need-mul-stops Inv-loop μ-loop
-mul-stops c = search needs
-
-element-copy-out-stops : tie.Need-element-copy-out-stops Inv-loop μ-loop
-element-copy-out-stops c = search needs
-
-mul-stops-2 : tie.Need-mul-stops-2 Inv-loop μ-loop
-mul-stops-2 c = search needs
-
-array-write-stops : tie.Need-array-write-stops Inv-loop μ-loop
-array-write-stops c = search needs
-
-add-k : tie.Need-add-k Inv-loop μ-loop
-add-k c = search needs
-
-loop-less : tie.Need-loop-less Inv-loop μ-loop
-loop-less c = search needs
 
 loop-again : tie.Need-loop-again Inv-loop μ-loop
 unfolding stopIn rowLaid
@@ -52,15 +32,5 @@ returns c = eight-stored _ (stopIn (c .before .before .args .t1)) _ (c .before .
 pub control-stops-spec : {M : Type 1} → statement M
 control-stops-spec =
     tie.close
-    (tie.spec
-    Inv-loop
-    μ-loop
-    loop-holds
-    mul-stops
-    element-copy-out-stops
-    mul-stops-2
-    array-write-stops
-    add-k
-    loop-less
-    loop-again
-    returns)
+    (tie.spec Inv-loop μ-loop loop-holds (λ c. search needs) (λ c. search needs) (λ c. search needs) (λ c. search needs)
+    (λ c. search needs) (λ c. search needs) loop-again returns)

@@ -11,9 +11,6 @@ use Rattle.line.proofs.Scans.{any-on, any-here, any-end, all-on, all-he
 use borrow.Author.Needs.{needs}
 use Rattle.line.proofs.controls_fit.Statement.{statement}
 use Rattle.line.proofs.controls_fit.Tie as tie
-use Rattle.line.proofs.controls_fit.Reads as reads
-use Rattle.line.proofs.controls_fit.Lts as lts
-use Rattle.line.proofs.wide.Reads as wide-reads
 
 abbrev Inv-loop : tie.InvT-loop
 Inv-loop nodes most payloads n₀ n = (n ≤ nodes) × (all (payloadKeeps payloads most) (upTo n) ≡ true)
@@ -24,20 +21,8 @@ abbrev μ-loop : tie.MeasureT-loop
 loop-holds : tie.Need-loop-holds Inv-loop μ-loop
 loop-holds c = (search needs, refl)
 
-array-read-wide : tie.Need-array-read-wide Inv-loop μ-loop
-array-read-wide c = search needs
-
-wide-requires : tie.Need-wide-requires Inv-loop μ-loop
-wide-requires c κs = search needs
-
 returns : tie.Need-returns Inv-loop μ-loop
 returns c = all-here (payloadKeeps (c .before .before .before .before .args .t1) (c .before .before .before .before .args .most)) _ _ (c .before .before .loop-test .taken) (payload-too-large (c .before .before .before .before .args .t1) _ _ _ (c .before .wide .ensures) (c .if1 .taken))
-
-add-n : tie.Need-add-n Inv-loop μ-loop
-add-n c = search needs
-
-loop-less : tie.Need-loop-less Inv-loop μ-loop
-loop-less c = search needs
 
 loop-again : tie.Need-loop-again Inv-loop μ-loop
 loop-again c = (search needs, all-on (payloadKeeps (c .before .before .before .before .args .t1) (c .before .before .before .before .args .most)) _ (c .before .before .before .loop .inv .1) (payload-fits (c .before .before .before .before .args .t1) _ _ _ (c .before .wide .ensures) (c .if1 .left)))
@@ -48,14 +33,5 @@ returns-2 c = all-end (payloadKeeps (c .before .before .args .t1) (c .before .be
 pub controls-fit-spec : {M : Type 1} → statement M
 controls-fit-spec =
     tie.close
-    (tie.spec
-    Inv-loop
-    μ-loop
-    loop-holds
-    array-read-wide
-    wide-requires
-    returns
-    add-n
-    loop-less
-    loop-again
-    returns-2)
+    (tie.spec Inv-loop μ-loop loop-holds (λ c. search needs) (λ c κs. search needs) returns (λ c. search needs) (λ c. search needs)
+    loop-again returns-2)

@@ -6,17 +6,9 @@ use Rattle.line.proofs.Framing.{runs-few, period-short, all-fair, frame
 use borrow.Author.Needs.{needs}
 use Rattle.line.proofs.framed.Statement.{statement}
 use Rattle.line.proofs.framed.Tie as tie
-use Rattle.line.proofs.framed.Reads as reads
-use Rattle.line.proofs.framed.Lts as lts
-use Rattle.frames.proofs.laid.Frames.of.Reads as of-reads
-use Rattle.line.proofs.closed.Reads as closed-reads
-use Rattle.line.proofs.refused.Reads as refused-reads
 
 of-requires : tie.Need-of-requires
 of-requires c κs = (runs-few (seen (c .args .p)) (c .pre .0) (c .args .runs) _ (c .pre .1 .1 .0 .1) (c .pre .1 .1 .0 .2), (period-short (seen (c .args .p)) (c .pre .0) (c .args .runs) _ (c .pre .1 .1 .0 .1) (c .pre .1 .1 .0 .2) (c .pre .1 .0 .0) (c .pre .1 .0 .1), all-fair (seen (c .args .p)) (c .pre .0) (c .args .runs) _ (c .pre .1 .1 .0 .1) (c .pre .1 .1 .0 .2) (c .pre .1 .0 .0) (c .pre .1 .0 .1)))
-
-refused-requires : tie.Need-refused-requires
-refused-requires c κs = search needs
 
 returns : tie.Need-returns
 returns c = lays-refused TooManyFrames _ _ (c .refused .ensures) (nine (seen (c .before .before .before .args .p)) (c .before .before .before .pre .0) (c .before .before .before .args .runs) _ (c .before .before .before .pre .1 .1 .0 .1) (c .before .before .before .pre .1 .1 .0 .2) _ (c .before .before .of .ensures) (c .before .before .before .pre .1 .1 .1) (c .before .if1 .taken))
@@ -24,8 +16,5 @@ returns c = lays-refused TooManyFrames _ _ (c .refused .ensures) (nine (seen (c 
 closed-requires : tie.Need-closed-requires
 closed-requires c κs = (c .before .before .before .before .before .before .pre .0, (c .before .before .before .before .before .before .pre .1 .1 .0 .0, ((c .before .before .before .before .before .before .pre .1 .1 .0 .2, period-short (seen (c .before .before .before .before .before .before .args .p)) (c .before .before .before .before .before .before .pre .0) (c .before .before .before .before .before .before .args .runs) _ (c .before .before .before .before .before .before .pre .1 .1 .0 .1) (c .before .before .before .before .before .before .pre .1 .1 .0 .2) (c .before .before .before .before .before .before .pre .1 .0 .0) (c .before .before .before .before .before .before .pre .1 .0 .1)), ((sym (frames-laid (seen (c .before .before .before .before .before .before .args .p)) (c .before .before .before .before .before .before .pre .0) (c .before .before .before .before .before .before .args .runs) _ (c .before .before .before .before .before .before .pre .1 .1 .0 .1) (c .before .before .before .before .before .before .pre .1 .1 .0 .2) _ (c .before .before .before .before .before .of .ensures)), few-frames (seen (c .before .before .before .before .before .before .args .p)) (c .before .before .before .before .before .before .pre .0) (c .before .before .before .before .before .before .args .runs) _ (c .before .before .before .before .before .before .pre .1 .1 .0 .1) (c .before .before .before .before .before .before .pre .1 .1 .0 .2) _ (c .before .before .before .before .before .of .ensures) (c .before .before .before .before .if1 .left)), onward (seen (c .before .before .before .before .before .before .args .p)) (c .before .before .before .before .before .before .pre .0) (c .before .before .before .before .before .before .args .runs) _ (c .before .before .before .before .before .before .pre .1 .1 .0 .1) (c .before .before .before .before .before .before .pre .1 .1 .0 .2) _ (c .before .before .before .before .before .of .ensures) (c .before .before .before .before .before .before .pre .1 .1 .1) (c .before .before .before .before .if1 .left)))))
 
-returns-2 : tie.Need-returns-2
-returns-2 c = search needs
-
 pub framed-spec : {M : Type 1} → statement M
-framed-spec = tie.close (tie.spec of-requires refused-requires returns closed-requires returns-2)
+framed-spec = tie.close (tie.spec of-requires (λ c κs. search needs) returns closed-requires (λ c. search needs))

@@ -6,35 +6,10 @@ use Rattle.line.proofs.Built.{line-is}
 use borrow.Author.Needs.{needs}
 use Rattle.line.proofs.line_of.Statement.{statement}
 use Rattle.line.proofs.line_of.Tie as tie
-use Rattle.line.proofs.line_of.Reads as reads
-use Rattle.line.proofs.line_of.Lts as lts
-use Rattle.bus.proofs.times.gap_time.Reads as gap-time-reads
-use Rattle.line.proofs.control_nodes.Reads as control-nodes-reads
-use Rattle.line.proofs.control_starts.Reads as control-starts-reads
-use Rattle.line.proofs.control_stops.Reads as control-stops-reads
-use Rattle.line.proofs.times.Reads as times-reads
-
-gap-time-requires : tie.Need-gap-time-requires
-gap-time-requires c κs = search needs
 
 cast-gap : tie.Need-cast-gap
 unfolding seen
 cast-gap c = record { fits = rw (c .before .gap-time .ensures .0) (gap-small (seen (c .before .before .before .args .p) .bus) (c .before .before .before .pre .0 .bus)) }
-
-times-requires : tie.Need-times-requires
-times-requires c κs = search needs
-
-control-nodes-requires : tie.Need-control-nodes-requires
-control-nodes-requires c κs = search needs
-
-control-starts-requires : tie.Need-control-starts-requires
-control-starts-requires c κs = search needs
-
-control-stops-requires : tie.Need-control-stops-requires
-control-stops-requires c κs = search needs
-
-cast-t22 : tie.Need-cast-t22
-cast-t22 c = search needs
 
 returns : tie.Need-returns
 unfolding seen busSeen
@@ -44,12 +19,5 @@ returns c =
 pub line-of-spec : {M : Type 1} → statement M
 line-of-spec =
     tie.close
-    (tie.spec
-    gap-time-requires
-    cast-gap
-    times-requires
-    control-nodes-requires
-    control-starts-requires
-    control-stops-requires
-    cast-t22
-    returns)
+    (tie.spec (λ c κs. search needs) cast-gap (λ c κs. search needs) (λ c κs. search needs) (λ c κs. search needs)
+    (λ c κs. search needs) (λ c. search needs) returns)

@@ -1,4 +1,3 @@
-use borrow.Author.Needs.{needs}
 use Rattle.line.proofs.message_keeps.Statement.{statement}
 use Rattle.line.proofs.message_keeps.Tie as tie
 

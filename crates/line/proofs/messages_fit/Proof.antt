@@ -19,23 +19,8 @@ Inv-loop p tasks count t₀ t = (t ≤ count) × (all (messageKeeps tasks (seen 
 abbrev μ-loop : tie.MeasureT-loop
 μ-loop p tasks count t₀ t = count - t
 
-task-count-requires : tie.Need-task-count-requires Inv-loop μ-loop
-task-count-requires c κs = search needs
-
 loop-holds : tie.Need-loop-holds Inv-loop μ-loop
 loop-holds c = (search needs, refl)
-
-array-read-message-keeps : tie.Need-array-read-message-keeps Inv-loop μ-loop
-array-read-message-keeps c = search needs
-
-mul-message-keeps : tie.Need-mul-message-keeps Inv-loop μ-loop
-mul-message-keeps c = search needs
-
-element-copy-out-message-keeps : tie.Need-element-copy-out-message-keeps Inv-loop μ-loop
-element-copy-out-message-keeps c = search needs
-
-message-keeps-requires : tie.Need-message-keeps-requires Inv-loop μ-loop
-message-keeps-requires c κs = search needs
 
 returns : tie.Need-returns Inv-loop μ-loop
 unfolding seen busSeen taskLaid
@@ -43,12 +28,6 @@ returns c =
     let p = c .before .before .before .before .before .args .t1 in
     let w : c .before .before .before .loop .t < length (seen p .tasks) = omega arith in
     rw (← (c .before .before .before .before .task-count .ensures .0)) (all-here (messageKeeps (c .before .before .before .before .before .args .t2) (seen p)) _ _ (c .before .before .loop-test .taken) (message-test _ (seen p) _ _ _ (size-of p _ w) (c .before .message-keeps .ensures) ∙ not-true _ (c .if1 .taken)))
-
-add-t : tie.Need-add-t Inv-loop μ-loop
-add-t c = search needs
-
-loop-less : tie.Need-loop-less Inv-loop μ-loop
-loop-less c = search needs
 
 loop-again : tie.Need-loop-again Inv-loop μ-loop
 unfolding seen busSeen taskLaid
@@ -63,17 +42,5 @@ returns-2 c = rw (← (c .before .before .task-count .ensures .0)) (all-end (mes
 pub messages-fit-spec : {M : Type 1} → statement M
 messages-fit-spec =
     tie.close
-    (tie.spec
-    Inv-loop
-    μ-loop
-    task-count-requires
-    loop-holds
-    array-read-message-keeps
-    mul-message-keeps
-    element-copy-out-message-keeps
-    message-keeps-requires
-    returns
-    add-t
-    loop-less
-    loop-again
-    returns-2)
+    (tie.spec Inv-loop μ-loop (λ c κs. search needs) loop-holds (λ c. search needs) (λ c. search needs) (λ c. search needs)
+    (λ c κs. search needs) returns (λ c. search needs) (λ c. search needs) loop-again returns-2)

@@ -11,8 +11,6 @@ use Rattle.line.proofs.Scans.{any-on, any-here, any-end, all-on, all-he
 use borrow.Author.Needs.{needs}
 use Rattle.line.proofs.some_bus_task.Statement.{statement}
 use Rattle.line.proofs.some_bus_task.Tie as tie
-use Rattle.line.proofs.some_bus_task.Reads as reads
-use Rattle.line.proofs.some_bus_task.Lts as lts
 
 abbrev Inv-loop : tie.InvT-loop
 Inv-loop count tasks t₀ t = (t ≤ count) × (any (flagAt tasks) (upTo t) ≡ false)
@@ -23,18 +21,9 @@ abbrev μ-loop : tie.MeasureT-loop
 loop-holds : tie.Need-loop-holds Inv-loop μ-loop
 loop-holds c = (search needs, refl)
 
-array-read-if1 : tie.Need-array-read-if1 Inv-loop μ-loop
-array-read-if1 c = search needs
-
 returns : tie.Need-returns Inv-loop μ-loop
 unfolding flagAt
 returns c = any-here (flagAt (c .before .before .before .args .t1)) _ _ (c .before .loop-test .taken) (c .if1 .taken)
-
-add-t : tie.Need-add-t Inv-loop μ-loop
-add-t c = search needs
-
-loop-less : tie.Need-loop-less Inv-loop μ-loop
-loop-less c = search needs
 
 loop-again : tie.Need-loop-again Inv-loop μ-loop
 unfolding flagAt
@@ -46,13 +35,4 @@ returns-2 c = any-end (flagAt (c .before .before .args .t1)) _ _ (c .before .loo
 pub some-bus-task-spec : {M : Type 1} → statement M
 some-bus-task-spec =
     tie.close
-    (tie.spec
-    Inv-loop
-    μ-loop
-    loop-holds
-    array-read-if1
-    returns
-    add-t
-    loop-less
-    loop-again
-    returns-2)
+    (tie.spec Inv-loop μ-loop loop-holds (λ c. search needs) returns (λ c. search needs) (λ c. search needs) loop-again returns-2)

@@ -17,12 +17,6 @@ Inv-loop p bus count none time₀ t₀ time t = (t ≤ count) × (time ≡ store
 abbrev μ-loop : tie.MeasureT-loop
 μ-loop p bus count none time₀ t₀ time t = count - t
 
-task-count-requires : tie.Need-task-count-requires Inv-loop μ-loop
-task-count-requires c κs = search needs
-
-sending-time-requires : tie.Need-sending-time-requires Inv-loop μ-loop
-sending-time-requires c κs = search needs
-
 cast-none : tie.Need-cast-none Inv-loop μ-loop
 unfolding seen taskLaid
 cast-none c = record { fits = no-time-small (seen (c .before .before .before .before .args .t1)) (c .before .before .before .before .pre) _ (c .before .sending-time .ensures .0) }
@@ -30,33 +24,12 @@ cast-none c = record { fits = no-time-small (seen (c .before .before .before .be
 loop-holds : tie.Need-loop-holds Inv-loop μ-loop
 loop-holds c = (search needs, stores-none _ (taskTime (seen (c .before .before .before .before .args .t1))))
 
-mul-task : tie.Need-mul-task Inv-loop μ-loop
-mul-task c = search needs
-
-element-copy-out-task : tie.Need-element-copy-out-task Inv-loop μ-loop
-element-copy-out-task c = search needs
-
-sending-time-requires-2 : tie.Need-sending-time-requires-2 Inv-loop μ-loop
-sending-time-requires-2 c κs = search needs
-
 cast-time : tie.Need-cast-time Inv-loop μ-loop
 unfolding seen taskLaid
 cast-time c =
     let p = c .before .before .before .before .before .before .before .before .before .args .t1 in
     let w : c .before .before .before .before .loop .t < length (seen p .tasks) = omega arith in
     record { fits = time-small (seen p) (c .before .before .before .before .before .before .before .before .before .pre) _ _ _ (size-of p _ w) (c .before .sending-time2 .ensures .0) }
-
-mul-time : tie.Need-mul-time Inv-loop μ-loop
-mul-time c = search needs
-
-array-write-time : tie.Need-array-write-time Inv-loop μ-loop
-array-write-time c = search needs
-
-add-t : tie.Need-add-t Inv-loop μ-loop
-add-t c = search needs
-
-loop-less : tie.Need-loop-less Inv-loop μ-loop
-loop-less c = search needs
 
 loop-again : tie.Need-loop-again Inv-loop μ-loop
 unfolding seen taskLaid
@@ -72,20 +45,6 @@ returns c = times-stored (seen (c .before .before .before .before .before .befor
 pub times-spec : {M : Type 1} → statement M
 times-spec =
     tie.close
-    (tie.spec
-    Inv-loop
-    μ-loop
-    task-count-requires
-    sending-time-requires
-    cast-none
-    loop-holds
-    mul-task
-    element-copy-out-task
-    sending-time-requires-2
-    cast-time
-    mul-time
-    array-write-time
-    add-t
-    loop-less
-    loop-again
-    returns)
+    (tie.spec Inv-loop μ-loop (λ c κs. search needs) (λ c κs. search needs) cast-none loop-holds (λ c. search needs)
+    (λ c. search needs) (λ c κs. search needs) cast-time (λ c. search needs) (λ c. search needs) (λ c. search needs)
+    (λ c. search needs) loop-again returns)

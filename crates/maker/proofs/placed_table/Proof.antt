@@ -5,27 +5,12 @@ use Rattle.maker.proofs.Ways.{makes-refused, few-frames, few-controls, 
 use borrow.Author.Needs.{needs}
 use Rattle.maker.proofs.placed_table.Statement.{statement}
 use Rattle.maker.proofs.placed_table.Tie as tie
-use Rattle.maker.proofs.placed_table.Reads as reads
-use Rattle.maker.proofs.placed_table.Lts as lts
-use Rattle.maker.proofs.bytes_needed.Reads as bytes-needed-reads
-use Rattle.maker.proofs.refused.Reads as refused-reads
-use Rattle.maker.proofs.written.Reads as written-reads
-use Rattle.placing.proofs.place_all.Reads as place-all-reads
 
 place-all-requires : tie.Need-place-all-requires
 place-all-requires c κs = ((few-frames (c .before .before .before .before .before .before .before .before .before .before .args .t1) (c .before .before .before .before .before .before .before .before .before .before .pre), times-long (c .before .before .before .before .before .before .before .before .before .before .args .t1) (c .before .before .before .before .before .before .before .before .before .before .pre)), deadlines-rising (c .before .before .before .before .before .before .before .before .before .before .args .t1) (c .before .before .before .before .before .before .before .before .before .before .pre))
 
-enum-told : tie.Need-enum-told
-enum-told c = search needs
-
 bytes-needed-requires : tie.Need-bytes-needed-requires
 bytes-needed-requires c κs = (few-controls (c .before .before .before .before .before .before .before .before .before .before .before .before .before .args .t1) (c .before .before .before .before .before .before .before .before .before .before .before .before .before .pre), few-frames (c .before .before .before .before .before .before .before .before .before .before .before .before .before .args .t1) (c .before .before .before .before .before .before .before .before .before .before .before .before .before .pre))
-
-cast-t21 : tie.Need-cast-t21
-cast-t21 c = search needs
-
-refused-requires : tie.Need-refused-requires
-refused-requires c κs = search needs
 
 returns : tie.Need-returns
 unfolding all-placed
@@ -33,15 +18,6 @@ returns c = λ s. short-made (c .before .before .before .before .before .before 
 
 written-requires : tie.Need-written-requires
 written-requires c κs = (all-placed (c .before .before .before .before .before .before .before .before .before .before .before .before .before .before .before .before .args .t1) (c .before .before .before .before .before .before .before .before .before .before .before .before .before .before .before .before .pre) (c .before .before .before .before .before .place-all .result) (c .before .before .before .before .before .place-all .ensures) (c .before .before .before .enum-told .given .1), omega (arith, c .before .before .bytes-needed .ensures .0, c .before .if1 .left))
-
-enum-known-outcome : tie.Need-enum-known-outcome
-enum-known-outcome c = search needs
-
-refused-requires-2 : tie.Need-refused-requires-2
-refused-requires-2 c κs = search needs
-
-same-length : tie.Need-same-length
-same-length c = search needs
 
 returns-2 : tie.Need-returns-2
 unfolding all-placed
@@ -53,16 +29,5 @@ returns-3 c = λ s. makes-refused _ _ (c .before .before .before .before .before
 pub placed-table-spec : {M : Type 1} → statement M
 placed-table-spec =
     tie.close
-    (tie.spec
-    place-all-requires
-    enum-told
-    bytes-needed-requires
-    cast-t21
-    refused-requires
-    returns
-    written-requires
-    enum-known-outcome
-    refused-requires-2
-    same-length
-    returns-2
-    returns-3)
+    (tie.spec place-all-requires (λ c. search needs) bytes-needed-requires (λ c. search needs) (λ c κs. search needs) returns
+    written-requires (λ c. search needs) (λ c κs. search needs) (λ c. search needs) returns-2 returns-3)

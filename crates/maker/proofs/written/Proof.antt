@@ -2,12 +2,6 @@ use Rattle.maker.proofs.Ways.{few-frames, few-controls, tasks-long, dea
 use borrow.Author.Needs.{needs}
 use Rattle.maker.proofs.written.Statement.{statement}
 use Rattle.maker.proofs.written.Tie as tie
-use Rattle.maker.proofs.written.Reads as reads
-use Rattle.maker.proofs.written.Lts as lts
-use Rattle.maker.proofs.bytes_needed.Reads as bytes-needed-reads
-use Rattle.rows.proofs.starts_by_number.Reads as starts-by-number-reads
-use Rattle.rows.proofs.table_rows.Reads as table-rows-reads
-use Rattle.tablebytes.proofs.write_table.Reads as write-table-reads
 
 table-rows-requires : tie.Need-table-rows-requires
 table-rows-requires c κs = (few-frames (c .before .before .before .before .before .before .before .before .args .t1) (c .before .before .before .before .before .before .before .before .pre .0 .stands), (tasks-long (c .before .before .before .before .before .before .before .before .args .t1) (c .before .before .before .before .before .before .before .before .pre .0 .stands), deadlines-long (c .before .before .before .before .before .before .before .before .args .t1) (c .before .before .before .before .before .before .before .before .pre .0 .stands), times-long (c .before .before .before .before .before .before .before .before .args .t1) (c .before .before .before .before .before .before .before .before .pre .0 .stands)))
@@ -21,19 +15,10 @@ starts-by-number-requires c κs = few-frames (c .before .before .before .before 
 bytes-needed-requires : tie.Need-bytes-needed-requires
 bytes-needed-requires c κs = (few-controls (c .before .before .before .before .before .before .before .before .before .before .before .before .before .before .before .before .before .before .before .before .before .before .before .before .before .before .before .before .before .before .args .t1) (c .before .before .before .before .before .before .before .before .before .before .before .before .before .before .before .before .before .before .before .before .before .before .before .before .before .before .before .before .before .before .pre .0 .stands), few-frames (c .before .before .before .before .before .before .before .before .before .before .before .before .before .before .before .before .before .before .before .before .before .before .before .before .before .before .before .before .before .before .args .t1) (c .before .before .before .before .before .before .before .before .before .before .before .before .before .before .before .before .before .before .before .before .before .before .before .before .before .before .before .before .before .before .pre .0 .stands))
 
-same-length : tie.Need-same-length
-same-length c = search needs
-
 returns : tie.Need-returns
 returns c = λ s. written-table (c .before .before .before .before .before .before .before .before .before .before .before .before .before .before .before .before .before .before .before .before .before .before .before .before .before .before .before .before .before .before .before .args .t1) (c .before .before .before .before .before .before .before .before .before .before .before .before .before .before .before .before .before .before .before .before .before .before .before .before .before .before .before .before .before .before .before .args .t2) s _ _ (c .before .before .before .before .before .before .before .before .before .before .before .before .before .before .before .before .before .before .before .before .before .before .before .before .before .before .before .before .before .before .before .args .buf .now) _ _ (c .before .before .before .before .before .before .before .before .before .before .before .before .before .before .before .before .before .before .before .before .before .before .before .before .before .before .before .before .before .before .before .pre .1) (c .before .before .before .before .before .before .before .before .before .before .before .before .before .before .before .before .before .before .before .before .before .before .table-rows .ensures) (c .before .before .before .before .before .before .before .before .before .before .write-table .ensures) (c .before .before .before .before .starts-by-number .ensures) (c .bytes-needed .ensures .0)
 
 pub written-spec : {M : Type 1} → statement M
 written-spec =
     tie.close
-    (tie.spec
-    table-rows-requires
-    write-table-requires
-    starts-by-number-requires
-    bytes-needed-requires
-    same-length
-    returns)
+    (tie.spec table-rows-requires write-table-requires starts-by-number-requires bytes-needed-requires (λ c. search needs) returns)

@@ -4,17 +4,9 @@ use lib.ListN.{List·getD-eq-default}
 use borrow.Author.Needs.{needs}
 use Rattle.places.proofs.flag_at.Statement.{statement}
 use Rattle.places.proofs.flag_at.Tie as tie
-use Rattle.places.proofs.flag_at.Reads as reads
-use Rattle.places.proofs.flag_at.Lts as lts
-
-shared-slice-read-result : tie.Need-shared-slice-read-result
-shared-slice-read-result c = search needs
-
-returns : tie.Need-returns
-returns c = search needs
 
 returns-2 : tie.Need-returns-2
 returns-2 c = sym (List·getD-eq-default (now (c .before .args .a)) _ (c .if1 .left))
 
 pub flag-at-spec : {M : Type 1} → statement M
-flag-at-spec = tie.close (tie.spec shared-slice-read-result returns returns-2)
+flag-at-spec = tie.close (tie.spec (λ c. search needs) (λ c. search needs) returns-2)

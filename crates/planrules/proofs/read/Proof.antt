@@ -4,20 +4,8 @@ use Rattle.planrules.proofs.Judging.{with-outcome, way-broken}
 use Rattle.planrules.proofs.read.Statement.{statement}
 use Rattle.planrules.proofs.read.Tie as tie
 
-gather-requires : tie.Need-gather-requires
-gather-requires c κs = search needs
-
-enum-told : tie.Need-enum-told
-enum-told c = search needs
-
 judged-requires : tie.Need-judged-requires
 judged-requires c κs = sym (c .before .before .gather .ensures) ∙ with-outcome _ _ (c .enum-told .given .1)
-
-enum-known-outcome : tie.Need-enum-known-outcome
-enum-known-outcome c = search needs
-
-refused-requires : tie.Need-refused-requires
-refused-requires c κs = search needs
 
 returns : tie.Need-returns
 returns c = c .judged .ensures
@@ -29,11 +17,4 @@ returns-2 c =
 pub read-spec : {M : Type 1} → statement M
 read-spec =
     tie.close
-    (tie.spec
-    gather-requires
-    enum-told
-    judged-requires
-    enum-known-outcome
-    refused-requires
-    returns
-    returns-2)
+    (tie.spec (λ c κs. search needs) (λ c. search needs) judged-requires (λ c. search needs) (λ c κs. search needs) returns returns-2)

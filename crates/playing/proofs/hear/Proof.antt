@@ -2,47 +2,6 @@ use Rattle.playing.specs.Played.{heardLine}
 use borrow.Author.Needs.{needs}
 use Rattle.playing.proofs.hear.Statement.{statement}
 use Rattle.playing.proofs.hear.Tie as tie
-use Rattle.playing.proofs.hear.Reads as reads
-use Rattle.playing.proofs.hear.Lts as lts
-use Rattle.history.proofs.changes_of.Reads as changes-of-reads
-use Rattle.history.proofs.given_of.Reads as given-of-reads
-use Rattle.history.proofs.read_line.Reads as read-line-reads
-use Rattle.playing.proofs.quiet.Reads as quiet-reads
-use Rattle.playing.proofs.say_unreadable.Reads as say-unreadable-reads
-use Rattle.playing.proofs.tick.Reads as tick-reads
-
-read-line-requires : tie.Need-read-line-requires
-read-line-requires c κs = search needs
-
-enum-told : tie.Need-enum-told
-enum-told c = search needs
-
-given-of-requires : tie.Need-given-of-requires
-given-of-requires c κs = search needs
-
-changes-of-requires : tie.Need-changes-of-requires
-changes-of-requires c κs = search needs
-
-tick-requires : tie.Need-tick-requires
-tick-requires c κs = search needs
-
-enum-known-what : tie.Need-enum-known-what
-enum-known-what c = search needs
-
-quiet-requires : tie.Need-quiet-requires
-quiet-requires c κs = search needs
-
-enum-told-2 : tie.Need-enum-told-2
-enum-told-2 c = search needs
-
-say-unreadable-requires : tie.Need-say-unreadable-requires
-say-unreadable-requires c κs = search needs
-
-enum-told-3 : tie.Need-enum-told-3
-enum-told-3 c = search needs
-
-say-unreadable-requires-2 : tie.Need-say-unreadable-requires-2
-say-unreadable-requires-2 c κs = search needs
 
 returns : tie.Need-returns
 unfolding heardLine
@@ -63,19 +22,6 @@ returns-4 c = rw (← c .before .before .before .read-line .ensures, c .before .
 pub hear-spec : {M : Type 1} → statement M
 hear-spec =
     tie.close
-    (tie.spec
-    read-line-requires
-    enum-told
-    given-of-requires
-    changes-of-requires
-    tick-requires
-    enum-known-what
-    quiet-requires
-    enum-told-2
-    say-unreadable-requires
-    enum-told-3
-    say-unreadable-requires-2
-    returns
-    returns-2
-    returns-3
-    returns-4)
+    (tie.spec (λ c κs. search needs) (λ c. search needs) (λ c κs. search needs) (λ c κs. search needs) (λ c κs. search needs)
+    (λ c. search needs) (λ c κs. search needs) (λ c. search needs) (λ c κs. search needs) (λ c. search needs) (λ c κs. search needs)
+    returns returns-2 returns-3 returns-4)

@@ -7,11 +7,6 @@ use mathlib.Core.Path.{_≡_, refl}
 use borrow.Author.Needs.{needs}
 use Rattle.playing.proofs.hear_lines.Statement.{statement}
 use Rattle.playing.proofs.hear_lines.Tie as tie
-use Rattle.playing.proofs.hear_lines.Reads as reads
-use Rattle.playing.proofs.hear_lines.Lts as lts
-use Rattle.history.proofs.line_end.Reads as line-end-reads
-use Rattle.playing.proofs.behind_end.Reads as behind-end-reads
-use Rattle.playing.proofs.hear.Reads as hear-reads
 
 abbrev Inv-loop : tie.InvT-loop
 Inv-loop station₀ s from at₀ heard₀ station at heard = (heard ≤ at) × Hearing s station₀ from station at
@@ -22,29 +17,14 @@ abbrev μ-loop : tie.MeasureT-loop
 loop-holds : tie.Need-loop-holds Inv-loop μ-loop
 loop-holds c = (search needs, hearing-none)
 
-line-end-requires : tie.Need-line-end-requires Inv-loop μ-loop
-line-end-requires c κs = search needs
-
 add-heard : tie.Need-add-heard Inv-loop μ-loop
 add-heard c = omega (arith, c .before .before .loop .inv .0)
-
-sub-hear : tie.Need-sub-hear Inv-loop μ-loop
-sub-hear c = search needs
-
-part-hear-start : tie.Need-part-hear-start Inv-loop μ-loop
-part-hear-start c = search needs
 
 part-hear-end : tie.Need-part-hear-end Inv-loop μ-loop
 part-hear-end c = let e = c .line-end .ensures .1 .0 (omega arith) in search needs
 
-hear-requires : tie.Need-hear-requires Inv-loop μ-loop
-hear-requires c κs = search needs
-
 returns : tie.Need-returns Inv-loop μ-loop
 returns c = hearing-stops (c .before .before .before .before .before .before .before .loop .inv .1) (c .before .before .before .before .before .before .loop-test .taken) (c .before .before .before .before .before .line-end .ensures .0) refl (c .before .before .before .hear .ensures) (not-true _ (c .if1 .taken))
-
-behind-end-requires : tie.Need-behind-end-requires Inv-loop μ-loop
-behind-end-requires c κs = search needs
 
 loop-less : tie.Need-loop-less Inv-loop μ-loop
 loop-less c = let l = behind-later (c .before .before .before .before .before .before .before .before .before .before .args .s .now) (c .before .before .before .before .before .before .before .loop-test .taken) (c .before .before .before .before .before .before .line-end .ensures .1 .1) (c .behind-end .ensures) in omega arith
@@ -58,18 +38,5 @@ returns-2 c = hearing-end (c .before .loop .inv .1) (c .loop-test .left)
 pub hear-lines-spec : {M : Type 1} → statement M
 hear-lines-spec =
     tie.close
-    (tie.spec
-    Inv-loop
-    μ-loop
-    loop-holds
-    line-end-requires
-    add-heard
-    sub-hear
-    part-hear-start
-    part-hear-end
-    hear-requires
-    returns
-    behind-end-requires
-    loop-less
-    loop-again
-    returns-2)
+    (tie.spec Inv-loop μ-loop loop-holds (λ c κs. search needs) add-heard (λ c. search needs) (λ c. search needs) part-hear-end
+    (λ c κs. search needs) returns (λ c κs. search needs) loop-less loop-again returns-2)

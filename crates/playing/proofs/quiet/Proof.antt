@@ -5,10 +5,6 @@ use Prim.Native.Nat.{_-_, _≤_}
 use borrow.Author.Needs.{needs}
 use Rattle.playing.proofs.quiet.Statement.{statement}
 use Rattle.playing.proofs.quiet.Tie as tie
-use Rattle.playing.proofs.quiet.Reads as reads
-use Rattle.playing.proofs.quiet.Lts as lts
-use Rattle.playing.proofs.say_quiet.Reads as say-quiet-reads
-use Rattle.station.proofs.Station.tick.Reads as tick-reads
 
 abbrev Inv-loop : tie.InvT-loop
 Inv-loop station₀ ticks k₀ station k = (k ≤ ticks) × Going station₀ ticks station k
@@ -19,21 +15,9 @@ abbrev μ-loop : tie.MeasureT-loop
 loop-holds : tie.Need-loop-holds Inv-loop μ-loop
 loop-holds c = (search needs, going-none)
 
-tick-requires : tie.Need-tick-requires Inv-loop μ-loop
-tick-requires c κs = search needs
-
-add-k : tie.Need-add-k Inv-loop μ-loop
-add-k c = search needs
-
-say-quiet-requires : tie.Need-say-quiet-requires Inv-loop μ-loop
-say-quiet-requires c κs = search needs
-
 returns : tie.Need-returns Inv-loop μ-loop
 unfolding afterTick afterNothing
 returns c = going-refused (c .before .before .before .before .before .before .before .loop .inv .1) (left _ _ _ (c .before .before .before .before .tick .ensures)) (c .before .before .before .before .tick .ensures .unchanged (sym (c .before .say-quiet .ensures) ∙ c .if1 .taken))
-
-loop-less : tie.Need-loop-less Inv-loop μ-loop
-loop-less c = search needs
 
 loop-again : tie.Need-loop-again Inv-loop μ-loop
 unfolding afterTick afterNothing
@@ -45,14 +29,5 @@ returns-2 c = going-end (c .before .loop .inv .1) (c .loop-test .left)
 pub quiet-spec : {M : Type 1} → statement M
 quiet-spec =
     tie.close
-    (tie.spec
-    Inv-loop
-    μ-loop
-    loop-holds
-    tick-requires
-    add-k
-    say-quiet-requires
-    returns
-    loop-less
-    loop-again
-    returns-2)
+    (tie.spec Inv-loop μ-loop loop-holds (λ c κs. search needs) (λ c. search needs) (λ c κs. search needs) returns
+    (λ c. search needs) loop-again returns-2)

@@ -3,30 +3,6 @@ use mathlib.Core.Path.{_∙_}
 use borrow.Author.Needs.{needs}
 use Rattle.playstation.proofs.respond.Statement.{statement}
 use Rattle.playstation.proofs.respond.Tie as tie
-use Rattle.playstation.proofs.respond.Reads as reads
-use Rattle.playstation.proofs.respond.Lts as lts
-use Rattle.io.proofs.write_all.Reads as write-all-reads
-use Rattle.places.proofs.both.Reads as both-reads
-use Rattle.playing.proofs.play.Reads as play-reads
-use Rattle.station.proofs.Station.not_begun.Reads as not-begun-reads
-
-both-requires : tie.Need-both-requires
-both-requires c κs = search needs
-
-both-requires-2 : tie.Need-both-requires-2
-both-requires-2 c κs = search needs
-
-play-requires : tie.Need-play-requires
-play-requires c κs = search needs
-
-slice-aggregate-write-all : tie.Need-slice-aggregate-write-all
-slice-aggregate-write-all c = search needs
-
-write-all-requires : tie.Need-write-all-requires
-write-all-requires c κs = search needs
-
-not-begun-requires : tie.Need-not-begun-requires
-not-begun-requires c κs = search needs
 
 returns : tie.Need-returns
 unfolding answered
@@ -39,12 +15,5 @@ returns-2 c = c .not-begun .ensures ∙ rw (← c .before .before .before .befor
 pub respond-spec : {M : Type 1} → statement M
 respond-spec =
     tie.close
-    (tie.spec
-    both-requires
-    both-requires-2
-    play-requires
-    slice-aggregate-write-all
-    write-all-requires
-    not-begun-requires
-    returns
-    returns-2)
+    (tie.spec (λ c κs. search needs) (λ c κs. search needs) (λ c κs. search needs) (λ c. search needs) (λ c κs. search needs)
+    (λ c κs. search needs) returns returns-2)

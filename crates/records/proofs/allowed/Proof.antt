@@ -4,21 +4,6 @@ use borrow.Author.Needs.{needs}
 use Rattle.records.proofs.allowed.Statement.{statement}
 use Rattle.records.proofs.allowed.Tie as tie
 
-known-requires : tie.Need-known-requires
-known-requires c κs = search needs
-
-enum-told : tie.Need-enum-told
-enum-told c = search needs
-
-plan-follows-requires : tie.Need-plan-follows-requires
-plan-follows-requires c κs = search needs
-
-enum-told-2 : tie.Need-enum-told-2
-enum-told-2 c = search needs
-
-table-follows-requires : tie.Need-table-follows-requires
-table-follows-requires c κs = search needs
-
 returns : tie.Need-returns
 returns c = rw (← c .before .before .before .before .known .ensures, c .before .before .before .if1 .taken, c .before .enum-told .given .1) (c .plan-follows .ensures)
 
@@ -31,12 +16,5 @@ returns-3 c = rw (← c .before .known .ensures, c .if1 .left)
 pub allowed-spec : {M : Type 1} → statement M
 allowed-spec =
     tie.close
-    (tie.spec
-    known-requires
-    enum-told
-    plan-follows-requires
-    enum-told-2
-    table-follows-requires
-    returns
-    returns-2
-    returns-3)
+    (tie.spec (λ c κs. search needs) (λ c. search needs) (λ c κs. search needs) (λ c. search needs) (λ c κs. search needs) returns
+    returns-2 returns-3)

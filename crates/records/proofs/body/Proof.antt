@@ -27,29 +27,8 @@ module _ (s : List ℕ) (start end : ℕ) where
       let past : length s ≤ start = omega arith in
       rw (drop-of-length-le s past, take-nil {A = ℕ} (end - start))
 
-part-result-start : tie.Need-part-result-start
-part-result-start c = search needs
-
-part-result-end : tie.Need-part-result-end
-part-result-end c = search needs
-
-returns : tie.Need-returns
-returns c = search needs
-
-sub-result : tie.Need-sub-result
-sub-result c = search needs
-
-part-result-start-2 : tie.Need-part-result-start-2
-part-result-start-2 c = search needs
-
-part-result-end-2 : tie.Need-part-result-end-2
-part-result-end-2 c = search needs
-
 returns-2 : tie.Need-returns-2
 returns-2 c = let a = c .before .before .before .before .args in cut (now (a .s)) (a .start) (a .end) (c .before .before .if2 .left)
-
-slice-aggregate-result : tie.Need-slice-aggregate-result
-slice-aggregate-result c = search needs
 
 returns-3 : tie.Need-returns-3
 returns-3 c =
@@ -61,13 +40,5 @@ returns-3 c =
 pub body-spec : {M : Type 1} → statement M
 body-spec =
     tie.close
-    (tie.spec
-    part-result-start
-    part-result-end
-    returns
-    sub-result
-    part-result-start-2
-    part-result-end-2
-    returns-2
-    slice-aggregate-result
-    returns-3)
+    (tie.spec (λ c. search needs) (λ c. search needs) (λ c. search needs) (λ c. search needs) (λ c. search needs) (λ c. search needs)
+    returns-2 (λ c. search needs) returns-3)

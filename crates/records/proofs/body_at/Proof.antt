@@ -21,18 +21,6 @@ none s (Record kind body next) h = absurd (⊎-elim (λ (e : _≡_ {A = ℕ} 0 1
 none s End h = refl
 none s (Wrong place) h = refl
 
-next-requires : tie.Need-next-requires
-next-requires c κs = search needs
-
-enum-known-kind : tie.Need-enum-known-kind
-enum-known-kind c = search needs
-
-body-requires : tie.Need-body-requires
-body-requires c κs = search needs
-
-body-requires-2 : tie.Need-body-requires-2
-body-requires-2 c κs = search needs
-
 returns : tie.Need-returns
 unfolding bodyAt
 returns c = rw (sym (c .before .before .before .before .next .ensures), c .before .before .kind .given .1) (c .body .ensures)
@@ -44,10 +32,4 @@ returns-2 c = rw (sym (c .before .before .next .ensures)) (c .body2 .ensures ∙
 pub body-at-spec : {M : Type 1} → statement M
 body-at-spec =
     tie.close
-    (tie.spec
-    next-requires
-    enum-known-kind
-    body-requires
-    body-requires-2
-    returns
-    returns-2)
+    (tie.spec (λ c κs. search needs) (λ c. search needs) (λ c κs. search needs) (λ c κs. search needs) returns returns-2)

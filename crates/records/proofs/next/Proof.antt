@@ -13,15 +13,6 @@ returns : tie.Need-returns
 unfolding nextAt
 returns c = simp (le-ltb _ _ (c .if1 .taken))
 
-shared-slice-read-kind : tie.Need-shared-slice-read-kind
-shared-slice-read-kind c = search needs
-
-allowed-requires : tie.Need-allowed-requires
-allowed-requires c κs = search needs
-
-add-body : tie.Need-add-body
-add-body c = search needs
-
 returns-2 : tie.Need-returns-2
 unfolding nextAt
 returns-2 c = simp (lt-ltb _ _ (c .before .before .before .before .before .if1 .left), sym (c .before .before .before .allowed .ensures) ∙ c .before .before .if2 .taken, eq-eqb _ _ (c .before .if3 .taken), eq-eqb _ _ (c .if4 .taken))
@@ -29,18 +20,6 @@ returns-2 c = simp (lt-ltb _ _ (c .before .before .before .before .before .if1 .
 returns-3 : tie.Need-returns-3
 unfolding nextAt
 returns-3 c = simp (lt-ltb _ _ (c .before .before .before .before .before .if1 .left), sym (c .before .before .before .allowed .ensures) ∙ c .before .before .if2 .taken, eq-eqb _ _ (c .before .if3 .taken), ne-eqb _ _ (c .if4 .left))
-
-body-length-requires : tie.Need-body-length-requires
-body-length-requires c κs = search needs
-
-cast-wide : tie.Need-cast-wide
-cast-wide c = search needs
-
-sub-if5 : tie.Need-sub-if5
-sub-if5 c = search needs
-
-add-t17 : tie.Need-add-t17
-add-t17 c = search needs
 
 returns-4 : tie.Need-returns-4
 unfolding nextAt
@@ -57,17 +36,5 @@ returns-6 c = simp (lt-ltb _ _ (c .before .before .before .if1 .left), sym (c .b
 pub next-spec : {M : Type 1} → statement M
 next-spec =
     tie.close
-    (tie.spec
-    returns
-    shared-slice-read-kind
-    allowed-requires
-    add-body
-    returns-2
-    returns-3
-    body-length-requires
-    cast-wide
-    sub-if5
-    add-t17
-    returns-4
-    returns-5
-    returns-6)
+    (tie.spec returns (λ c. search needs) (λ c κs. search needs) (λ c. search needs) returns-2 returns-3 (λ c κs. search needs)
+    (λ c. search needs) (λ c. search needs) (λ c. search needs) returns-4 returns-5 returns-6)

@@ -9,15 +9,6 @@ use Rattle.rows.proofs.Filled.{getD-past, scatter-on, scatter-past, sca
 use borrow.Author.Needs.{needs}
 use Rattle.rows.proofs.task_of.Statement.{statement}
 use Rattle.rows.proofs.task_of.Tie as tie
-use Rattle.rows.proofs.task_of.Reads as reads
-use Rattle.rows.proofs.task_of.Lts as lts
-use Rattle.rows.proofs.place.Reads as place-reads
-
-place-requires : tie.Need-place-requires
-place-requires c κs = search needs
-
-element-copy-out-result : tie.Need-element-copy-out-result
-element-copy-out-result c = search needs
 
 returns : tie.Need-returns
 returns c = rw (c .before .before .place .ensures)
@@ -26,4 +17,4 @@ returns-2 : tie.Need-returns-2
 returns-2 c = getD-past (c .before .before .args .task .now) 256 _ _ (c .before .before .pre) (c .before .place .ensures) (c .if1 .left)
 
 pub task-of-spec : {M : Type 1} → statement M
-task-of-spec = tie.close (tie.spec place-requires element-copy-out-result returns returns-2)
+task-of-spec = tie.close (tie.spec (λ c κs. search needs) (λ c. search needs) returns returns-2)

@@ -4,10 +4,6 @@ use Rattle.station.specs.Parts.{heldTest}
 use borrow.Author.Needs.{needs}
 use Rattle.station.proofs.bytes_in_range.Statement.{statement}
 use Rattle.station.proofs.bytes_in_range.Tie as tie
-use Rattle.station.proofs.bytes_in_range.Reads as reads
-use Rattle.station.proofs.bytes_in_range.Lts as lts
-use Rattle.places.proofs.both.Reads as both-reads
-use Rattle.stationrange.proofs.bytes.Reads as bytes-reads
 
 abbrev Inv-loop : tie.InvT-loop
 Inv-loop held modes good₀ n₀ good n = (n ≤ 8) × Tested (heldTest held modes) n good
@@ -18,18 +14,6 @@ abbrev μ-loop : tie.MeasureT-loop
 loop-holds : tie.Need-loop-holds Inv-loop μ-loop
 loop-holds c = (search needs, tested-none)
 
-bytes-requires : tie.Need-bytes-requires Inv-loop μ-loop
-bytes-requires c κs = search needs
-
-both-requires : tie.Need-both-requires Inv-loop μ-loop
-both-requires c κs = search needs
-
-add-n : tie.Need-add-n Inv-loop μ-loop
-add-n c = search needs
-
-loop-less : tie.Need-loop-less Inv-loop μ-loop
-loop-less c = search needs
-
 loop-again : tie.Need-loop-again Inv-loop μ-loop
 loop-again c = (search needs, tested-turn (c .before .before .before .loop .inv .1) (c .both .ensures) (c .before .bytes .ensures))
 
@@ -39,13 +23,5 @@ returns c = tested-end (c .before .loop .inv .1) (c .before .loop .inv .0) (c .l
 pub bytes-in-range-spec : {M : Type 1} → statement M
 bytes-in-range-spec =
     tie.close
-    (tie.spec
-    Inv-loop
-    μ-loop
-    loop-holds
-    bytes-requires
-    both-requires
-    add-n
-    loop-less
-    loop-again
-    returns)
+    (tie.spec Inv-loop μ-loop loop-holds (λ c κs. search needs) (λ c κs. search needs) (λ c. search needs) (λ c. search needs)
+    loop-again returns)

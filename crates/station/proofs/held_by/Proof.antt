@@ -6,19 +6,6 @@ use Rattle.stationsteps.specs.Steps.{heldRule}
 use borrow.Author.Needs.{needs}
 use Rattle.station.proofs.held_by.Statement.{statement}
 use Rattle.station.proofs.held_by.Tie as tie
-use Rattle.station.proofs.held_by.Reads as reads
-use Rattle.station.proofs.held_by.Lts as lts
-use Rattle.stationsteps.proofs.held_after.Reads as held-after-reads
-use Rattle.stationsteps.proofs.row_with.Reads as row-with-reads
-
-cast-row-with : tie.Need-cast-row-with
-cast-row-with c = search needs
-
-row-with-requires : tie.Need-row-with-requires
-row-with-requires c κs = search needs
-
-held-after-requires : tie.Need-held-after-requires
-held-after-requires c κs = search needs
 
 returns : tie.Need-returns
 returns c =
@@ -29,4 +16,4 @@ returns c =
     )
 
 pub held-by-spec : {M : Type 1} → statement M
-held-by-spec = tie.close (tie.spec cast-row-with row-with-requires held-after-requires returns)
+held-by-spec = tie.close (tie.spec (λ c. search needs) (λ c κs. search needs) (λ c κs. search needs) returns)

@@ -9,44 +9,6 @@ use Rattle.station.proofs.Ways.{bytes-same, full-same, load-same, play-
 use borrow.Author.Needs.{needs}
 use Rattle.station.proofs.played.Statement.{statement}
 use Rattle.station.proofs.played.Tie as tie
-use Rattle.station.proofs.played.Reads as reads
-use Rattle.station.proofs.played.Lts as lts
-use Rattle.station.proofs.held_by.Reads as held-by-reads
-use Rattle.stationsteps.proofs.ages_after.Reads as ages-after-reads
-use Rattle.stationsteps.proofs.bytes_after.Reads as bytes-after-reads
-use Rattle.stationsteps.proofs.full_after.Reads as full-after-reads
-use Rattle.stationsteps.proofs.givens_after.Reads as givens-after-reads
-use Rattle.stationsteps.proofs.load_after.Reads as load-after-reads
-use Rattle.stationsteps.proofs.modes_after.Reads as modes-after-reads
-use Rattle.stationsteps.proofs.one_on.Reads as one-on-reads
-use Rattle.stationsteps.proofs.out_after.Reads as out-after-reads
-
-out-after-requires : tie.Need-out-after-requires
-out-after-requires c κs = search needs
-
-held-by-requires : tie.Need-held-by-requires
-held-by-requires c κs = search needs
-
-modes-after-requires : tie.Need-modes-after-requires
-modes-after-requires c κs = search needs
-
-ages-after-requires : tie.Need-ages-after-requires
-ages-after-requires c κs = search needs
-
-givens-after-requires : tie.Need-givens-after-requires
-givens-after-requires c κs = search needs
-
-bytes-after-requires : tie.Need-bytes-after-requires
-bytes-after-requires c κs = search needs
-
-full-after-requires : tie.Need-full-after-requires
-full-after-requires c κs = search needs
-
-load-after-requires : tie.Need-load-after-requires
-load-after-requires c κs = search needs
-
-one-on-requires : tie.Need-one-on-requires
-one-on-requires c κs = search needs
 
 returns : tie.Need-returns
 unfolding playBy
@@ -63,14 +25,5 @@ returns c =
 pub played-spec : {M : Type 1} → statement M
 played-spec =
     tie.close
-    (tie.spec
-    out-after-requires
-    held-by-requires
-    modes-after-requires
-    ages-after-requires
-    givens-after-requires
-    bytes-after-requires
-    full-after-requires
-    load-after-requires
-    one-on-requires
-    returns)
+    (tie.spec (λ c κs. search needs) (λ c κs. search needs) (λ c κs. search needs) (λ c κs. search needs) (λ c κs. search needs)
+    (λ c κs. search needs) (λ c κs. search needs) (λ c κs. search needs) (λ c κs. search needs) returns)

@@ -1,28 +1,6 @@
 use borrow.Author.Needs.{needs}
 use Rattle.station.proofs.started.Statement.{statement}
 use Rattle.station.proofs.started.Tie as tie
-use Rattle.station.proofs.started.Reads as reads
-use Rattle.station.proofs.started.Lts as lts
-use Rattle.station.proofs.control_row.Reads as control-row-reads
-use Rattle.station.proofs.data_row.Reads as data-row-reads
-
-enum-known-control : tie.Need-enum-known-control
-enum-known-control c = search needs
-
-control-row-requires : tie.Need-control-row-requires
-control-row-requires c κs = search needs
-
-enum-told : tie.Need-enum-told
-enum-told c = search needs
-
-enum-known-message : tie.Need-enum-known-message
-enum-known-message c = search needs
-
-data-row-requires : tie.Need-data-row-requires
-data-row-requires c κs = search needs
-
-enum-told-2 : tie.Need-enum-told-2
-enum-told-2 c = search needs
 
 returns : tie.Need-returns
 returns c = rw (c .before .before .control .given .1, c .control-row .ensures)
@@ -36,13 +14,5 @@ returns-3 c = rw (c .before .before .enum-told .given .1, c .enum-told2 .given .
 pub started-spec : {M : Type 1} → statement M
 started-spec =
     tie.close
-    (tie.spec
-    enum-known-control
-    control-row-requires
-    enum-told
-    enum-known-message
-    data-row-requires
-    enum-told-2
-    returns
-    returns-2
-    returns-3)
+    (tie.spec (λ c. search needs) (λ c κs. search needs) (λ c. search needs) (λ c. search needs) (λ c κs. search needs)
+    (λ c. search needs) returns returns-2 returns-3)

@@ -11,8 +11,6 @@ use Rattle.laws.proofs.Table.{below}
 use borrow.Author.Needs.{needs}
 use Rattle.stationjudge.proofs.has_bytes.Statement.{statement}
 use Rattle.stationjudge.proofs.has_bytes.Tie as tie
-use Rattle.stationjudge.proofs.has_bytes.Reads as reads
-use Rattle.stationjudge.proofs.has_bytes.Lts as lts
 
 -- the table of the source
 limits : List ℕ
@@ -32,12 +30,6 @@ large v size h w =
     let e : 256 ^ 8 ≤ 256 ^ size = pow-le-pow-right (lit< tt) w in
     lt-of-lt-of-le h e
 
-mul-result : tie.Need-mul-result
-mul-result c = search needs
-
-array-read-result : tie.Need-array-read-result
-array-read-result c = search needs
-
 returns : tie.Need-returns
 unfolding limits
 returns c = rw (limit (c .before .args .size) (c .if1 .taken))
@@ -46,4 +38,4 @@ returns-2 : tie.Need-returns-2
 returns-2 c = sym (lt-ltb _ _ (large (c .before .args .value) (c .before .args .size) (omega arith) (c .if1 .left)))
 
 pub has-bytes-spec : {M : Type 1} → statement M
-has-bytes-spec = tie.close (tie.spec mul-result array-read-result returns returns-2)
+has-bytes-spec = tie.close (tie.spec (λ c. search needs) (λ c. search needs) returns returns-2)

@@ -4,10 +4,6 @@ use Rattle.stationjudge.specs.Judging.{lastChance}
 use borrow.Author.Needs.{needs}
 use Rattle.stationjudge.proofs.is_in_time.Statement.{statement}
 use Rattle.stationjudge.proofs.is_in_time.Tie as tie
-use Rattle.stationjudge.proofs.is_in_time.Reads as reads
-use Rattle.stationjudge.proofs.is_in_time.Lts as lts
-use Rattle.stationjudge.proofs.Run.is_last_chance.Reads as is-last-chance-reads
-use Rattle.stationjudge.proofs.is_result.Reads as is-result-reads
 
 -- it came, before or now; or the last chance decides
 came : (l h g : Bool) → (h || g) ≡ true → true ≡ (not l || (h || g))
@@ -17,12 +13,6 @@ came false h g e = refl
 missing : (l h g : Bool) → (h || g) ≡ false → not l ≡ (not l || (h || g))
 missing true h g e = sym e
 missing false h g e = refl
-
-is-result-requires : tie.Need-is-result-requires
-is-result-requires c κs = search needs
-
-is-last-chance-requires : tie.Need-is-last-chance-requires
-is-last-chance-requires c κs = search needs
 
 returns : tie.Need-returns
 returns c = let a = c .before .args in came (lastChance (a .run) (a .in-plan) (a .worst)) (a .had) _ (rw (c .if1 .taken))
@@ -34,5 +24,4 @@ returns-3 : tie.Need-returns-3
 returns-3 c = let a = c .before .before .before .before .args in rw (c .is-last-chance .ensures) (missing (lastChance (a .run) (a .in-plan) (a .worst)) (a .had) _ (rw (c .before .before .before .if1 .left) (sym (c .before .before .is-result .ensures) ∙ c .before .if2 .left)))
 
 pub is-in-time-spec : {M : Type 1} → statement M
-is-in-time-spec =
-    tie.close (tie.spec is-result-requires is-last-chance-requires returns returns-2 returns-3)
+is-in-time-spec = tie.close (tie.spec (λ c κs. search needs) (λ c κs. search needs) returns returns-2 returns-3)

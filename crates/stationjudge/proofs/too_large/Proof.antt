@@ -4,9 +4,6 @@ use Rattle.stationjudge.specs.Judging.{fitsTest}
 use borrow.Author.Needs.{needs}
 use Rattle.stationjudge.proofs.too_large.Statement.{statement}
 use Rattle.stationjudge.proofs.too_large.Tie as tie
-use Rattle.stationjudge.proofs.too_large.Reads as reads
-use Rattle.stationjudge.proofs.too_large.Lts as lts
-use Rattle.stationjudge.proofs.fits.Reads as fits-reads
 
 abbrev Inv-loop : tie.InvT-loop
 Inv-loop sizes results t₀ t = (t ≤ 32) × Passed (fitsTest results sizes) t
@@ -16,24 +13,6 @@ abbrev μ-loop : tie.MeasureT-loop
 
 loop-holds : tie.Need-loop-holds Inv-loop μ-loop
 loop-holds c = (search needs, passed-none)
-
-mul-given : tie.Need-mul-given Inv-loop μ-loop
-mul-given c = search needs
-
-array-copy-out-given : tie.Need-array-copy-out-given Inv-loop μ-loop
-array-copy-out-given c = search needs
-
-element-copy-out-fits : tie.Need-element-copy-out-fits Inv-loop μ-loop
-element-copy-out-fits c = search needs
-
-fits-requires : tie.Need-fits-requires Inv-loop μ-loop
-fits-requires c κs = search needs
-
-add-t : tie.Need-add-t Inv-loop μ-loop
-add-t c = search needs
-
-loop-less : tie.Need-loop-less Inv-loop μ-loop
-loop-less c = search needs
 
 loop-again : tie.Need-loop-again Inv-loop μ-loop
 loop-again c = (search needs, passed-turn (c .before .before .before .before .before .loop .inv .1) (c .before .fits2 .ensures) (c .if1 .taken))
@@ -47,16 +26,5 @@ returns-2 c = passed-end (c .before .loop .inv .1) (c .before .loop .inv .0) (c 
 pub too-large-spec : {M : Type 1} → statement M
 too-large-spec =
     tie.close
-    (tie.spec
-    Inv-loop
-    μ-loop
-    loop-holds
-    mul-given
-    array-copy-out-given
-    element-copy-out-fits
-    fits-requires
-    add-t
-    loop-less
-    loop-again
-    returns
-    returns-2)
+    (tie.spec Inv-loop μ-loop loop-holds (λ c. search needs) (λ c. search needs) (λ c. search needs) (λ c κs. search needs)
+    (λ c. search needs) (λ c. search needs) loop-again returns returns-2)

@@ -4,10 +4,6 @@ use Rattle.stationrange.specs.Ranges.{boxTest}
 use borrow.Author.Needs.{needs}
 use Rattle.stationrange.proofs.boxes.Statement.{statement}
 use Rattle.stationrange.proofs.boxes.Tie as tie
-use Rattle.stationrange.proofs.boxes.Reads as reads
-use Rattle.stationrange.proofs.boxes.Lts as lts
-use Rattle.places.proofs.both.Reads as both-reads
-use Rattle.stationrange.proofs.is_value.Reads as is-value-reads
 
 abbrev Inv-loop : tie.InvT-loop
 Inv-loop out good₀ t₀ good t = (t ≤ 32) × Tested (boxTest out) t good
@@ -18,24 +14,6 @@ abbrev μ-loop : tie.MeasureT-loop
 loop-holds : tie.Need-loop-holds Inv-loop μ-loop
 loop-holds c = (search needs, tested-none)
 
-mul-is-value : tie.Need-mul-is-value Inv-loop μ-loop
-mul-is-value c = search needs
-
-element-copy-out-is-value : tie.Need-element-copy-out-is-value Inv-loop μ-loop
-element-copy-out-is-value c = search needs
-
-is-value-requires : tie.Need-is-value-requires Inv-loop μ-loop
-is-value-requires c κs = search needs
-
-both-requires : tie.Need-both-requires Inv-loop μ-loop
-both-requires c κs = search needs
-
-add-t : tie.Need-add-t Inv-loop μ-loop
-add-t c = search needs
-
-loop-less : tie.Need-loop-less Inv-loop μ-loop
-loop-less c = search needs
-
 loop-again : tie.Need-loop-again Inv-loop μ-loop
 loop-again c = (search needs, tested-turn (c .before .before .before .before .loop .inv .1) (c .both .ensures) (c .before .is-value .ensures))
 
@@ -45,15 +23,5 @@ returns c = tested-end (c .before .loop .inv .1) (c .before .loop .inv .0) (c .l
 pub boxes-spec : {M : Type 1} → statement M
 boxes-spec =
     tie.close
-    (tie.spec
-    Inv-loop
-    μ-loop
-    loop-holds
-    mul-is-value
-    element-copy-out-is-value
-    is-value-requires
-    both-requires
-    add-t
-    loop-less
-    loop-again
-    returns)
+    (tie.spec Inv-loop μ-loop loop-holds (λ c. search needs) (λ c. search needs) (λ c κs. search needs) (λ c κs. search needs)
+    (λ c. search needs) (λ c. search needs) loop-again returns)

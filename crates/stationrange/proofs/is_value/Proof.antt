@@ -3,11 +3,8 @@ use native.Mathlib.Omega.{arith}
 use borrow.Author.Tests.{le-leb, lt-ltb}
 use Prim.Native.Nat.{_^_}
 use Rattle.rules.specs.StationRange.{isValue}
-use borrow.Author.Needs.{needs}
 use Rattle.stationrange.proofs.is_value.Statement.{statement}
 use Rattle.stationrange.proofs.is_value.Tie as tie
-use Rattle.stationrange.proofs.is_value.Reads as reads
-use Rattle.stationrange.proofs.is_value.Lts as lts
 
 returns : tie.Need-returns
 unfolding isValue

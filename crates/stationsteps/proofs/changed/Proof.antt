@@ -7,25 +7,9 @@ use Rattle.stationjudge.specs.declared.Change.the-variants.{Nothing}
 use borrow.Author.Needs.{needs}
 use Rattle.stationsteps.proofs.changed.Statement.{statement}
 use Rattle.stationsteps.proofs.changed.Tie as tie
-use Rattle.stationsteps.proofs.changed.Reads as reads
-use Rattle.stationsteps.proofs.changed.Lts as lts
-use Rattle.stationjudge.proofs.is_change.Reads as is-change-reads
-
-mul-change : tie.Need-mul-change
-mul-change c = search needs
-
-array-copy-out-change : tie.Need-array-copy-out-change
-array-copy-out-change c = search needs
-
-is-change-requires : tie.Need-is-change-requires
-is-change-requires c κs = search needs
-
-returns : tie.Need-returns
-returns c = search needs
 
 returns-2 : tie.Need-returns-2
 returns-2 c = let e : length (c .before .args .t1) ≡ 16 = search needs in let w : length (c .before .args .t1) ≤ c .before .args .m = omega arith in rw (List·getD-eq-default (c .before .args .t1) Nothing w)
 
 pub changed-spec : {M : Type 1} → statement M
-changed-spec =
-    tie.close (tie.spec mul-change array-copy-out-change is-change-requires returns returns-2)
+changed-spec = tie.close (tie.spec (λ c. search needs) (λ c. search needs) (λ c κs. search needs) (λ c. search needs) returns-2)

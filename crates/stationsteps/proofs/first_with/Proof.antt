@@ -7,9 +7,6 @@ use Rattle.stationsteps.specs.Steps.{numberAt}
 use borrow.Author.Needs.{needs}
 use Rattle.stationsteps.proofs.first_with.Statement.{statement}
 use Rattle.stationsteps.proofs.first_with.Tie as tie
-use Rattle.stationsteps.proofs.first_with.Reads as reads
-use Rattle.stationsteps.proofs.first_with.Lts as lts
-use Rattle.places.proofs.number_at.Reads as number-at-reads
 
 abbrev Inv-loop : tie.InvT-loop
 Inv-loop times count time row₀ row = (row ≤ count) × Passed (hasOther (numberAt times) time) row
@@ -20,18 +17,9 @@ abbrev μ-loop : tie.MeasureT-loop
 loop-holds : tie.Need-loop-holds Inv-loop μ-loop
 loop-holds c = (search needs, passed-none)
 
-number-at-requires : tie.Need-number-at-requires Inv-loop μ-loop
-number-at-requires c κs = search needs
-
 returns : tie.Need-returns Inv-loop μ-loop
 unfolding rowWith hasOther
 returns c = passed-hit (c .before .before .before .loop .inv .1) (c .before .before .loop-test .taken) refl (rw (← c .before .number-at .ensures, eq-eqb _ _ (c .if1 .taken)))
-
-add-row : tie.Need-add-row Inv-loop μ-loop
-add-row c = search needs
-
-loop-less : tie.Need-loop-less Inv-loop μ-loop
-loop-less c = search needs
 
 loop-again : tie.Need-loop-again Inv-loop μ-loop
 unfolding hasOther
@@ -44,13 +32,4 @@ returns-2 c = passed-end (c .before .loop .inv .1) (c .before .loop .inv .0) (c 
 pub first-with-spec : {M : Type 1} → statement M
 first-with-spec =
     tie.close
-    (tie.spec
-    Inv-loop
-    μ-loop
-    loop-holds
-    number-at-requires
-    returns
-    add-row
-    loop-less
-    loop-again
-    returns-2)
+    (tie.spec Inv-loop μ-loop loop-holds (λ c κs. search needs) returns (λ c. search needs) (λ c. search needs) loop-again returns-2)

@@ -9,24 +9,6 @@ use Rattle.stationsteps.proofs.Ways.{message-yes, message-no}
 use borrow.Author.Needs.{needs}
 use Rattle.stationsteps.proofs.has_message.Statement.{statement}
 use Rattle.stationsteps.proofs.has_message.Tie as tie
-use Rattle.stationsteps.proofs.has_message.Reads as reads
-use Rattle.stationsteps.proofs.has_message.Lts as lts
-use Rattle.places.proofs.both.Reads as both-reads
-use Rattle.places.proofs.divides.Reads as divides-reads
-use Rattle.places.proofs.flag_at.Reads as flag-at-reads
-use Rattle.stationjudge.proofs.period_at.Reads as period-at-reads
-
-period-at-requires : tie.Need-period-at-requires
-period-at-requires c κs = search needs
-
-flag-at-requires : tie.Need-flag-at-requires
-flag-at-requires c κs = search needs
-
-both-requires : tie.Need-both-requires
-both-requires c κs = search needs
-
-divides-requires : tie.Need-divides-requires
-divides-requires c κs = search needs
 
 returns : tie.Need-returns
 returns c = let a = c .before .before .before .before .before .before .args in message-yes (getD (now (a .bus)) (a .task) false) (ltb 0 (periodAt (now (a .runs)) (a .mode) (a .task))) (divides (periodAt (now (a .runs)) (a .mode) (a .task)) (a .deadline)) (c .before .before .both .ensures ∙ rw (c .before .before .before .flag-at .ensures, c .before .before .before .before .before .period-at .ensures)) (c .before .if1 .taken) (c .divides .ensures ∙ rw (c .before .before .before .before .before .period-at .ensures))
@@ -37,4 +19,4 @@ returns-2 c = let a = c .before .before .before .before .before .args in message
 pub has-message-spec : {M : Type 1} → statement M
 has-message-spec =
     tie.close
-    (tie.spec period-at-requires flag-at-requires both-requires divides-requires returns returns-2)
+    (tie.spec (λ c κs. search needs) (λ c κs. search needs) (λ c κs. search needs) (λ c κs. search needs) returns returns-2)

@@ -8,22 +8,6 @@ use Rattle.stationsteps.specs.Steps.{heldAt, heldRule}
 use borrow.Author.Needs.{needs}
 use Rattle.stationsteps.proofs.held_after.Statement.{statement}
 use Rattle.stationsteps.proofs.held_after.Tie as tie
-use Rattle.stationsteps.proofs.held_after.Reads as reads
-use Rattle.stationsteps.proofs.held_after.Lts as lts
-use Rattle.places.proofs.byte_at.Reads as byte-at-reads
-use Rattle.stationsteps.proofs.held_from.Reads as held-from-reads
-
-enum-told : tie.Need-enum-told
-enum-told c = search needs
-
-enum-known-row : tie.Need-enum-known-row
-enum-known-row c = search needs
-
-byte-at-requires : tie.Need-byte-at-requires
-byte-at-requires c κs = search needs
-
-held-from-requires : tie.Need-held-from-requires
-held-from-requires c κs = search needs
 
 returns : tie.Need-returns
 returns c = let a = c .before .before .args in
@@ -40,4 +24,4 @@ returns-2 c = let a = c .before .before .before .before .before .before .args in
 pub held-after-spec : {M : Type 1} → statement M
 held-after-spec =
     tie.close
-    (tie.spec enum-told enum-known-row byte-at-requires held-from-requires returns returns-2)
+    (tie.spec (λ c. search needs) (λ c. search needs) (λ c κs. search needs) (λ c κs. search needs) returns returns-2)

@@ -5,9 +5,6 @@ use Rattle.stationsteps.specs.Steps.{heldAt}
 use borrow.Author.Needs.{needs}
 use Rattle.stationsteps.proofs.held_from.Statement.{statement}
 use Rattle.stationsteps.proofs.held_from.Tie as tie
-use Rattle.stationsteps.proofs.held_from.Reads as reads
-use Rattle.stationsteps.proofs.held_from.Lts as lts
-use Rattle.stationsteps.proofs.held_at.Reads as held-at-reads
 
 abbrev Inv-loop : tie.InvT-loop
 Inv-loop sender sends nodes bytes held₀ place₀ held place = (place ≤ 128) × Filled held₀ (heldAt sends nodes bytes sender held₀) place held
@@ -18,21 +15,6 @@ abbrev μ-loop : tie.MeasureT-loop
 loop-holds : tie.Need-loop-holds Inv-loop μ-loop
 loop-holds c = (search needs, filled-none)
 
-array-read-held-at : tie.Need-array-read-held-at Inv-loop μ-loop
-array-read-held-at c = search needs
-
-held-at-requires : tie.Need-held-at-requires Inv-loop μ-loop
-held-at-requires c κs = search needs
-
-array-write-held : tie.Need-array-write-held Inv-loop μ-loop
-array-write-held c = search needs
-
-add-place : tie.Need-add-place Inv-loop μ-loop
-add-place c = search needs
-
-loop-less : tie.Need-loop-less Inv-loop μ-loop
-loop-less c = search needs
-
 loop-again : tie.Need-loop-again Inv-loop μ-loop
 loop-again c = (search needs, filled-turn (c .before .before .loop .inv .1) (c .held-at .ensures ∙ rw (filled-next (c .before .before .loop .inv .1) 0)))
 
@@ -42,14 +24,5 @@ returns c = filled-end (c .before .loop .inv .1) (c .before .loop .inv .0) (c .l
 pub held-from-spec : {M : Type 1} → statement M
 held-from-spec =
     tie.close
-    (tie.spec
-    Inv-loop
-    μ-loop
-    loop-holds
-    array-read-held-at
-    held-at-requires
-    array-write-held
-    add-place
-    loop-less
-    loop-again
-    returns)
+    (tie.spec Inv-loop μ-loop loop-holds (λ c. search needs) (λ c κs. search needs) (λ c. search needs) (λ c. search needs)
+    (λ c. search needs) loop-again returns)

@@ -6,9 +6,6 @@ use Rattle.stationsteps.specs.Steps.{numberAt}
 use borrow.Author.Needs.{needs}
 use Rattle.stationsteps.proofs.lacks.Statement.{statement}
 use Rattle.stationsteps.proofs.lacks.Tie as tie
-use Rattle.stationsteps.proofs.lacks.Reads as reads
-use Rattle.stationsteps.proofs.lacks.Lts as lts
-use Rattle.places.proofs.both.Reads as both-reads
 
 abbrev Inv-loop : tie.InvT-loop
 Inv-loop times count time other₀ row₀ other row = (row ≤ count) × Tested (hasOther (numberAt times) time) row other
@@ -22,21 +19,6 @@ returns c = rw (lt-leb _ _ (c .if1 .taken))
 loop-holds : tie.Need-loop-holds Inv-loop μ-loop
 loop-holds c = (search needs, tested-none)
 
-mul-both : tie.Need-mul-both Inv-loop μ-loop
-mul-both c = search needs
-
-shared-slice-read-both : tie.Need-shared-slice-read-both Inv-loop μ-loop
-shared-slice-read-both c = search needs
-
-both-requires : tie.Need-both-requires Inv-loop μ-loop
-both-requires c κs = search needs
-
-add-row : tie.Need-add-row Inv-loop μ-loop
-add-row c = search needs
-
-loop-less : tie.Need-loop-less Inv-loop μ-loop
-loop-less c = search needs
-
 loop-again : tie.Need-loop-again Inv-loop μ-loop
 unfolding hasOther
 loop-again c = (search needs, tested-turn (c .before .before .before .loop .inv .1) (c .both .ensures) (cc))
@@ -47,15 +29,5 @@ returns-2 c = rw (le-leb _ _ (c .before .before .if1 .left)) (tested-end (c .bef
 pub lacks-spec : {M : Type 1} → statement M
 lacks-spec =
     tie.close
-    (tie.spec
-    Inv-loop
-    μ-loop
-    returns
-    loop-holds
-    mul-both
-    shared-slice-read-both
-    both-requires
-    add-row
-    loop-less
-    loop-again
-    returns-2)
+    (tie.spec Inv-loop μ-loop returns loop-holds (λ c. search needs) (λ c. search needs) (λ c κs. search needs) (λ c. search needs)
+    (λ c. search needs) loop-again returns-2)

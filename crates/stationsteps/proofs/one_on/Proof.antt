@@ -3,11 +3,6 @@ use Rattle.rules.specs.Station.{oneOn}
 use borrow.Author.Needs.{needs}
 use Rattle.stationsteps.proofs.one_on.Statement.{statement}
 use Rattle.stationsteps.proofs.one_on.Tie as tie
-use Rattle.stationsteps.proofs.one_on.Reads as reads
-use Rattle.stationsteps.proofs.one_on.Lts as lts
-
-add-result : tie.Need-add-result
-add-result c = search needs
 
 returns : tie.Need-returns
 unfolding oneOn
@@ -18,4 +13,4 @@ unfolding oneOn
 returns-2 c = rw (le-ltb _ _ (c .if1 .left))
 
 pub one-on-spec : {M : Type 1} → statement M
-one-on-spec = tie.close (tie.spec add-result returns returns-2)
+one-on-spec = tie.close (tie.spec (λ c. search needs) returns returns-2)

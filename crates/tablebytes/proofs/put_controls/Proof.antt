@@ -11,9 +11,6 @@ use Rattle.tablebytes.proofs.Glued.{control-more, data-more}
 use borrow.Author.Needs.{needs}
 use Rattle.tablebytes.proofs.put_controls.Statement.{statement}
 use Rattle.tablebytes.proofs.put_controls.Tie as tie
-use Rattle.tablebytes.proofs.put_controls.Reads as reads
-use Rattle.tablebytes.proofs.put_controls.Lts as lts
-use Rattle.tablebytes.proofs.put_control.Reads as put-control-reads
 
 abbrev Inv-loop : tie.InvT-loop
 Inv-loop buf₀ node start stop controls k₀ buf k =
@@ -21,39 +18,6 @@ Inv-loop buf₀ node start stop controls k₀ buf k =
 
 abbrev μ-loop : tie.MeasureT-loop
 μ-loop buf₀ node start stop controls k₀ buf k = controls - k
-
-loop-holds : tie.Need-loop-holds Inv-loop μ-loop
-loop-holds c = search needs
-
-mul-put-control : tie.Need-mul-put-control Inv-loop μ-loop
-mul-put-control c = search needs
-
-add-put-control : tie.Need-add-put-control Inv-loop μ-loop
-add-put-control c = search needs
-
-element-copy-out-put-control : tie.Need-element-copy-out-put-control Inv-loop μ-loop
-element-copy-out-put-control c = search needs
-
-mul-put-control-2 : tie.Need-mul-put-control-2 Inv-loop μ-loop
-mul-put-control-2 c = search needs
-
-element-copy-out-put-control-2 : tie.Need-element-copy-out-put-control-2 Inv-loop μ-loop
-element-copy-out-put-control-2 c = search needs
-
-mul-put-control-3 : tie.Need-mul-put-control-3 Inv-loop μ-loop
-mul-put-control-3 c = search needs
-
-element-copy-out-put-control-3 : tie.Need-element-copy-out-put-control-3 Inv-loop μ-loop
-element-copy-out-put-control-3 c = search needs
-
-put-control-requires : tie.Need-put-control-requires Inv-loop μ-loop
-put-control-requires c κs = search needs
-
-add-k : tie.Need-add-k Inv-loop μ-loop
-add-k c = search needs
-
-loop-less : tie.Need-loop-less Inv-loop μ-loop
-loop-less c = search needs
 
 loop-again : tie.Need-loop-again Inv-loop μ-loop
 loop-again c = (search needs, control-more (c .before .before .before .before .before .before .before .before .before .before .args .node .now) (c .before .before .before .before .before .before .before .before .before .before .args .start .now) (c .before .before .before .before .before .before .before .before .before .before .args .stop .now) (c .before .before .before .before .before .before .before .before .before .before .args .buf .now) _ _ (c .before .before .before .before .before .before .before .before .loop .k) (c .before .before .before .before .before .before .before .before .loop .inv .1) (c .before .before .put-control .ensures))
@@ -69,20 +33,6 @@ returns c =
 pub put-controls-spec : {M : Type 1} → statement M
 put-controls-spec =
     tie.close
-    (tie.spec
-    Inv-loop
-    μ-loop
-    loop-holds
-    mul-put-control
-    add-put-control
-    element-copy-out-put-control
-    mul-put-control-2
-    element-copy-out-put-control-2
-    mul-put-control-3
-    element-copy-out-put-control-3
-    put-control-requires
-    add-k
-    loop-less
-    loop-again
-    same-length
-    returns)
+    (tie.spec Inv-loop μ-loop (λ c. search needs) (λ c. search needs) (λ c. search needs) (λ c. search needs) (λ c. search needs)
+    (λ c. search needs) (λ c. search needs) (λ c. search needs) (λ c κs. search needs) (λ c. search needs) (λ c. search needs)
+    loop-again same-length returns)

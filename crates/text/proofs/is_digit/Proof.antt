@@ -5,8 +5,6 @@ use borrow.Author.Tests.{lt-leb, le-leb}
 use borrow.Author.Needs.{needs}
 use Rattle.text.proofs.is_digit.Statement.{statement}
 use Rattle.text.proofs.is_digit.Tie as tie
-use Rattle.text.proofs.is_digit.Reads as reads
-use Rattle.text.proofs.is_digit.Lts as lts
 
 returns : tie.Need-returns
 returns c = rw (lt-leb 48 (c .before .args .b) (search needs))

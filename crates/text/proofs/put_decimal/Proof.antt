@@ -9,19 +9,6 @@ use Rattle.text.proofs.Putting.{Put, zero-put, digits-put}
 use borrow.Author.Needs.{needs}
 use Rattle.text.proofs.put_decimal.Statement.{statement}
 use Rattle.text.proofs.put_decimal.Tie as tie
-use Rattle.text.proofs.put_decimal.Reads as reads
-use Rattle.text.proofs.put_decimal.Lts as lts
-use Rattle.text.proofs.put_digits.Reads as put-digits-reads
-use Rattle.text.proofs.store.Reads as store-reads
-
-store-requires : tie.Need-store-requires
-store-requires c κs = search needs
-
-add-result : tie.Need-add-result
-add-result c = search needs
-
-same-length : tie.Need-same-length
-same-length c = search needs
 
 returns : tie.Need-returns
 returns c =
@@ -35,9 +22,6 @@ put-digits-requires c κs =
     let few : length (digits (c .before .before .before .args .x)) ≤ 20 = digits-most (c .before .before .before .args .x) (omega arith) in
     omega arith
 
-same-length-2 : tie.Need-same-length-2
-same-length-2 c = search needs
-
 returns-2 : tie.Need-returns-2
 returns-2 c =
     digits-put (c .before .before .before .before .before .before .args .buf .now) _ (c .before .before .before .before .before .before .args .at) (c .before .before .put-digits .result) (c .before .before .before .before .before .before .args .x) (pos-of-ne-zero (c .before .before .before .before .if1 .left)) (c .before .before .put-digits .ensures)
@@ -45,11 +29,5 @@ returns-2 c =
 pub put-decimal-spec : {M : Type 1} → statement M
 put-decimal-spec =
     tie.close
-    (tie.spec
-    store-requires
-    add-result
-    same-length
-    returns
-    put-digits-requires
-    same-length-2
+    (tie.spec (λ c κs. search needs) (λ c. search needs) (λ c. search needs) returns put-digits-requires (λ c. search needs)
     returns-2)

@@ -9,11 +9,6 @@ use Rattle.text.specs.Text.{isDigit, digitRun, valueFrom, readDecimal}
 use Rattle.text.proofs.Reading.{digit-within, run-more, run-ends, no-digit, too-large, all-read}
 use Rattle.text.proofs.read_decimal.Statement.{statement}
 use Rattle.text.proofs.read_decimal.Tie as tie
-use Rattle.text.proofs.read_decimal.Reads as reads
-use Rattle.text.proofs.read_decimal.Lts as lts
-use Rattle.text.proofs.byte_at.Reads as byte-at-reads
-use Rattle.text.proofs.digit_value.Reads as digit-value-reads
-use Rattle.text.proofs.is_digit.Reads as is-digit-reads
 
 abbrev Inv-loop : tie.InvT-loop
 Inv-loop s at value₀ next₀ b₀ value next b =
@@ -25,20 +20,8 @@ Inv-loop s at value₀ next₀ b₀ value next b =
 abbrev μ-loop : tie.MeasureT-loop
 μ-loop s at value₀ next₀ b₀ value next b = length s - next
 
-byte-at-requires : tie.Need-byte-at-requires Inv-loop μ-loop
-byte-at-requires c κs = search needs
-
 loop-holds : tie.Need-loop-holds Inv-loop μ-loop
 loop-holds c = (omega arith, c .byte-at .ensures, refl, refl)
-
-is-digit-requires : tie.Need-is-digit-requires Inv-loop μ-loop
-is-digit-requires c κs = search needs
-
-digit-value-requires : tie.Need-digit-value-requires Inv-loop μ-loop
-digit-value-requires c κs = search needs
-
-sub-if2 : tie.Need-sub-if2 Inv-loop μ-loop
-sub-if2 c = search needs
 
 returns : tie.Need-returns Inv-loop μ-loop
 unfolding readDecimal
@@ -50,21 +33,12 @@ returns c =
     let large : 2 ^ 64 ≤ 10 * c .before .before .before .before .loop .value + (getD S (c .before .before .before .before .loop .next) 0 - 48) = omega arith in
     too-large (digitRun (drop (c .before .before .before .before .before .before .before .args .at) S)) (c .before .before .before .before .before .before .before .args .at) (10 * c .before .before .before .before .loop .value + (getD S (c .before .before .before .before .loop .next) 0 - 48)) (digitRun (drop (c .before .before .before .before .loop .next + 1) S)) large (sym (ap (valueFrom (c .before .before .before .before .loop .value)) more) ∙ c .before .before .before .before .loop .inv .3)
 
-mul-value : tie.Need-mul-value Inv-loop μ-loop
-mul-value c = search needs
-
-add-value : tie.Need-add-value Inv-loop μ-loop
-add-value c = search needs
-
 add-next : tie.Need-add-next Inv-loop μ-loop
 add-next c =
     let S = c .before .before .before .before .before .before .before .args .s .now in
     let here : isDigit (getD S (c .before .before .before .before .loop .next) 0) ≡ true = sym (ap isDigit (c .before .before .before .before .loop .inv .1)) ∙ sym (c .before .before .before .is-digit .ensures) ∙ c .before .before .if1 .taken in
     let inside : c .before .before .before .before .loop .next < length S = digit-within S (c .before .before .before .before .loop .next) here in
     search needs
-
-byte-at-requires-2 : tie.Need-byte-at-requires-2 Inv-loop μ-loop
-byte-at-requires-2 c κs = search needs
 
 loop-less : tie.Need-loop-less Inv-loop μ-loop
 loop-less c =
@@ -101,20 +75,5 @@ returns-3 c =
 pub read-decimal-spec : {M : Type 1} → statement M
 read-decimal-spec =
     tie.close
-    (tie.spec
-    Inv-loop
-    μ-loop
-    byte-at-requires
-    loop-holds
-    is-digit-requires
-    digit-value-requires
-    sub-if2
-    returns
-    mul-value
-    add-value
-    add-next
-    byte-at-requires-2
-    loop-less
-    loop-again
-    returns-2
-    returns-3)
+    (tie.spec Inv-loop μ-loop (λ c κs. search needs) loop-holds (λ c κs. search needs) (λ c κs. search needs) (λ c. search needs)
+    returns (λ c. search needs) (λ c. search needs) add-next (λ c κs. search needs) loop-less loop-again returns-2 returns-3)

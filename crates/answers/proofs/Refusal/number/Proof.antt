@@ -4,87 +4,6 @@ use borrow.Author.Needs.{needs}
 use Rattle.answers.proofs.Refusal.number.Statement.{statement}
 use Rattle.answers.proofs.Refusal.number.Tie as tie
 
-enum-told : tie.Need-enum-told
-enum-told c = search needs
-
-enum-told-2 : tie.Need-enum-told-2
-enum-told-2 c = search needs
-
-enum-told-3 : tie.Need-enum-told-3
-enum-told-3 c = search needs
-
-enum-told-4 : tie.Need-enum-told-4
-enum-told-4 c = search needs
-
-enum-told-5 : tie.Need-enum-told-5
-enum-told-5 c = search needs
-
-enum-told-6 : tie.Need-enum-told-6
-enum-told-6 c = search needs
-
-enum-told-7 : tie.Need-enum-told-7
-enum-told-7 c = search needs
-
-enum-told-8 : tie.Need-enum-told-8
-enum-told-8 c = search needs
-
-enum-told-9 : tie.Need-enum-told-9
-enum-told-9 c = search needs
-
-enum-told-10 : tie.Need-enum-told-10
-enum-told-10 c = search needs
-
-enum-told-11 : tie.Need-enum-told-11
-enum-told-11 c = search needs
-
-enum-told-12 : tie.Need-enum-told-12
-enum-told-12 c = search needs
-
-enum-told-13 : tie.Need-enum-told-13
-enum-told-13 c = search needs
-
-enum-told-14 : tie.Need-enum-told-14
-enum-told-14 c = search needs
-
-enum-told-15 : tie.Need-enum-told-15
-enum-told-15 c = search needs
-
-enum-told-16 : tie.Need-enum-told-16
-enum-told-16 c = search needs
-
-enum-told-17 : tie.Need-enum-told-17
-enum-told-17 c = search needs
-
-enum-told-18 : tie.Need-enum-told-18
-enum-told-18 c = search needs
-
-enum-told-19 : tie.Need-enum-told-19
-enum-told-19 c = search needs
-
-enum-told-20 : tie.Need-enum-told-20
-enum-told-20 c = search needs
-
-enum-told-21 : tie.Need-enum-told-21
-enum-told-21 c = search needs
-
-enum-told-22 : tie.Need-enum-told-22
-enum-told-22 c = search needs
-
-enum-told-23 : tie.Need-enum-told-23
-enum-told-23 c = search needs
-
-enum-told-24 : tie.Need-enum-told-24
-enum-told-24 c = search needs
-
-enum-told-25 : tie.Need-enum-told-25
-enum-told-25 c = search needs
-
-enum-told-26 : tie.Need-enum-told-26
-enum-told-26 c = search needs
-
-enum-told-27 : tie.Need-enum-told-27
-enum-told-27 c = search needs
-
 returns : tie.Need-returns
 returns c = rw (c .enum-told .given .1)
 
@@ -169,58 +88,10 @@ returns-27 c = rw (c .enum-told27 .given .1)
 pub number-spec : {M : Type 1} → statement M
 number-spec =
     tie.close
-    (tie.spec
-    enum-told
-    enum-told-2
-    enum-told-3
-    enum-told-4
-    enum-told-5
-    enum-told-6
-    enum-told-7
-    enum-told-8
-    enum-told-9
-    enum-told-10
-    enum-told-11
-    enum-told-12
-    enum-told-13
-    enum-told-14
-    enum-told-15
-    enum-told-16
-    enum-told-17
-    enum-told-18
-    enum-told-19
-    enum-told-20
-    enum-told-21
-    enum-told-22
-    enum-told-23
-    enum-told-24
-    enum-told-25
-    enum-told-26
-    enum-told-27
-    returns
-    returns-2
-    returns-3
-    returns-4
-    returns-5
-    returns-6
-    returns-7
-    returns-8
-    returns-9
-    returns-10
-    returns-11
-    returns-12
-    returns-13
-    returns-14
-    returns-15
-    returns-16
-    returns-17
-    returns-18
-    returns-19
-    returns-20
-    returns-21
-    returns-22
-    returns-23
-    returns-24
-    returns-25
-    returns-26
-    returns-27)
+    (tie.spec (λ c. search needs) (λ c. search needs) (λ c. search needs) (λ c. search needs) (λ c. search needs) (λ c. search needs)
+    (λ c. search needs) (λ c. search needs) (λ c. search needs) (λ c. search needs) (λ c. search needs) (λ c. search needs)
+    (λ c. search needs) (λ c. search needs) (λ c. search needs) (λ c. search needs) (λ c. search needs) (λ c. search needs)
+    (λ c. search needs) (λ c. search needs) (λ c. search needs) (λ c. search needs) (λ c. search needs) (λ c. search needs)
+    (λ c. search needs) (λ c. search needs) (λ c. search needs) returns returns-2 returns-3 returns-4 returns-5 returns-6 returns-7
+    returns-8 returns-9 returns-10 returns-11 returns-12 returns-13 returns-14 returns-15 returns-16 returns-17 returns-18
+    returns-19 returns-20 returns-21 returns-22 returns-23 returns-24 returns-25 returns-26 returns-27)

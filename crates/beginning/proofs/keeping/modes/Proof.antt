@@ -9,10 +9,6 @@ use Rattle.beginning.proofs.Filling.{filled-all}
 use borrow.Author.Needs.{needs}
 use Rattle.beginning.proofs.keeping.modes.Statement.{statement}
 use Rattle.beginning.proofs.keeping.modes.Tie as tie
-use Rattle.beginning.proofs.keeping.modes.Reads as reads
-use Rattle.beginning.proofs.keeping.modes.Lts as lts
-use Rattle.plan.proofs.look.mode_at.Reads as mode-at-reads
-use Rattle.plan.proofs.look.mode_count.Reads as mode-count-reads
 
 abbrev Inv-loop : tie.InvT-loop
 Inv-loop p homes₀ periods₀ switches₀ m₀ homes periods switches m =
@@ -27,30 +23,6 @@ abbrev μ-loop : tie.MeasureT-loop
 loop-holds : tie.Need-loop-holds Inv-loop μ-loop
 loop-holds c = (search needs, filled-none, filled-none, filled-none)
 
-mode-at-requires : tie.Need-mode-at-requires Inv-loop μ-loop
-mode-at-requires c κs = search needs
-
-array-write-homes : tie.Need-array-write-homes Inv-loop μ-loop
-array-write-homes c = search needs
-
-mul-periods : tie.Need-mul-periods Inv-loop μ-loop
-mul-periods c = search needs
-
-array-write-periods : tie.Need-array-write-periods Inv-loop μ-loop
-array-write-periods c = search needs
-
-mul-switches : tie.Need-mul-switches Inv-loop μ-loop
-mul-switches c = search needs
-
-array-write-switches : tie.Need-array-write-switches Inv-loop μ-loop
-array-write-switches c = search needs
-
-add-m : tie.Need-add-m Inv-loop μ-loop
-add-m c = search needs
-
-loop-less : tie.Need-loop-less Inv-loop μ-loop
-loop-less c = search needs
-
 loop-again : tie.Need-loop-again Inv-loop μ-loop
 unfolding modeLaid homeOf periodOf switchOf
 loop-again c =
@@ -62,12 +34,6 @@ loop-again c =
       filled-turn (l .inv .3) (ap (λ (x : Mode). x .switch .0) e),
     )
 
-mode-count-requires : tie.Need-mode-count-requires Inv-loop μ-loop
-mode-count-requires c κs = search needs
-
-cast-t16 : tie.Need-cast-t16 Inv-loop μ-loop
-cast-t16 c = search needs
-
 returns : tie.Need-returns Inv-loop μ-loop
 unfolding modesOf
 returns c =
@@ -77,19 +43,6 @@ returns c =
 pub modes-spec : {M : Type 1} → statement M
 modes-spec =
     tie.close
-    (tie.spec
-    Inv-loop
-    μ-loop
-    loop-holds
-    mode-at-requires
-    array-write-homes
-    mul-periods
-    array-write-periods
-    mul-switches
-    array-write-switches
-    add-m
-    loop-less
-    loop-again
-    mode-count-requires
-    cast-t16
-    returns)
+    (tie.spec Inv-loop μ-loop loop-holds (λ c κs. search needs) (λ c. search needs) (λ c. search needs) (λ c. search needs)
+    (λ c. search needs) (λ c. search needs) (λ c. search needs) (λ c. search needs) loop-again (λ c κs. search needs)
+    (λ c. search needs) returns)

@@ -12,10 +12,6 @@ use Rattle.beginning.proofs.Filling.{filled-all, by-number-at}
 use borrow.Author.Needs.{needs}
 use Rattle.beginning.proofs.keeping.modules.Statement.{statement}
 use Rattle.beginning.proofs.keeping.modules.Tie as tie
-use Rattle.beginning.proofs.keeping.modules.Reads as reads
-use Rattle.beginning.proofs.keeping.modules.Lts as lts
-use Rattle.plan.proofs.look.module_at.Reads as module-at-reads
-use Rattle.plan.proofs.look.module_count.Reads as module-count-reads
 
 abbrev Inv-loop : tie.InvT-loop
 Inv-loop p senders sites₀ sending₀ m₀ sites sending m =
@@ -27,24 +23,6 @@ abbrev μ-loop : tie.MeasureT-loop
 loop-holds : tie.Need-loop-holds Inv-loop μ-loop
 loop-holds c = (search needs, filled-none, filled-none)
 
-module-at-requires : tie.Need-module-at-requires Inv-loop μ-loop
-module-at-requires c κs = search needs
-
-array-write-sites : tie.Need-array-write-sites Inv-loop μ-loop
-array-write-sites c = search needs
-
-array-read-sending : tie.Need-array-read-sending Inv-loop μ-loop
-array-read-sending c = search needs
-
-array-write-sending : tie.Need-array-write-sending Inv-loop μ-loop
-array-write-sending c = search needs
-
-add-m : tie.Need-add-m Inv-loop μ-loop
-add-m c = search needs
-
-loop-less : tie.Need-loop-less Inv-loop μ-loop
-loop-less c = search needs
-
 loop-again : tie.Need-loop-again Inv-loop μ-loop
 unfolding moduleLaid moduleNode
 loop-again c =
@@ -53,12 +31,6 @@ loop-again c =
       filled-turn (l .inv .1) (ap (λ (x : Module). x .node .0) (c .module-at .ensures)),
       filled-turn (l .inv .2) (by-number-at (isSending (seen (c .before .before .before .args .p))) (l .m) false (c .before .before .before .pre) (omega arith)),
     )
-
-module-count-requires : tie.Need-module-count-requires Inv-loop μ-loop
-module-count-requires c κs = search needs
-
-cast-t16 : tie.Need-cast-t16 Inv-loop μ-loop
-cast-t16 c = search needs
 
 returns : tie.Need-returns Inv-loop μ-loop
 unfolding modulesOf
@@ -69,17 +41,5 @@ returns c =
 pub modules-spec : {M : Type 1} → statement M
 modules-spec =
     tie.close
-    (tie.spec
-    Inv-loop
-    μ-loop
-    loop-holds
-    module-at-requires
-    array-write-sites
-    array-read-sending
-    array-write-sending
-    add-m
-    loop-less
-    loop-again
-    module-count-requires
-    cast-t16
-    returns)
+    (tie.spec Inv-loop μ-loop loop-holds (λ c κs. search needs) (λ c. search needs) (λ c. search needs) (λ c. search needs)
+    (λ c. search needs) (λ c. search needs) loop-again (λ c κs. search needs) (λ c. search needs) returns)

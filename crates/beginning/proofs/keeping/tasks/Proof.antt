@@ -12,10 +12,6 @@ use Rattle.beginning.proofs.Filling.{filled-all, by-number-at, size-sma
 use borrow.Author.Needs.{needs}
 use Rattle.beginning.proofs.keeping.tasks.Statement.{statement}
 use Rattle.beginning.proofs.keeping.tasks.Tie as tie
-use Rattle.beginning.proofs.keeping.tasks.Reads as reads
-use Rattle.beginning.proofs.keeping.tasks.Lts as lts
-use Rattle.plan.proofs.look.task_at.Reads as task-at-reads
-use Rattle.plan.proofs.look.task_count.Reads as task-count-reads
 
 abbrev Inv-loop : tie.InvT-loop
 Inv-loop p buses homes₀ sizes₀ worsts₀ bus₀ t₀ homes sizes worsts bus t =
@@ -31,36 +27,9 @@ abbrev μ-loop : tie.MeasureT-loop
 loop-holds : tie.Need-loop-holds Inv-loop μ-loop
 loop-holds c = (search needs, filled-none, filled-none, filled-none, filled-none)
 
-task-at-requires : tie.Need-task-at-requires Inv-loop μ-loop
-task-at-requires c κs = search needs
-
-array-write-homes : tie.Need-array-write-homes Inv-loop μ-loop
-array-write-homes c = search needs
-
 cast-sizes : tie.Need-cast-sizes Inv-loop μ-loop
 unfolding taskLaid
 cast-sizes c = record { fits = size-small (seen (c .before .before .before .before .args .p)) (c .before .before .before .before .pre .0) (c .before .before .before .loop .t) _ (ap (λ (x : Task). x .size .0) (c .before .task-at .ensures)) }
-
-array-write-sizes : tie.Need-array-write-sizes Inv-loop μ-loop
-array-write-sizes c = search needs
-
-mul-worsts : tie.Need-mul-worsts Inv-loop μ-loop
-mul-worsts c = search needs
-
-array-write-worsts : tie.Need-array-write-worsts Inv-loop μ-loop
-array-write-worsts c = search needs
-
-array-read-bus : tie.Need-array-read-bus Inv-loop μ-loop
-array-read-bus c = search needs
-
-array-write-bus : tie.Need-array-write-bus Inv-loop μ-loop
-array-write-bus c = search needs
-
-add-t : tie.Need-add-t Inv-loop μ-loop
-add-t c = search needs
-
-loop-less : tie.Need-loop-less Inv-loop μ-loop
-loop-less c = search needs
 
 loop-again : tie.Need-loop-again Inv-loop μ-loop
 unfolding taskLaid taskHome taskSize taskWorst
@@ -74,12 +43,6 @@ loop-again c =
       filled-turn (l .inv .4) (by-number-at (isBusTask (seen (c .before .before .before .before .args .p))) (l .t) false (c .before .before .before .before .pre .1) (omega arith)),
     )
 
-task-count-requires : tie.Need-task-count-requires Inv-loop μ-loop
-task-count-requires c κs = search needs
-
-cast-t24 : tie.Need-cast-t24 Inv-loop μ-loop
-cast-t24 c = search needs
-
 returns : tie.Need-returns Inv-loop μ-loop
 unfolding tasksOf
 returns c =
@@ -89,21 +52,6 @@ returns c =
 pub tasks-spec : {M : Type 1} → statement M
 tasks-spec =
     tie.close
-    (tie.spec
-    Inv-loop
-    μ-loop
-    loop-holds
-    task-at-requires
-    array-write-homes
-    cast-sizes
-    array-write-sizes
-    mul-worsts
-    array-write-worsts
-    array-read-bus
-    array-write-bus
-    add-t
-    loop-less
-    loop-again
-    task-count-requires
-    cast-t24
-    returns)
+    (tie.spec Inv-loop μ-loop loop-holds (λ c κs. search needs) (λ c. search needs) cast-sizes (λ c. search needs)
+    (λ c. search needs) (λ c. search needs) (λ c. search needs) (λ c. search needs) (λ c. search needs) (λ c. search needs)
+    loop-again (λ c κs. search needs) (λ c. search needs) returns)

@@ -20,9 +20,6 @@ loop-holds c = refl
 turning : (c : tie.In-loop Inv-loop μ-loop) → 0 < c .before .loop .y
 turning c = omega arith
 
-rem-rest : tie.Need-rem-rest Inv-loop μ-loop
-rem-rest c = search needs
-
 loop-less : tie.Need-loop-less Inv-loop μ-loop
 loop-less c = mod-lt _ (turning c)
 
@@ -33,4 +30,4 @@ returns : tie.Need-returns Inv-loop μ-loop
 returns c = rw (c .loop-test .left, gcd-zero) at (c .before .loop .inv)
 
 pub gcd-spec : {M : Type 1} → statement M
-gcd-spec = tie.close (tie.spec Inv-loop μ-loop loop-holds rem-rest loop-less loop-again returns)
+gcd-spec = tie.close (tie.spec Inv-loop μ-loop loop-holds (λ c. search needs) loop-less loop-again returns)

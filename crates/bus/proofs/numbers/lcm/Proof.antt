@@ -24,14 +24,8 @@ some a b g e f = which (eq-zero-or-pos g)
 quotient : (c : tie.After-gcd) → c .before .before .before .args .a / c .gcd .result ≤ 2 ^ 32 - 1
 quotient c = omega (arith, div-le-self (c .before .before .before .args .a) (c .gcd .result))
 
-divides-requires : tie.Need-divides-requires
-divides-requires c κs = search needs
-
 returns : tie.Need-returns
 returns c = lcm-unique _ _ _ (divides-true _ _ (sym (c .before .divides .ensures) ∙ c .if1 .taken)) (dvd-refl _) (λ m p q. q)
-
-gcd-requires : tie.Need-gcd-requires
-gcd-requires c κs = search needs
 
 div-times : tie.Need-div-times
 div-times c = some _ _ _ (c .gcd .ensures) (sym (c .before .before .divides .ensures) ∙ c .before .if1 .left)
@@ -50,6 +44,4 @@ unfolding lcm
 returns-2 c = rw (c .gcd .ensures)
 
 pub lcm-spec : {M : Type 1} → statement M
-lcm-spec =
-    tie.close
-    (tie.spec divides-requires returns gcd-requires div-times cast-result mul-result returns-2)
+lcm-spec = tie.close (tie.spec (λ c κs. search needs) returns (λ c κs. search needs) div-times cast-result mul-result returns-2)

@@ -27,53 +27,8 @@ consumer : (p : Plan) (i : ℕ) → i < length (seen p .connections) → getD (s
 unfolding connectionSeen
 consumer p i w = rw (connection-here p i w)
 
-connection-count-requires : tie.Need-connection-count-requires Inv-loop μ-loop
-connection-count-requires c κs = search needs
-
 loop-holds : tie.Need-loop-holds Inv-loop μ-loop
 loop-holds c = (search needs, bus-tasks-none (seen (c .before .args .t1)))
-
-mul-place : tie.Need-mul-place Inv-loop μ-loop
-mul-place c = search needs
-
-element-copy-out-place : tie.Need-element-copy-out-place Inv-loop μ-loop
-element-copy-out-place c = search needs
-
-place-requires : tie.Need-place-requires Inv-loop μ-loop
-place-requires c κs = search needs
-
-mul-place-2 : tie.Need-mul-place-2 Inv-loop μ-loop
-mul-place-2 c = search needs
-
-element-copy-out-place-2 : tie.Need-element-copy-out-place-2 Inv-loop μ-loop
-element-copy-out-place-2 c = search needs
-
-place-requires-2 : tie.Need-place-requires-2 Inv-loop μ-loop
-place-requires-2 c κs = search needs
-
-array-read-marked : tie.Need-array-read-marked Inv-loop μ-loop
-array-read-marked c = search needs
-
-element-copy-out-marked : tie.Need-element-copy-out-marked Inv-loop μ-loop
-element-copy-out-marked c = search needs
-
-element-copy-out-marked-2 : tie.Need-element-copy-out-marked-2 Inv-loop μ-loop
-element-copy-out-marked-2 c = search needs
-
-element-copy-out-marked-3 : tie.Need-element-copy-out-marked-3 Inv-loop μ-loop
-element-copy-out-marked-3 c = search needs
-
-marked-requires : tie.Need-marked-requires Inv-loop μ-loop
-marked-requires c κs = search needs
-
-array-write-tasks : tie.Need-array-write-tasks Inv-loop μ-loop
-array-write-tasks c = search needs
-
-add-i : tie.Need-add-i Inv-loop μ-loop
-add-i c = search needs
-
-loop-less : tie.Need-loop-less Inv-loop μ-loop
-loop-less c = search needs
 
 loop-again : tie.Need-loop-again Inv-loop μ-loop
 unfolding connectionLaid noConnection
@@ -97,24 +52,6 @@ returns c =
 pub bus-tasks-spec : {M : Type 1} → statement M
 bus-tasks-spec =
     tie.close
-    (tie.spec
-    Inv-loop
-    μ-loop
-    connection-count-requires
-    loop-holds
-    mul-place
-    element-copy-out-place
-    place-requires
-    mul-place-2
-    element-copy-out-place-2
-    place-requires-2
-    array-read-marked
-    element-copy-out-marked
-    element-copy-out-marked-2
-    element-copy-out-marked-3
-    marked-requires
-    array-write-tasks
-    add-i
-    loop-less
-    loop-again
-    returns)
+    (tie.spec Inv-loop μ-loop (λ c κs. search needs) loop-holds (λ c. search needs) (λ c. search needs) (λ c κs. search needs)
+    (λ c. search needs) (λ c. search needs) (λ c κs. search needs) (λ c. search needs) (λ c. search needs) (λ c. search needs)
+    (λ c. search needs) (λ c κs. search needs) (λ c. search needs) (λ c. search needs) (λ c. search needs) loop-again returns)

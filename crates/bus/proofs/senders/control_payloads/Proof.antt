@@ -17,23 +17,8 @@ Inv-loop nodes modules n payloads₀ m₀ payloads m = (m ≤ n) × ((q : Plan) 
 abbrev μ-loop : tie.MeasureT-loop
 μ-loop nodes modules n payloads₀ m₀ payloads m = n - m
 
-module-count-requires : tie.Need-module-count-requires Inv-loop μ-loop
-module-count-requires c κs = search needs
-
 loop-holds : tie.Need-loop-holds Inv-loop μ-loop
 loop-holds c = (search needs, λ q e f. payloads-none q)
-
-element-copy-out-place : tie.Need-element-copy-out-place Inv-loop μ-loop
-element-copy-out-place c = search needs
-
-place-requires : tie.Need-place-requires Inv-loop μ-loop
-place-requires c κs = search needs
-
-array-read-one-more : tie.Need-array-read-one-more Inv-loop μ-loop
-array-read-one-more c = search needs
-
-element-copy-out-one-more : tie.Need-element-copy-out-one-more Inv-loop μ-loop
-element-copy-out-one-more c = search needs
 
 one-more-requires : tie.Need-one-more-requires Inv-loop μ-loop
 one-more-requires c κs =
@@ -42,15 +27,6 @@ one-more-requires c κs =
     let e = l .inv .1 q (c .before .before .before .before .before .before .pre .1) (c .before .before .before .before .before .before .pre .0) in
     let w : getD (l .payloads) (c .before .place .result) 0 ≤ l .m = payload-fits q (l .m) (c .before .place .result) e (omega arith) in
     omega arith
-
-array-write-payloads : tie.Need-array-write-payloads Inv-loop μ-loop
-array-write-payloads c = search needs
-
-add-m : tie.Need-add-m Inv-loop μ-loop
-add-m c = search needs
-
-loop-less : tie.Need-loop-less Inv-loop μ-loop
-loop-less c = search needs
 
 loop-again : tie.Need-loop-again Inv-loop μ-loop
 loop-again c = (
@@ -68,18 +44,5 @@ returns c =
 pub control-payloads-spec : {M : Type 1} → statement M
 control-payloads-spec =
     tie.close
-    (tie.spec
-    Inv-loop
-    μ-loop
-    module-count-requires
-    loop-holds
-    element-copy-out-place
-    place-requires
-    array-read-one-more
-    element-copy-out-one-more
-    one-more-requires
-    array-write-payloads
-    add-m
-    loop-less
-    loop-again
-    returns)
+    (tie.spec Inv-loop μ-loop (λ c κs. search needs) loop-holds (λ c. search needs) (λ c κs. search needs) (λ c. search needs)
+    (λ c. search needs) one-more-requires (λ c. search needs) (λ c. search needs) (λ c. search needs) loop-again returns)

@@ -23,29 +23,8 @@ task : (p : Plan) (i : ℕ) → i < length (seen p .invocations) → getD (seen 
 unfolding invocationSeen
 task p i w = rw (invocation-here p i w)
 
-invocation-count-requires : tie.Need-invocation-count-requires Inv-loop μ-loop
-invocation-count-requires c κs = search needs
-
 loop-holds : tie.Need-loop-holds Inv-loop μ-loop
 loop-holds c = (search needs, invoked-none)
-
-mul-place : tie.Need-mul-place Inv-loop μ-loop
-mul-place c = search needs
-
-element-copy-out-place : tie.Need-element-copy-out-place Inv-loop μ-loop
-element-copy-out-place c = search needs
-
-place-requires : tie.Need-place-requires Inv-loop μ-loop
-place-requires c κs = search needs
-
-array-write-found : tie.Need-array-write-found Inv-loop μ-loop
-array-write-found c = search needs
-
-add-i : tie.Need-add-i Inv-loop μ-loop
-add-i c = search needs
-
-loop-less : tie.Need-loop-less Inv-loop μ-loop
-loop-less c = search needs
 
 loop-again : tie.Need-loop-again Inv-loop μ-loop
 unfolding invocationLaid
@@ -66,16 +45,5 @@ returns c =
 pub invoked-spec : {M : Type 1} → statement M
 invoked-spec =
     tie.close
-    (tie.spec
-    Inv-loop
-    μ-loop
-    invocation-count-requires
-    loop-holds
-    mul-place
-    element-copy-out-place
-    place-requires
-    array-write-found
-    add-i
-    loop-less
-    loop-again
-    returns)
+    (tie.spec Inv-loop μ-loop (λ c κs. search needs) loop-holds (λ c. search needs) (λ c. search needs) (λ c κs. search needs)
+    (λ c. search needs) (λ c. search needs) (λ c. search needs) loop-again returns)

@@ -2,14 +2,8 @@ use borrow.Author.Needs.{needs}
 use Rattle.bus.proofs.senders.marked.Statement.{statement}
 use Rattle.bus.proofs.senders.marked.Tie as tie
 
-returns : tie.Need-returns
-returns c = search needs
-
 returns-2 : tie.Need-returns-2
 returns-2 c = rw (c .before .if1 .left, c .if2 .taken)
 
-returns-3 : tie.Need-returns-3
-returns-3 c = search needs
-
 pub marked-spec : {M : Type 1} → statement M
-marked-spec = tie.close (tie.spec returns returns-2 returns-3)
+marked-spec = tie.close (tie.spec (λ c. search needs) returns-2 (λ c. search needs))

@@ -23,23 +23,8 @@ here : (p : Plan) (k : ℕ) → k < length (seen p .modules) → getD (p .module
 unfolding moduleNode moduleSeen moduleLaid
 here p k h = sym (module-here p k h)
 
-module-count-requires : tie.Need-module-count-requires Inv-loop μ-loop
-module-count-requires c κs = search needs
-
 loop-holds : tie.Need-loop-holds Inv-loop μ-loop
 loop-holds c = (search needs, refl)
-
-element-copy-out-nodes : tie.Need-element-copy-out-nodes Inv-loop μ-loop
-element-copy-out-nodes c = search needs
-
-array-write-nodes : tie.Need-array-write-nodes Inv-loop μ-loop
-array-write-nodes c = search needs
-
-add-m : tie.Need-add-m Inv-loop μ-loop
-add-m c = search needs
-
-loop-less : tie.Need-loop-less Inv-loop μ-loop
-loop-less c = search needs
 
 loop-again : tie.Need-loop-again Inv-loop μ-loop
 unfolding moduleLaid
@@ -58,14 +43,5 @@ returns c =
 pub module-nodes-spec : {M : Type 1} → statement M
 module-nodes-spec =
     tie.close
-    (tie.spec
-    Inv-loop
-    μ-loop
-    module-count-requires
-    loop-holds
-    element-copy-out-nodes
-    array-write-nodes
-    add-m
-    loop-less
-    loop-again
-    returns)
+    (tie.spec Inv-loop μ-loop (λ c κs. search needs) loop-holds (λ c. search needs) (λ c. search needs) (λ c. search needs)
+    (λ c. search needs) loop-again returns)

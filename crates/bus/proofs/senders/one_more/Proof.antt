@@ -3,9 +3,6 @@ use native.Mathlib.Nat.{add-zero}
 use Rattle.bus.proofs.senders.one_more.Statement.{statement}
 use Rattle.bus.proofs.senders.one_more.Tie as tie
 
-add-result : tie.Need-add-result
-add-result c = search needs
-
 returns : tie.Need-returns
 returns c = rw (c .if1 .taken)
 
@@ -13,4 +10,4 @@ returns-2 : tie.Need-returns-2
 returns-2 c = rw (c .if1 .left, add-zero)
 
 pub one-more-spec : {M : Type 1} → statement M
-one-more-spec = tie.close (tie.spec add-result returns returns-2)
+one-more-spec = tie.close (tie.spec (λ c. search needs) returns returns-2)

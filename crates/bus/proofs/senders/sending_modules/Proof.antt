@@ -17,35 +17,8 @@ Inv-loop homes tasks n modules₀ t₀ modules t = (t ≤ n) × ((q : Plan) → 
 abbrev μ-loop : tie.MeasureT-loop
 μ-loop homes tasks n modules₀ t₀ modules t = n - t
 
-task-count-requires : tie.Need-task-count-requires Inv-loop μ-loop
-task-count-requires c κs = search needs
-
 loop-holds : tie.Need-loop-holds Inv-loop μ-loop
 loop-holds c = (search needs, λ q e f. sending-none q)
-
-element-copy-out-place : tie.Need-element-copy-out-place Inv-loop μ-loop
-element-copy-out-place c = search needs
-
-place-requires : tie.Need-place-requires Inv-loop μ-loop
-place-requires c κs = search needs
-
-array-read-either : tie.Need-array-read-either Inv-loop μ-loop
-array-read-either c = search needs
-
-element-copy-out-either : tie.Need-element-copy-out-either Inv-loop μ-loop
-element-copy-out-either c = search needs
-
-either-requires : tie.Need-either-requires Inv-loop μ-loop
-either-requires c κs = search needs
-
-array-write-modules : tie.Need-array-write-modules Inv-loop μ-loop
-array-write-modules c = search needs
-
-add-t : tie.Need-add-t Inv-loop μ-loop
-add-t c = search needs
-
-loop-less : tie.Need-loop-less Inv-loop μ-loop
-loop-less c = search needs
 
 loop-again : tie.Need-loop-again Inv-loop μ-loop
 loop-again c = (
@@ -63,18 +36,5 @@ returns c =
 pub sending-modules-spec : {M : Type 1} → statement M
 sending-modules-spec =
     tie.close
-    (tie.spec
-    Inv-loop
-    μ-loop
-    task-count-requires
-    loop-holds
-    element-copy-out-place
-    place-requires
-    array-read-either
-    element-copy-out-either
-    either-requires
-    array-write-modules
-    add-t
-    loop-less
-    loop-again
-    returns)
+    (tie.spec Inv-loop μ-loop (λ c κs. search needs) loop-holds (λ c. search needs) (λ c κs. search needs) (λ c. search needs)
+    (λ c. search needs) (λ c κs. search needs) (λ c. search needs) (λ c. search needs) (λ c. search needs) loop-again returns)

@@ -27,26 +27,8 @@ here : (p : Plan) (k : ℕ) → k < length (seen p .tasks) → getD (p .tasks) k
 unfolding taskHome theTask taskSeen taskLaid
 here p k h = sym (ap home (task-here p k h))
 
-task-count-requires : tie.Need-task-count-requires Inv-loop μ-loop
-task-count-requires c κs = search needs
-
 loop-holds : tie.Need-loop-holds Inv-loop μ-loop
 loop-holds c = (search needs, refl)
-
-mul-homes : tie.Need-mul-homes Inv-loop μ-loop
-mul-homes c = search needs
-
-element-copy-out-homes : tie.Need-element-copy-out-homes Inv-loop μ-loop
-element-copy-out-homes c = search needs
-
-array-write-homes : tie.Need-array-write-homes Inv-loop μ-loop
-array-write-homes c = search needs
-
-add-t : tie.Need-add-t Inv-loop μ-loop
-add-t c = search needs
-
-loop-less : tie.Need-loop-less Inv-loop μ-loop
-loop-less c = search needs
 
 loop-again : tie.Need-loop-again Inv-loop μ-loop
 unfolding taskLaid
@@ -65,15 +47,5 @@ returns c =
 pub task-homes-spec : {M : Type 1} → statement M
 task-homes-spec =
     tie.close
-    (tie.spec
-    Inv-loop
-    μ-loop
-    task-count-requires
-    loop-holds
-    mul-homes
-    element-copy-out-homes
-    array-write-homes
-    add-t
-    loop-less
-    loop-again
-    returns)
+    (tie.spec Inv-loop μ-loop (λ c κs. search needs) loop-holds (λ c. search needs) (λ c. search needs) (λ c. search needs)
+    (λ c. search needs) (λ c. search needs) loop-again returns)

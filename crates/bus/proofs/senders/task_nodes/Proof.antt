@@ -20,32 +20,8 @@ Inv-loop nodes homes n found₀ t₀ found t = (t ≤ n) × ((q : Plan) → node
 abbrev μ-loop : tie.MeasureT-loop
 μ-loop nodes homes n found₀ t₀ found t = n - t
 
-task-count-requires : tie.Need-task-count-requires Inv-loop μ-loop
-task-count-requires c κs = search needs
-
-element-copy-out-found : tie.Need-element-copy-out-found Inv-loop μ-loop
-element-copy-out-found c = search needs
-
 loop-holds : tie.Need-loop-holds Inv-loop μ-loop
 loop-holds c = (search needs, λ q e f. refl)
-
-element-copy-out-place : tie.Need-element-copy-out-place Inv-loop μ-loop
-element-copy-out-place c = search needs
-
-place-requires : tie.Need-place-requires Inv-loop μ-loop
-place-requires c κs = search needs
-
-element-copy-out-found-2 : tie.Need-element-copy-out-found-2 Inv-loop μ-loop
-element-copy-out-found-2 c = search needs
-
-array-write-found : tie.Need-array-write-found Inv-loop μ-loop
-array-write-found c = search needs
-
-add-t : tie.Need-add-t Inv-loop μ-loop
-add-t c = search needs
-
-loop-less : tie.Need-loop-less Inv-loop μ-loop
-loop-less c = search needs
 
 loop-again : tie.Need-loop-again Inv-loop μ-loop
 loop-again c = (
@@ -63,17 +39,5 @@ returns c =
 pub task-nodes-spec : {M : Type 1} → statement M
 task-nodes-spec =
     tie.close
-    (tie.spec
-    Inv-loop
-    μ-loop
-    task-count-requires
-    element-copy-out-found
-    loop-holds
-    element-copy-out-place
-    place-requires
-    element-copy-out-found-2
-    array-write-found
-    add-t
-    loop-less
-    loop-again
-    returns)
+    (tie.spec Inv-loop μ-loop (λ c κs. search needs) (λ c. search needs) loop-holds (λ c. search needs) (λ c κs. search needs)
+    (λ c. search needs) (λ c. search needs) (λ c. search needs) (λ c. search needs) loop-again returns)

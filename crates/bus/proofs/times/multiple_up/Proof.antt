@@ -7,9 +7,6 @@ use Rattle.laws.proofs.Bus.{up-le}
 use Rattle.bus.proofs.times.multiple_up.Statement.{statement}
 use Rattle.bus.proofs.times.multiple_up.Tie as tie
 
-quotient-up-requires : tie.Need-quotient-up-requires
-quotient-up-requires c κs = search needs
-
 rounded : (c : tie.After-quotient-up) → c .quotient-up .result * c .before .args .r ≡ up (c .before .args .r) (c .before .args .x)
 unfolding up
 rounded c = rw (c .quotient-up .ensures .0)
@@ -21,4 +18,4 @@ returns : tie.Need-returns
 returns c = (rounded c, rw (rounded c) (up-le (c .before .args .r) (c .before .args .x)))
 
 pub multiple-up-spec : {M : Type 1} → statement M
-multiple-up-spec = tie.close (tie.spec quotient-up-requires mul-result returns)
+multiple-up-spec = tie.close (tie.spec (λ c κs. search needs) mul-result returns)

@@ -8,18 +8,9 @@ use Rattle.bus.proofs.times.quotient_up.Tie as tie
 returns : tie.Need-returns
 returns c = (rw (c .if1 .taken, ceil-by-zero), search needs)
 
-sub-result : tie.Need-sub-result
-sub-result c = search needs
-
-add-result : tie.Need-add-result
-add-result c = search needs
-
-div-result : tie.Need-div-result
-div-result c = search needs
-
 returns-2 : tie.Need-returns-2
 unfolding ceil
 returns-2 c = (refl, ceil-le _ _)
 
 pub quotient-up-spec : {M : Type 1} → statement M
-quotient-up-spec = tie.close (tie.spec returns sub-result add-result div-result returns-2)
+quotient-up-spec = tie.close (tie.spec returns (λ c. search needs) (λ c. search needs) (λ c. search needs) returns-2)

@@ -20,36 +20,9 @@ gap : (c : tie.Joined1 Inv-loop μ-loop) → c .before .before .before .before .
 unfolding seen
 gap c = c .before .before .before .before .gap-time .ensures .0
 
-gap-time-requires : tie.Need-gap-time-requires Inv-loop μ-loop
-gap-time-requires c κs = search needs
-
-element-copy-out-nodes : tie.Need-element-copy-out-nodes Inv-loop μ-loop
-element-copy-out-nodes c = search needs
-
 loop-holds : tie.Need-loop-holds Inv-loop μ-loop
 unfolding seen countSeen nextAt stopAt nextStart rowsTo nodesTo controlFrom
 loop-holds c = (omega arith, c .before .before .before .pre .0, refl, refl, omega arith, omega arith)
-
-array-read-if1 : tie.Need-array-read-if1 Inv-loop μ-loop
-array-read-if1 c = omega arith
-
-array-read-control-time : tie.Need-array-read-control-time Inv-loop μ-loop
-array-read-control-time c = omega arith
-
-control-time-requires : tie.Need-control-time-requires Inv-loop μ-loop
-control-time-requires c κs = search needs
-
-add-stop : tie.Need-add-stop Inv-loop μ-loop
-add-stop c = omega arith
-
-add-next : tie.Need-add-next Inv-loop μ-loop
-add-next c = omega arith
-
-add-n : tie.Need-add-n Inv-loop μ-loop
-add-n c = omega arith
-
-loop-less : tie.Need-loop-less Inv-loop μ-loop
-loop-less c = search needs
 
 loop-again : tie.Need-loop-again Inv-loop μ-loop
 loop-again c =
@@ -73,9 +46,6 @@ loop-again c =
     (omega arith, l .inv .1, w .1 ∙ l .inv .2 ∙ sym (next-no q (l .n) y), w .2 ∙ l .inv .3 ∙ sym (stop-no q (l .n) y), omega (arith, w .1), omega (arith, w .2)))
     (c .if1 .came)
 
-add-t24 : tie.Need-add-t24 Inv-loop μ-loop
-add-t24 c = omega arith
-
 returns : tie.Need-returns Inv-loop μ-loop
 unfolding seen countSeen controlEnd controlRows sendingNodes stopAt rowsTo nodesTo
 returns c =
@@ -85,19 +55,6 @@ returns c =
 pub control-end-spec : {M : Type 1} → statement M
 control-end-spec =
     tie.close
-    (tie.spec
-    Inv-loop
-    μ-loop
-    gap-time-requires
-    element-copy-out-nodes
-    loop-holds
-    array-read-if1
-    array-read-control-time
-    control-time-requires
-    add-stop
-    add-next
-    add-n
-    loop-less
-    loop-again
-    add-t24
-    returns)
+    (tie.spec Inv-loop μ-loop (λ c κs. search needs) (λ c. search needs) loop-holds (λ c. omega arith) (λ c. omega arith)
+    (λ c κs. search needs) (λ c. omega arith) (λ c. omega arith) (λ c. omega arith) (λ c. search needs) loop-again
+    (λ c. omega arith) returns)

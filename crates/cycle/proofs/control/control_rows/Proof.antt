@@ -35,42 +35,18 @@ stops c =
     let w : l .next + timeOf q (l .n) ≤ controlEnd q = shown-fits q (l .n) (l .count) (l .next) (l .rows) (l .inv .2) y (omega arith) in
     omega (arith, time, s .pre .1 .1)
 
-gap-time-requires : tie.Need-gap-time-requires Inv-loop μ-loop
-gap-time-requires c κs = search needs
-
-element-copy-out-nodes : tie.Need-element-copy-out-nodes Inv-loop μ-loop
-element-copy-out-nodes c = search needs
-
-row-requires : tie.Need-row-requires Inv-loop μ-loop
-row-requires c κs = search needs
-
 loop-holds : tie.Need-loop-holds Inv-loop μ-loop
 unfolding seen countSeen
 loop-holds c = (omega arith, c .before .before .before .before .pre .0, shown-none (seen (c .before .before .before .before .args .t1)) (c .row .ensures))
 
-array-read-if1 : tie.Need-array-read-if1 Inv-loop μ-loop
-array-read-if1 c = omega arith
-
-array-read-control-time : tie.Need-array-read-control-time Inv-loop μ-loop
-array-read-control-time c = omega arith
-
-control-time-requires : tie.Need-control-time-requires Inv-loop μ-loop
-control-time-requires c κs = search needs
-
 add-stop : tie.Need-add-stop Inv-loop μ-loop
 add-stop c = omega (arith, stops c)
-
-cast-row : tie.Need-cast-row Inv-loop μ-loop
-cast-row c = omega arith
 
 cast-row-2 : tie.Need-cast-row-2 Inv-loop μ-loop
 cast-row-2 c = omega (arith, stops c)
 
 cast-row-3 : tie.Need-cast-row-3 Inv-loop μ-loop
 cast-row-3 c = omega (arith, stops c)
-
-row-requires-2 : tie.Need-row-requires-2 Inv-loop μ-loop
-row-requires-2 c κs = search needs
 
 mul-rows : tie.Need-mul-rows Inv-loop μ-loop
 mul-rows c = omega (arith, few (c .before))
@@ -83,12 +59,6 @@ add-count c = omega (arith, few (c .before))
 
 add-next : tie.Need-add-next Inv-loop μ-loop
 add-next c = omega (arith, stops (c .before))
-
-add-n : tie.Need-add-n Inv-loop μ-loop
-add-n c = omega arith
-
-loop-less : tie.Need-loop-less Inv-loop μ-loop
-loop-less c = search needs
 
 loop-again : tie.Need-loop-again Inv-loop μ-loop
 unfolding seen
@@ -123,26 +93,6 @@ returns c =
 pub control-rows-spec : {M : Type 1} → statement M
 control-rows-spec =
     tie.close
-    (tie.spec
-    Inv-loop
-    μ-loop
-    gap-time-requires
-    element-copy-out-nodes
-    row-requires
-    loop-holds
-    array-read-if1
-    array-read-control-time
-    control-time-requires
-    add-stop
-    cast-row
-    cast-row-2
-    cast-row-3
-    row-requires-2
-    mul-rows
-    array-set-from-rows
-    add-count
-    add-next
-    add-n
-    loop-less
-    loop-again
-    returns)
+    (tie.spec Inv-loop μ-loop (λ c κs. search needs) (λ c. search needs) (λ c κs. search needs) loop-holds (λ c. omega arith)
+    (λ c. omega arith) (λ c κs. search needs) add-stop (λ c. omega arith) cast-row-2 cast-row-3 (λ c κs. search needs) mul-rows
+    array-set-from-rows add-count add-next (λ c. omega arith) (λ c. search needs) loop-again returns)

@@ -32,23 +32,8 @@ loop-holds : tie.Need-loop-holds Inv-loop μ-loop
 unfolding periodOfRuns
 loop-holds c = (search needs, refl)
 
-mul-lcm : tie.Need-mul-lcm Inv-loop μ-loop
-mul-lcm c = search needs
-
-element-copy-out-lcm : tie.Need-element-copy-out-lcm Inv-loop μ-loop
-element-copy-out-lcm c = search needs
-
-lcm-requires : tie.Need-lcm-requires Inv-loop μ-loop
-lcm-requires c κs = search needs
-
 cast-period : tie.Need-cast-period Inv-loop μ-loop
 cast-period c = omega (arith, made c, period-below (runAt (c .before .before .before .before .args .t1)) (c .before .before .before .before .args .grid) (c .before .before .before .before .args .t1 .count) (c .before .before .before .loop .i + 1) (omega arith) (c .before .before .before .before .pre .1 .0) (whole c))
-
-add-i : tie.Need-add-i Inv-loop μ-loop
-add-i c = search needs
-
-loop-less : tie.Need-loop-less Inv-loop μ-loop
-loop-less c = search needs
 
 loop-again : tie.Need-loop-again Inv-loop μ-loop
 loop-again c = (omega arith, made c)
@@ -64,15 +49,5 @@ returns c =
 pub bus-period-spec : {M : Type 1} → statement M
 bus-period-spec =
     tie.close
-    (tie.spec
-    Inv-loop
-    μ-loop
-    loop-holds
-    mul-lcm
-    element-copy-out-lcm
-    lcm-requires
-    cast-period
-    add-i
-    loop-less
-    loop-again
-    returns)
+    (tie.spec Inv-loop μ-loop loop-holds (λ c. search needs) (λ c. search needs) (λ c κs. search needs) cast-period
+    (λ c. search needs) (λ c. search needs) loop-again returns)

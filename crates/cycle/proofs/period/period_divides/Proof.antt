@@ -21,27 +21,12 @@ abbrev μ-loop : tie.MeasureT-loop
 loop-holds : tie.Need-loop-holds Inv-loop μ-loop
 loop-holds c = (search needs, divides-none (runAt (c .args .t1)) (c .args .grid))
 
-mul-divides : tie.Need-mul-divides Inv-loop μ-loop
-mul-divides c = search needs
-
-element-copy-out-divides : tie.Need-element-copy-out-divides Inv-loop μ-loop
-element-copy-out-divides c = search needs
-
-divides-requires : tie.Need-divides-requires Inv-loop μ-loop
-divides-requires c κs = search needs
-
 returns : tie.Need-returns Inv-loop μ-loop
 unfolding runAt runsSeen
 returns c =
     let s = c .before .before .before .before .before in
     let l = c .before .before .before .before .loop in
     sym (divides-not (runAt (s .args .t1)) (s .args .grid) (s .args .t1 .count) (l .i) (omega arith) (sym (c .before .divides .ensures) ∙ not-true _ (c .if1 .taken)))
-
-add-i : tie.Need-add-i Inv-loop μ-loop
-add-i c = search needs
-
-loop-less : tie.Need-loop-less Inv-loop μ-loop
-loop-less c = search needs
 
 loop-again : tie.Need-loop-again Inv-loop μ-loop
 unfolding runAt
@@ -59,15 +44,5 @@ returns-2 c =
 pub period-divides-spec : {M : Type 1} → statement M
 period-divides-spec =
     tie.close
-    (tie.spec
-    Inv-loop
-    μ-loop
-    loop-holds
-    mul-divides
-    element-copy-out-divides
-    divides-requires
-    returns
-    add-i
-    loop-less
-    loop-again
-    returns-2)
+    (tie.spec Inv-loop μ-loop loop-holds (λ c. search needs) (λ c. search needs) (λ c κs. search needs) returns (λ c. search needs)
+    (λ c. search needs) loop-again returns-2)

@@ -18,45 +18,9 @@ Inv-loop p sending n grid₀ i₀ grid i = (i ≤ n) × (grid ≡ gridAmong (see
 abbrev μ-loop : tie.MeasureT-loop
 μ-loop p sending n grid₀ i₀ grid i = n - i
 
-mode-count-requires : tie.Need-mode-count-requires Inv-loop μ-loop
-mode-count-requires c κs = search needs
-
 loop-holds : tie.Need-loop-holds Inv-loop μ-loop
 unfolding gridAmong
 loop-holds c = (search needs, refl)
-
-mul-place : tie.Need-mul-place Inv-loop μ-loop
-mul-place c = search needs
-
-element-copy-out-place : tie.Need-element-copy-out-place Inv-loop μ-loop
-element-copy-out-place c = search needs
-
-place-requires : tie.Need-place-requires Inv-loop μ-loop
-place-requires c κs = search needs
-
-array-read-with-mode : tie.Need-array-read-with-mode Inv-loop μ-loop
-array-read-with-mode c = search needs
-
-mul-with-mode : tie.Need-mul-with-mode Inv-loop μ-loop
-mul-with-mode c = search needs
-
-element-copy-out-with-mode : tie.Need-element-copy-out-with-mode Inv-loop μ-loop
-element-copy-out-with-mode c = search needs
-
-mul-with-mode-2 : tie.Need-mul-with-mode-2 Inv-loop μ-loop
-mul-with-mode-2 c = search needs
-
-element-copy-out-with-mode-2 : tie.Need-element-copy-out-with-mode-2 Inv-loop μ-loop
-element-copy-out-with-mode-2 c = search needs
-
-with-mode-requires : tie.Need-with-mode-requires Inv-loop μ-loop
-with-mode-requires c κs = search needs
-
-add-i : tie.Need-add-i Inv-loop μ-loop
-add-i c = search needs
-
-loop-less : tie.Need-loop-less Inv-loop μ-loop
-loop-less c = search needs
 
 loop-again : tie.Need-loop-again Inv-loop μ-loop
 unfolding modeSeen modeLaid
@@ -80,21 +44,6 @@ returns c =
 pub switch-grid-spec : {M : Type 1} → statement M
 switch-grid-spec =
     tie.close
-    (tie.spec
-    Inv-loop
-    μ-loop
-    mode-count-requires
-    loop-holds
-    mul-place
-    element-copy-out-place
-    place-requires
-    array-read-with-mode
-    mul-with-mode
-    element-copy-out-with-mode
-    mul-with-mode-2
-    element-copy-out-with-mode-2
-    with-mode-requires
-    add-i
-    loop-less
-    loop-again
-    returns)
+    (tie.spec Inv-loop μ-loop (λ c κs. search needs) loop-holds (λ c. search needs) (λ c. search needs) (λ c κs. search needs)
+    (λ c. search needs) (λ c. search needs) (λ c. search needs) (λ c. search needs) (λ c. search needs) (λ c κs. search needs)
+    (λ c. search needs) (λ c. search needs) loop-again returns)

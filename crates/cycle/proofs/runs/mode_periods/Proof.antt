@@ -27,29 +27,8 @@ here : (p : Plan) (k : ℕ) → k < length (seen p .modes) → getD (p .modes) k
 unfolding modePeriod theMode modeSeen modeLaid
 here p k h = sym (ap period (mode-here p k h))
 
-mode-count-requires : tie.Need-mode-count-requires Inv-loop μ-loop
-mode-count-requires c κs = search needs
-
 loop-holds : tie.Need-loop-holds Inv-loop μ-loop
 loop-holds c = (search needs, refl)
-
-mul-periods : tie.Need-mul-periods Inv-loop μ-loop
-mul-periods c = search needs
-
-element-copy-out-periods : tie.Need-element-copy-out-periods Inv-loop μ-loop
-element-copy-out-periods c = search needs
-
-mul-periods-2 : tie.Need-mul-periods-2 Inv-loop μ-loop
-mul-periods-2 c = search needs
-
-array-write-periods : tie.Need-array-write-periods Inv-loop μ-loop
-array-write-periods c = search needs
-
-add-m : tie.Need-add-m Inv-loop μ-loop
-add-m c = search needs
-
-loop-less : tie.Need-loop-less Inv-loop μ-loop
-loop-less c = search needs
 
 loop-again : tie.Need-loop-again Inv-loop μ-loop
 unfolding modeLaid
@@ -68,16 +47,5 @@ returns c =
 pub mode-periods-spec : {M : Type 1} → statement M
 mode-periods-spec =
     tie.close
-    (tie.spec
-    Inv-loop
-    μ-loop
-    mode-count-requires
-    loop-holds
-    mul-periods
-    element-copy-out-periods
-    mul-periods-2
-    array-write-periods
-    add-m
-    loop-less
-    loop-again
-    returns)
+    (tie.spec Inv-loop μ-loop (λ c κs. search needs) loop-holds (λ c. search needs) (λ c. search needs) (λ c. search needs)
+    (λ c. search needs) (λ c. search needs) (λ c. search needs) loop-again returns)

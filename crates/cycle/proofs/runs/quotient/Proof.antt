@@ -6,11 +6,5 @@ use Rattle.cycle.proofs.runs.quotient.Tie as tie
 returns : tie.Need-returns
 returns c = rw (c .if1 .taken, div-zero)
 
-div-result : tie.Need-div-result
-div-result c = search needs
-
-returns-2 : tie.Need-returns-2
-returns-2 c = search needs
-
 pub quotient-spec : {M : Type 1} → statement M
-quotient-spec = tie.close (tie.spec returns div-result returns-2)
+quotient-spec = tie.close (tie.spec returns (λ c. search needs) (λ c. search needs))

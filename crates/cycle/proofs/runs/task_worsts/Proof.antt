@@ -27,29 +27,8 @@ here : (p : Plan) (k : ℕ) → k < length (seen p .tasks) → getD (p .tasks) k
 unfolding taskWorst theTask taskSeen taskLaid
 here p k h = sym (ap worst (task-here p k h))
 
-task-count-requires : tie.Need-task-count-requires Inv-loop μ-loop
-task-count-requires c κs = search needs
-
 loop-holds : tie.Need-loop-holds Inv-loop μ-loop
 loop-holds c = (search needs, refl)
-
-mul-worsts : tie.Need-mul-worsts Inv-loop μ-loop
-mul-worsts c = search needs
-
-element-copy-out-worsts : tie.Need-element-copy-out-worsts Inv-loop μ-loop
-element-copy-out-worsts c = search needs
-
-mul-worsts-2 : tie.Need-mul-worsts-2 Inv-loop μ-loop
-mul-worsts-2 c = search needs
-
-array-write-worsts : tie.Need-array-write-worsts Inv-loop μ-loop
-array-write-worsts c = search needs
-
-add-t : tie.Need-add-t Inv-loop μ-loop
-add-t c = search needs
-
-loop-less : tie.Need-loop-less Inv-loop μ-loop
-loop-less c = search needs
 
 loop-again : tie.Need-loop-again Inv-loop μ-loop
 unfolding taskLaid
@@ -68,16 +47,5 @@ returns c =
 pub task-worsts-spec : {M : Type 1} → statement M
 task-worsts-spec =
     tie.close
-    (tie.spec
-    Inv-loop
-    μ-loop
-    task-count-requires
-    loop-holds
-    mul-worsts
-    element-copy-out-worsts
-    mul-worsts-2
-    array-write-worsts
-    add-t
-    loop-less
-    loop-again
-    returns)
+    (tie.spec Inv-loop μ-loop (λ c κs. search needs) loop-holds (λ c. search needs) (λ c. search needs) (λ c. search needs)
+    (λ c. search needs) (λ c. search needs) (λ c. search needs) loop-again returns)

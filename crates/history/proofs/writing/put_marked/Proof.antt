@@ -5,22 +5,9 @@ use native.Mathlib.Omega.{arith}
 use borrow.Author.Needs.{needs}
 use Rattle.history.proofs.writing.put_marked.Statement.{statement}
 use Rattle.history.proofs.writing.put_marked.Tie as tie
-use Rattle.history.proofs.writing.put_marked.Reads as reads
-use Rattle.history.proofs.writing.put_marked.Lts as lts
-use Rattle.text.proofs.put_bytes.Reads as put-bytes-reads
-use Rattle.text.proofs.put_decimal.Reads as put-decimal-reads
-
-put-bytes-requires : tie.Need-put-bytes-requires
-put-bytes-requires c κs = search needs
-
-put-decimal-requires : tie.Need-put-decimal-requires
-put-decimal-requires c κs = search needs
-
-same-length : tie.Need-same-length
-same-length c = search needs
 
 returns : tie.Need-returns
 returns c = let a = c .before .before .before .before .before .before .before .before .before .before .args in let few = marked-few (a .mark .now) (a .x) (omega arith) in let p = both-put (a .out .now) _ _ (a .mark .now) _ (a .at) (c .before .before .before .before .before .before .put-bytes .result) (c .before .before .put-decimal .result) (c .before .before .before .before .before .before .put-bytes .ensures) (c .before .before .put-decimal .ensures) in (p, omega arith)
 
 pub put-marked-spec : {M : Type 1} → statement M
-put-marked-spec = tie.close (tie.spec put-bytes-requires put-decimal-requires same-length returns)
+put-marked-spec = tie.close (tie.spec (λ c κs. search needs) (λ c κs. search needs) (λ c. search needs) returns)

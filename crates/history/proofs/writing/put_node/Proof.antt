@@ -8,9 +8,6 @@ use native.Mathlib.Omega.{arith}
 use borrow.Author.Needs.{needs}
 use Rattle.history.proofs.writing.put_node.Statement.{statement}
 use Rattle.history.proofs.writing.put_node.Tie as tie
-use Rattle.history.proofs.writing.put_node.Reads as reads
-use Rattle.history.proofs.writing.put_node.Lts as lts
-use Rattle.history.proofs.writing.put_place.Reads as put-place-reads
 
 abbrev Inv-loop : tie.InvT-loop
 Inv-loop out₀ at n shown next₀ t₀ out next t = (t ≤ 32) × (next ≤ at + 63 * t) × Putting out₀ at (shownAt n shown) t out next
@@ -20,21 +17,6 @@ abbrev μ-loop : tie.MeasureT-loop
 
 loop-holds : tie.Need-loop-holds Inv-loop μ-loop
 loop-holds c = (search needs, search needs, putting-none)
-
-mul-put-place : tie.Need-mul-put-place Inv-loop μ-loop
-mul-put-place c = search needs
-
-element-copy-out-put-place : tie.Need-element-copy-out-put-place Inv-loop μ-loop
-element-copy-out-put-place c = search needs
-
-put-place-requires : tie.Need-put-place-requires Inv-loop μ-loop
-put-place-requires c κs = search needs
-
-add-t : tie.Need-add-t Inv-loop μ-loop
-add-t c = search needs
-
-loop-less : tie.Need-loop-less Inv-loop μ-loop
-loop-less c = search needs
 
 loop-again : tie.Need-loop-again Inv-loop μ-loop
 unfolding shownAt
@@ -49,15 +31,5 @@ returns c = (putting-end (c .before .loop .inv .2) (c .before .loop .inv .0) (c 
 pub put-node-spec : {M : Type 1} → statement M
 put-node-spec =
     tie.close
-    (tie.spec
-    Inv-loop
-    μ-loop
-    loop-holds
-    mul-put-place
-    element-copy-out-put-place
-    put-place-requires
-    add-t
-    loop-less
-    loop-again
-    same-length
-    returns)
+    (tie.spec Inv-loop μ-loop loop-holds (λ c. search needs) (λ c. search needs) (λ c κs. search needs) (λ c. search needs)
+    (λ c. search needs) loop-again same-length returns)

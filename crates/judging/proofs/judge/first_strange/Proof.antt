@@ -25,48 +25,9 @@ abbrev μ-loop : tie.MeasureT-loop
 loop-holds : tie.Need-loop-holds Inv-loop μ-loop
 loop-holds c = (search needs, refl)
 
-element-copy-out-same-control : tie.Need-element-copy-out-same-control Inv-loop μ-loop
-element-copy-out-same-control c = search needs
-
-mul-same-control : tie.Need-mul-same-control Inv-loop μ-loop
-mul-same-control c = search needs
-
-element-copy-out-same-control-2 : tie.Need-element-copy-out-same-control-2 Inv-loop μ-loop
-element-copy-out-same-control-2 c = search needs
-
-mul-same-control-2 : tie.Need-mul-same-control-2 Inv-loop μ-loop
-mul-same-control-2 c = search needs
-
-element-copy-out-same-control-3 : tie.Need-element-copy-out-same-control-3 Inv-loop μ-loop
-element-copy-out-same-control-3 c = search needs
-
-element-copy-out-same-control-4 : tie.Need-element-copy-out-same-control-4 Inv-loop μ-loop
-element-copy-out-same-control-4 c = search needs
-
-mul-same-control-3 : tie.Need-mul-same-control-3 Inv-loop μ-loop
-mul-same-control-3 c = search needs
-
-element-copy-out-same-control-5 : tie.Need-element-copy-out-same-control-5 Inv-loop μ-loop
-element-copy-out-same-control-5 c = search needs
-
-mul-same-control-4 : tie.Need-mul-same-control-4 Inv-loop μ-loop
-mul-same-control-4 c = search needs
-
-element-copy-out-same-control-6 : tie.Need-element-copy-out-same-control-6 Inv-loop μ-loop
-element-copy-out-same-control-6 c = search needs
-
-same-control-requires : tie.Need-same-control-requires Inv-loop μ-loop
-same-control-requires c κs = search needs
-
 returns : tie.Need-returns Inv-loop μ-loop
 unfolding controlsSame sameControl controlIn
 returns c = scan-hit (controlsSame (controlIn (now (c .before .before .before .before .before .before .before .before .before .before .args .nodes)) (now (c .before .before .before .before .before .before .before .before .before .before .args .begins)) (now (c .before .before .before .before .before .before .before .before .before .before .args .ends))) (controlIn (now (c .before .before .before .before .before .before .before .before .before .before .args .senders)) (now (c .before .before .before .before .before .before .before .before .before .before .args .opens)) (now (c .before .before .before .before .before .before .before .before .before .before .args .closes)))) (c .before .before .before .before .before .before .before .before .before .loop .inv .1) (c .before .before .before .before .before .before .before .before .loop-test .taken) (sym (c .before .same-control .ensures) ∙ not-true _ (c .if1 .taken))
-
-add-k : tie.Need-add-k Inv-loop μ-loop
-add-k c = search needs
-
-loop-less : tie.Need-loop-less Inv-loop μ-loop
-loop-less c = search needs
 
 loop-again : tie.Need-loop-again Inv-loop μ-loop
 unfolding controlsSame sameControl controlIn
@@ -76,4 +37,8 @@ returns-2 : tie.Need-returns-2 Inv-loop μ-loop
 returns-2 c = scan-end (controlsSame (controlIn (now (c .before .before .args .nodes)) (now (c .before .before .args .begins)) (now (c .before .before .args .ends))) (controlIn (now (c .before .before .args .senders)) (now (c .before .before .args .opens)) (now (c .before .before .args .closes)))) (c .before .loop .inv .1) (c .loop-test .left) (c .before .loop .inv .0)
 
 pub first-strange-spec : {M : Type 1} → statement M
-first-strange-spec = tie.close (tie.spec Inv-loop μ-loop loop-holds element-copy-out-same-control mul-same-control element-copy-out-same-control-2 mul-same-control-2 element-copy-out-same-control-3 element-copy-out-same-control-4 mul-same-control-3 element-copy-out-same-control-5 mul-same-control-4 element-copy-out-same-control-6 same-control-requires returns add-k loop-less loop-again returns-2)
+first-strange-spec =
+    tie.close
+    (tie.spec Inv-loop μ-loop loop-holds (λ c. search needs) (λ c. search needs) (λ c. search needs) (λ c. search needs)
+    (λ c. search needs) (λ c. search needs) (λ c. search needs) (λ c. search needs) (λ c. search needs) (λ c. search needs)
+    (λ c κs. search needs) returns (λ c. search needs) (λ c. search needs) loop-again returns-2)

@@ -11,12 +11,6 @@ use borrow.Author.Needs.{needs}
 use Rattle.judging.proofs.judge.judge.Statement.{statement}
 use Rattle.judging.proofs.judge.judge.Tie as tie
 
-header-right-requires : tie.Need-header-right-requires
-header-right-requires c κs = search needs
-
-refused-requires : tie.Need-refused-requires
-refused-requires c κs = search needs
-
 returns : tie.Need-returns
 unfolding lineJudged controlsOn framesOn boundsOn
 returns c = wrong-header (c .before .before .before .before .before .before .before .args .t2 .task) (c .before .before .before .before .before .before .before .args .t2 .release) (c .before .before .before .before .before .before .before .args .t2 .deadline) (c .before .before .before .before .before .before .before .args .t2 .frames) (timeIn (c .before .before .before .before .before .before .before .args .t2 .time)) (c .before .before .before .before .before .before .before .args .t2 .nodes) (c .before .before .before .before .before .before .before .args .t2 .starts) (c .before .before .before .before .before .before .before .args .t2 .stops) (c .before .before .before .before .before .before .before .args .t2 .controls) (boundsOn (c .before .before .before .before .before .before .before .args .t2)) (c .before .before .before .before .before .before .before .args .t1) (c .before .before .header-right .ensures) (not-true _ (c .before .if1 .taken)) (c .refused .ensures)
@@ -24,21 +18,12 @@ returns c = wrong-header (c .before .before .before .before .before .before .bef
 first-strange-requires : tie.Need-first-strange-requires
 first-strange-requires c κs = c .before .before .before .before .before .before .before .before .before .before .before .before .before .before .pre .1
 
-enum-known-k : tie.Need-enum-known-k
-enum-known-k c = search needs
-
 add-t25 : tie.Need-add-t25
 add-t25 c = let e = spot-at (firstBad (controlsSame (controlIn (c .before .before .before .before .before .before .before .before .before .before .before .before .before .before .before .before .before .before .args .t1 .nodes) (c .before .before .before .before .before .before .before .before .before .before .before .before .before .before .before .before .before .before .args .t1 .begins) (c .before .before .before .before .before .before .before .before .before .before .before .before .before .before .before .before .before .before .args .t1 .ends)) (controlIn (c .before .before .before .before .before .before .before .before .before .before .before .before .before .before .before .before .before .before .args .t2 .nodes) (c .before .before .before .before .before .before .before .before .before .before .before .before .before .before .before .before .before .before .args .t2 .starts) (c .before .before .before .before .before .before .before .before .before .before .before .before .before .before .before .before .before .before .args .t2 .stops))) (upTo (c .before .before .before .before .before .before .before .before .before .before .before .before .before .before .before .before .before .before .args .t2 .controls))) (c .before .before .before .first-strange .ensures) (c .before .k .given .1) in let w = firstBad-upTo-within (controlsSame (controlIn (c .before .before .before .before .before .before .before .before .before .before .before .before .before .before .before .before .before .before .args .t1 .nodes) (c .before .before .before .before .before .before .before .before .before .before .before .before .before .before .before .before .before .before .args .t1 .begins) (c .before .before .before .before .before .before .before .before .before .before .before .before .before .before .before .before .before .before .args .t1 .ends)) (controlIn (c .before .before .before .before .before .before .before .before .before .before .before .before .before .before .before .before .before .before .args .t2 .nodes) (c .before .before .before .before .before .before .before .before .before .before .before .before .before .before .before .before .before .before .args .t2 .starts) (c .before .before .before .before .before .before .before .before .before .before .before .before .before .before .before .before .before .before .args .t2 .stops))) (c .before .before .before .before .before .before .before .before .before .before .before .before .before .before .before .before .before .before .args .t2 .controls) (c .before .k .given .0 .0) e in omega (arith, w, c .before .before .before .before .before .before .before .before .before .before .before .before .before .before .before .before .before .before .pre .1)
-
-refused-requires-2 : tie.Need-refused-requires-2
-refused-requires-2 c κs = search needs
 
 returns-2 : tie.Need-returns-2
 unfolding lineJudged controlsOn framesOn boundsOn
 returns-2 c = strange-control (c .before .before .before .before .before .before .before .before .before .before .before .before .before .before .before .before .before .before .before .args .t2 .task) (c .before .before .before .before .before .before .before .before .before .before .before .before .before .before .before .before .before .before .before .args .t2 .release) (c .before .before .before .before .before .before .before .before .before .before .before .before .before .before .before .before .before .before .before .args .t2 .deadline) (c .before .before .before .before .before .before .before .before .before .before .before .before .before .before .before .before .before .before .before .args .t2 .frames) (timeIn (c .before .before .before .before .before .before .before .before .before .before .before .before .before .before .before .before .before .before .before .args .t2 .time)) (c .before .before .before .before .before .before .before .before .before .before .before .before .before .before .before .before .before .before .before .args .t2 .nodes) (c .before .before .before .before .before .before .before .before .before .before .before .before .before .before .before .before .before .before .before .args .t2 .starts) (c .before .before .before .before .before .before .before .before .before .before .before .before .before .before .before .before .before .before .before .args .t2 .stops) (c .before .before .before .before .before .before .before .before .before .before .before .before .before .before .before .before .before .before .before .args .t2 .controls) (boundsOn (c .before .before .before .before .before .before .before .before .before .before .before .before .before .before .before .before .before .before .before .args .t2)) (c .before .before .before .before .before .before .before .before .before .before .before .before .before .before .before .before .before .before .before .args .t1) (c .before .before .before .before .before .before .before .before .before .before .before .before .before .before .header-right .ensures) (not-false _ (c .before .before .before .before .before .before .before .before .before .before .before .before .before .if1 .left)) (c .before .before .before .before .first-strange .ensures) (c .before .before .k .given .1) (c .refused2 .ensures)
-
-enum-told : tie.Need-enum-told
-enum-told c = search needs
 
 by-rows-requires : tie.Need-by-rows-requires
 unfolding lineJudged controlsOn framesOn boundsOn
@@ -49,4 +34,7 @@ unfolding lineJudged controlsOn framesOn boundsOn
 returns-3 c = same-controls (c .before .before .before .before .before .before .before .before .before .before .before .before .before .before .before .before .before .before .before .before .before .before .before .args .t2 .task) (c .before .before .before .before .before .before .before .before .before .before .before .before .before .before .before .before .before .before .before .before .before .before .before .args .t2 .release) (c .before .before .before .before .before .before .before .before .before .before .before .before .before .before .before .before .before .before .before .before .before .before .before .args .t2 .deadline) (c .before .before .before .before .before .before .before .before .before .before .before .before .before .before .before .before .before .before .before .before .before .before .before .args .t2 .frames) (timeIn (c .before .before .before .before .before .before .before .before .before .before .before .before .before .before .before .before .before .before .before .before .before .before .before .args .t2 .time)) (c .before .before .before .before .before .before .before .before .before .before .before .before .before .before .before .before .before .before .before .before .before .before .before .args .t2 .nodes) (c .before .before .before .before .before .before .before .before .before .before .before .before .before .before .before .before .before .before .before .before .before .before .before .args .t2 .starts) (c .before .before .before .before .before .before .before .before .before .before .before .before .before .before .before .before .before .before .before .before .before .before .before .args .t2 .stops) (c .before .before .before .before .before .before .before .before .before .before .before .before .before .before .before .before .before .before .before .before .before .before .before .args .t2 .controls) (boundsOn (c .before .before .before .before .before .before .before .before .before .before .before .before .before .before .before .before .before .before .before .before .before .before .before .args .t2)) (c .before .before .before .before .before .before .before .before .before .before .before .before .before .before .before .before .before .before .before .before .before .before .before .args .t1) (c .before .before .before .before .before .before .before .before .before .before .before .before .before .before .before .before .before .before .header-right .ensures) (not-false _ (c .before .before .before .before .before .before .before .before .before .before .before .before .before .before .before .before .before .if1 .left)) (c .before .before .before .before .before .before .before .before .first-strange .ensures) (c .before .before .before .before .before .before .enum-told .given .1) (c .by-rows .ensures)
 
 pub judge-spec : {M : Type 1} → statement M
-judge-spec = tie.close (tie.spec header-right-requires refused-requires returns first-strange-requires enum-known-k add-t25 refused-requires-2 returns-2 enum-told by-rows-requires returns-3)
+judge-spec =
+    tie.close
+    (tie.spec (λ c κs. search needs) (λ c κs. search needs) returns first-strange-requires (λ c. search needs) add-t25
+    (λ c κs. search needs) returns-2 (λ c. search needs) by-rows-requires returns-3)

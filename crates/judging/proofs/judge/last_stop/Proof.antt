@@ -5,20 +5,8 @@ use borrow.Author.Needs.{needs}
 use Rattle.judging.proofs.judge.last_stop.Statement.{statement}
 use Rattle.judging.proofs.judge.last_stop.Tie as tie
 
-sub-result : tie.Need-sub-result
-sub-result c = search needs
-
-mul-result : tie.Need-mul-result
-mul-result c = search needs
-
-element-copy-out-result : tie.Need-element-copy-out-result
-element-copy-out-result c = search needs
-
-returns : tie.Need-returns
-returns c = search needs
-
 returns-2 : tie.Need-returns-2
 returns-2 c = before-at _ 0 _ (c .before .if1 .left)
 
 pub last-stop-spec : {M : Type 1} → statement M
-last-stop-spec = tie.close (tie.spec sub-result mul-result element-copy-out-result returns returns-2)
+last-stop-spec = tie.close (tie.spec (λ c. search needs) (λ c. search needs) (λ c. search needs) (λ c. search needs) returns-2)

@@ -17,9 +17,6 @@ abbrev μ-loop : tie.MeasureT-loop
 loop-holds : tie.Need-loop-holds Inv-loop μ-loop
 loop-holds c = bracket-start _ _ _ _
 
-sub-middle : tie.Need-sub-middle Inv-loop μ-loop
-sub-middle c = omega arith
-
 add-middle : tie.Need-add-middle Inv-loop μ-loop
 add-middle c = omega (arith, c .before .loop .inv .within, c .before .before .pre .room)
 
@@ -31,9 +28,6 @@ element-copy-out-key c = omega (arith, c .before .loop .inv .within, c .before .
 
 element-copy-out-key-2 : tie.Need-element-copy-out-key-2 Inv-loop μ-loop
 element-copy-out-key-2 c = omega (arith, c .before .before .loop .inv .within, c .before .before .before .pre .room)
-
-key-requires : tie.Need-key-requires Inv-loop μ-loop
-key-requires c κs = search needs
 
 add-low : tie.Need-add-low Inv-loop μ-loop
 add-low c = omega (arith, c .before .before .before .before .before .loop .inv .within, c .before .before .before .before .before .before .pre .room)
@@ -56,4 +50,7 @@ returns : tie.Need-returns Inv-loop μ-loop
 returns c = bracket-end _ _ _ _ (c .before .loop .low) (c .before .loop .high) (c .before .loop .inv) (c .loop-test .left)
 
 pub before-spec : {M : Type 1} → statement M
-before-spec = tie.close (tie.spec Inv-loop μ-loop loop-holds sub-middle add-middle mul-key element-copy-out-key element-copy-out-key-2 key-requires add-low loop-less loop-again loop-less-2 loop-again-2 returns)
+before-spec =
+    tie.close
+    (tie.spec Inv-loop μ-loop loop-holds (λ c. omega arith) add-middle mul-key element-copy-out-key element-copy-out-key-2
+    (λ c κs. search needs) add-low loop-less loop-again loop-less-2 loop-again-2 returns)

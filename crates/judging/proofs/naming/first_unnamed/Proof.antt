@@ -22,29 +22,11 @@ abbrev μ-loop : tie.MeasureT-loop
 loop-holds : tie.Need-loop-holds Inv-loop μ-loop
 loop-holds c = (search needs, refl, refl)
 
-mul-f : tie.Need-mul-f Inv-loop μ-loop
-mul-f c = search needs
-
-element-copy-out-f : tie.Need-element-copy-out-f Inv-loop μ-loop
-element-copy-out-f c = search needs
-
 returns : tie.Need-returns Inv-loop μ-loop
 returns c = scan-hit (isNew (now (c .before .before .before .before .args .numbers)) (c .before .before .before .before .args .frames)) (c .before .before .before .loop .inv .2) (c .before .before .loop-test .taken) (new-past (now (c .before .before .before .before .args .numbers)) (c .before .before .before .before .args .frames) (c .before .before .before .loop .k) (c .if1 .taken))
 
-array-read-if2 : tie.Need-array-read-if2 Inv-loop μ-loop
-array-read-if2 c = search needs
-
 returns-2 : tie.Need-returns-2 Inv-loop μ-loop
 returns-2 c = scan-hit (isNew (now (c .before .before .before .before .before .args .numbers)) (c .before .before .before .before .before .args .frames)) (c .before .before .before .before .loop .inv .2) (c .before .before .before .loop-test .taken) (new-again (now (c .before .before .before .before .before .args .numbers)) (c .before .before .before .before .before .args .frames) (c .before .before .before .before .loop .k) (c .before .before .before .before .loop .inv .1) (c .before .if1 .left) (c .if2 .taken))
-
-array-write-named : tie.Need-array-write-named Inv-loop μ-loop
-array-write-named c = search needs
-
-add-k : tie.Need-add-k Inv-loop μ-loop
-add-k c = search needs
-
-loop-less : tie.Need-loop-less Inv-loop μ-loop
-loop-less c = search needs
 
 loop-again : tie.Need-loop-again Inv-loop μ-loop
 loop-again c = (omega (arith, c .before .before .before .loop-test .taken), marks-more (now (c .before .before .before .before .before .args .numbers)) (c .before .before .before .before .before .args .frames) (c .before .before .before .before .loop .k) (c .before .before .before .before .loop .inv .1), firstBad-upTo-more (isNew (now (c .before .before .before .before .before .args .numbers)) (c .before .before .before .before .before .args .frames)) (c .before .before .before .before .loop .k) (c .before .before .before .before .loop .inv .2) (new-first (now (c .before .before .before .before .before .args .numbers)) (c .before .before .before .before .before .args .frames) (c .before .before .before .before .loop .k) (c .before .before .before .before .loop .inv .1) (c .before .if1 .left) (c .if2 .left)))
@@ -53,4 +35,7 @@ returns-3 : tie.Need-returns-3 Inv-loop μ-loop
 returns-3 c = scan-end (isNew (now (c .before .before .args .numbers)) (c .before .before .args .frames)) (c .before .loop .inv .2) (c .loop-test .left) (c .before .loop .inv .0)
 
 pub first-unnamed-spec : {M : Type 1} → statement M
-first-unnamed-spec = tie.close (tie.spec Inv-loop μ-loop loop-holds mul-f element-copy-out-f returns array-read-if2 returns-2 array-write-named add-k loop-less loop-again returns-3)
+first-unnamed-spec =
+    tie.close
+    (tie.spec Inv-loop μ-loop loop-holds (λ c. search needs) (λ c. search needs) returns (λ c. search needs) returns-2
+    (λ c. search needs) (λ c. search needs) (λ c. search needs) loop-again returns-3)

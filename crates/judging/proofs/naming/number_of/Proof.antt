@@ -6,9 +6,6 @@ use borrow.Author.Needs.{needs}
 use Rattle.judging.proofs.naming.number_of.Statement.{statement}
 use Rattle.judging.proofs.naming.number_of.Tie as tie
 
-key-requires : tie.Need-key-requires
-key-requires c κs = search needs
-
 has-key-requires : tie.Need-has-key-requires
 has-key-requires c κs = c .before .pre .room
 
@@ -28,4 +25,6 @@ returns-3 : tie.Need-returns-3
 returns-3 c = look-missed _ _ _ _ _ (c .before .before .before .before .before .before .pre) (c .before .before .before .before .before .key .ensures) (c .before .before .before2 .ensures) (c .before .has-key2 .ensures) (c .if2 .left)
 
 pub number-of-spec : {M : Type 1} → statement M
-number-of-spec = tie.close (tie.spec key-requires has-key-requires returns before-requires has-key-requires-2 returns-2 returns-3)
+number-of-spec =
+    tie.close
+    (tie.spec (λ c κs. search needs) has-key-requires returns before-requires has-key-requires-2 returns-2 returns-3)

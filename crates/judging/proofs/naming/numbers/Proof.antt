@@ -20,29 +20,8 @@ abbrev μ-loop : tie.MeasureT-loop
 loop-holds : tie.Need-loop-holds Inv-loop μ-loop
 loop-holds c = (search needs, refl)
 
-element-copy-out-number-of : tie.Need-element-copy-out-number-of Inv-loop μ-loop
-element-copy-out-number-of c = search needs
-
-mul-number-of : tie.Need-mul-number-of Inv-loop μ-loop
-mul-number-of c = search needs
-
-element-copy-out-number-of-2 : tie.Need-element-copy-out-number-of-2 Inv-loop μ-loop
-element-copy-out-number-of-2 c = search needs
-
 number-of-requires : tie.Need-number-of-requires Inv-loop μ-loop
 number-of-requires c κs = c .before .before .before .before .pre .0
-
-mul-found : tie.Need-mul-found Inv-loop μ-loop
-mul-found c = search needs
-
-array-write-found : tie.Need-array-write-found Inv-loop μ-loop
-array-write-found c = search needs
-
-add-k : tie.Need-add-k Inv-loop μ-loop
-add-k c = search needs
-
-loop-less : tie.Need-loop-less Inv-loop μ-loop
-loop-less c = search needs
 
 loop-again : tie.Need-loop-again Inv-loop μ-loop
 unfolding numberAt
@@ -52,4 +31,7 @@ returns : tie.Need-returns Inv-loop μ-loop
 returns c = let e : c .before .loop .k ≡ c .before .before .args .rows = omega arith in rw (c .before .loop .inv .1, e)
 
 pub numbers-spec : {M : Type 1} → statement M
-numbers-spec = tie.close (tie.spec Inv-loop μ-loop loop-holds element-copy-out-number-of mul-number-of element-copy-out-number-of-2 number-of-requires mul-found array-write-found add-k loop-less loop-again returns)
+numbers-spec =
+    tie.close
+    (tie.spec Inv-loop μ-loop loop-holds (λ c. search needs) (λ c. search needs) (λ c. search needs) number-of-requires
+    (λ c. search needs) (λ c. search needs) (λ c. search needs) (λ c. search needs) loop-again returns)

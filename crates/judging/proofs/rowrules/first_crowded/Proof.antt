@@ -23,30 +23,9 @@ abbrev μ-loop : tie.MeasureT-loop
 loop-holds : tie.Need-loop-holds Inv-loop μ-loop
 loop-holds c = (search needs, refl)
 
-mul-wide : tie.Need-mul-wide Inv-loop μ-loop
-mul-wide c = search needs
-
-element-copy-out-wide : tie.Need-element-copy-out-wide Inv-loop μ-loop
-element-copy-out-wide c = search needs
-
-wide-requires : tie.Need-wide-requires Inv-loop μ-loop
-wide-requires c κs = search needs
-
-stop-before-requires : tie.Need-stop-before-requires Inv-loop μ-loop
-stop-before-requires c κs = search needs
-
-later-requires : tie.Need-later-requires Inv-loop μ-loop
-later-requires c κs = search needs
-
 returns : tie.Need-returns Inv-loop μ-loop
 unfolding gapKept
 returns c = scan-hit (gapKept (now (c .before .before .before .before .before .before .before .args .starts)) (now (c .before .before .before .before .before .before .before .args .stops)) (c .before .before .before .before .before .before .before .args .last) (c .before .before .before .before .before .before .before .args .gap)) (c .before .before .before .before .before .before .loop .inv .1) (c .before .before .before .before .before .loop-test .taken) (rw (sym (c .before .before .stop-before .ensures), sym (c .before .later .ensures), sym (c .before .before .before .wide .ensures)) (lt-leb _ _ (c .if1 .taken)))
-
-add-k : tie.Need-add-k Inv-loop μ-loop
-add-k c = search needs
-
-loop-less : tie.Need-loop-less Inv-loop μ-loop
-loop-less c = search needs
 
 loop-again : tie.Need-loop-again Inv-loop μ-loop
 unfolding gapKept
@@ -56,4 +35,7 @@ returns-2 : tie.Need-returns-2 Inv-loop μ-loop
 returns-2 c = scan-end (gapKept (now (c .before .before .args .starts)) (now (c .before .before .args .stops)) (c .before .before .args .last) (c .before .before .args .gap)) (c .before .loop .inv .1) (c .loop-test .left) (c .before .loop .inv .0)
 
 pub first-crowded-spec : {M : Type 1} → statement M
-first-crowded-spec = tie.close (tie.spec Inv-loop μ-loop loop-holds mul-wide element-copy-out-wide wide-requires stop-before-requires later-requires returns add-k loop-less loop-again returns-2)
+first-crowded-spec =
+    tie.close
+    (tie.spec Inv-loop μ-loop loop-holds (λ c. search needs) (λ c. search needs) (λ c κs. search needs) (λ c κs. search needs)
+    (λ c κs. search needs) returns (λ c. search needs) (λ c. search needs) loop-again returns-2)

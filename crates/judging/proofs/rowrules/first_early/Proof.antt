@@ -23,30 +23,9 @@ abbrev μ-loop : tie.MeasureT-loop
 loop-holds : tie.Need-loop-holds Inv-loop μ-loop
 loop-holds c = (search needs, refl)
 
-mul-if1 : tie.Need-mul-if1 Inv-loop μ-loop
-mul-if1 c = search needs
-
-element-copy-out-if1 : tie.Need-element-copy-out-if1 Inv-loop μ-loop
-element-copy-out-if1 c = search needs
-
-mul-release-of : tie.Need-mul-release-of Inv-loop μ-loop
-mul-release-of c = search needs
-
-element-copy-out-release-of : tie.Need-element-copy-out-release-of Inv-loop μ-loop
-element-copy-out-release-of c = search needs
-
-release-of-requires : tie.Need-release-of-requires Inv-loop μ-loop
-release-of-requires c κs = search needs
-
 returns : tie.Need-returns Inv-loop μ-loop
 unfolding releaseKept
 returns c = scan-hit (releaseKept (now (c .before .before .before .before .before .before .args .starts)) (now (c .before .before .before .before .before .before .args .releases)) (now (c .before .before .before .before .before .before .args .numbers))) (c .before .before .before .before .before .loop .inv .1) (c .before .before .before .before .loop-test .taken) (rw (sym (c .before .release-of .ensures)) (lt-leb _ _ (c .if1 .taken)))
-
-add-k : tie.Need-add-k Inv-loop μ-loop
-add-k c = search needs
-
-loop-less : tie.Need-loop-less Inv-loop μ-loop
-loop-less c = search needs
 
 loop-again : tie.Need-loop-again Inv-loop μ-loop
 unfolding releaseKept
@@ -56,4 +35,7 @@ returns-2 : tie.Need-returns-2 Inv-loop μ-loop
 returns-2 c = scan-end (releaseKept (now (c .before .before .args .starts)) (now (c .before .before .args .releases)) (now (c .before .before .args .numbers))) (c .before .loop .inv .1) (c .loop-test .left) (c .before .loop .inv .0)
 
 pub first-early-spec : {M : Type 1} → statement M
-first-early-spec = tie.close (tie.spec Inv-loop μ-loop loop-holds mul-if1 element-copy-out-if1 mul-release-of element-copy-out-release-of release-of-requires returns add-k loop-less loop-again returns-2)
+first-early-spec =
+    tie.close
+    (tie.spec Inv-loop μ-loop loop-holds (λ c. search needs) (λ c. search needs) (λ c. search needs) (λ c. search needs)
+    (λ c κs. search needs) returns (λ c. search needs) (λ c. search needs) loop-again returns-2)

@@ -23,27 +23,9 @@ abbrev μ-loop : tie.MeasureT-loop
 loop-holds : tie.Need-loop-holds Inv-loop μ-loop
 loop-holds c = (search needs, refl)
 
-mul-if1 : tie.Need-mul-if1 Inv-loop μ-loop
-mul-if1 c = search needs
-
-element-copy-out-if1 : tie.Need-element-copy-out-if1 Inv-loop μ-loop
-element-copy-out-if1 c = search needs
-
-mul-if1-2 : tie.Need-mul-if1-2 Inv-loop μ-loop
-mul-if1-2 c = search needs
-
-element-copy-out-if1-2 : tie.Need-element-copy-out-if1-2 Inv-loop μ-loop
-element-copy-out-if1-2 c = search needs
-
 returns : tie.Need-returns Inv-loop μ-loop
 unfolding dueKept
 returns c = scan-hit (dueKept (now (c .before .before .before .before .before .args .stops)) (now (c .before .before .before .before .before .args .deadlines))) (c .before .before .before .before .loop .inv .1) (c .before .before .before .loop-test .taken) (lt-leb _ _ (c .if1 .taken))
-
-add-k : tie.Need-add-k Inv-loop μ-loop
-add-k c = search needs
-
-loop-less : tie.Need-loop-less Inv-loop μ-loop
-loop-less c = search needs
 
 loop-again : tie.Need-loop-again Inv-loop μ-loop
 unfolding dueKept
@@ -53,4 +35,7 @@ returns-2 : tie.Need-returns-2 Inv-loop μ-loop
 returns-2 c = scan-end (dueKept (now (c .before .before .args .stops)) (now (c .before .before .args .deadlines))) (c .before .loop .inv .1) (c .loop-test .left) (c .before .loop .inv .0)
 
 pub first-late-spec : {M : Type 1} → statement M
-first-late-spec = tie.close (tie.spec Inv-loop μ-loop loop-holds mul-if1 element-copy-out-if1 mul-if1-2 element-copy-out-if1-2 returns add-k loop-less loop-again returns-2)
+first-late-spec =
+    tie.close
+    (tie.spec Inv-loop μ-loop loop-holds (λ c. search needs) (λ c. search needs) (λ c. search needs) (λ c. search needs) returns
+    (λ c. search needs) (λ c. search needs) loop-again returns-2)

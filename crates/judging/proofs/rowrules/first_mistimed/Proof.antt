@@ -23,36 +23,9 @@ abbrev μ-loop : tie.MeasureT-loop
 loop-holds : tie.Need-loop-holds Inv-loop μ-loop
 loop-holds c = (search needs, refl)
 
-mul-time-kept : tie.Need-mul-time-kept Inv-loop μ-loop
-mul-time-kept c = search needs
-
-element-copy-out-time-kept : tie.Need-element-copy-out-time-kept Inv-loop μ-loop
-element-copy-out-time-kept c = search needs
-
-mul-time-kept-2 : tie.Need-mul-time-kept-2 Inv-loop μ-loop
-mul-time-kept-2 c = search needs
-
-element-copy-out-time-kept-2 : tie.Need-element-copy-out-time-kept-2 Inv-loop μ-loop
-element-copy-out-time-kept-2 c = search needs
-
-element-copy-out-time-of : tie.Need-element-copy-out-time-of Inv-loop μ-loop
-element-copy-out-time-of c = search needs
-
-time-of-requires : tie.Need-time-of-requires Inv-loop μ-loop
-time-of-requires c κs = search needs
-
-time-kept-requires : tie.Need-time-kept-requires Inv-loop μ-loop
-time-kept-requires c κs = search needs
-
 returns : tie.Need-returns Inv-loop μ-loop
 unfolding timeKept
 returns c = scan-hit (timeKept (now (c .before .before .before .before .before .before .before .before .args .tasks)) (now (c .before .before .before .before .before .before .before .before .args .starts)) (now (c .before .before .before .before .before .before .before .before .args .stops)) (now (c .before .before .before .before .before .before .before .before .args .times)) (c .before .before .before .before .before .before .before .before .args .resolution)) (c .before .before .before .before .before .before .before .loop .inv .1) (c .before .before .before .before .before .before .loop-test .taken) (rw (sym (c .before .before .time-of .ensures), sym (c .before .time-kept .ensures)) (not-true _ (c .if1 .taken)))
-
-add-k : tie.Need-add-k Inv-loop μ-loop
-add-k c = search needs
-
-loop-less : tie.Need-loop-less Inv-loop μ-loop
-loop-less c = search needs
 
 loop-again : tie.Need-loop-again Inv-loop μ-loop
 unfolding timeKept
@@ -62,4 +35,8 @@ returns-2 : tie.Need-returns-2 Inv-loop μ-loop
 returns-2 c = scan-end (timeKept (now (c .before .before .args .tasks)) (now (c .before .before .args .starts)) (now (c .before .before .args .stops)) (now (c .before .before .args .times)) (c .before .before .args .resolution)) (c .before .loop .inv .1) (c .loop-test .left) (c .before .loop .inv .0)
 
 pub first-mistimed-spec : {M : Type 1} → statement M
-first-mistimed-spec = tie.close (tie.spec Inv-loop μ-loop loop-holds mul-time-kept element-copy-out-time-kept mul-time-kept-2 element-copy-out-time-kept-2 element-copy-out-time-of time-of-requires time-kept-requires returns add-k loop-less loop-again returns-2)
+first-mistimed-spec =
+    tie.close
+    (tie.spec Inv-loop μ-loop loop-holds (λ c. search needs) (λ c. search needs) (λ c. search needs) (λ c. search needs)
+    (λ c. search needs) (λ c κs. search needs) (λ c κs. search needs) returns (λ c. search needs) (λ c. search needs) loop-again
+    returns-2)

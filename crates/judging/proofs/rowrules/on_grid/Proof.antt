@@ -10,11 +10,5 @@ use Rattle.judging.proofs.rowrules.on_grid.Tie as tie
 returns : tie.Need-returns
 returns c = rw (c .if1 .taken) (sym (divides-is 1 (c .before .args .start) (one-dvd (c .before .args .start))))
 
-divides-requires : tie.Need-divides-requires
-divides-requires c κs = search needs
-
-returns-2 : tie.Need-returns-2
-returns-2 c = search needs
-
 pub on-grid-spec : {M : Type 1} → statement M
-on-grid-spec = tie.close (tie.spec returns divides-requires returns-2)
+on-grid-spec = tie.close (tie.spec returns (λ c κs. search needs) (λ c. search needs))

@@ -6,12 +6,6 @@ use borrow.Author.Needs.{needs}
 use Rattle.judging.proofs.rowrules.release_of.Statement.{statement}
 use Rattle.judging.proofs.rowrules.release_of.Tie as tie
 
-mul-result : tie.Need-mul-result
-mul-result c = search needs
-
-element-copy-out-result : tie.Need-element-copy-out-result
-element-copy-out-result c = search needs
-
 returns : tie.Need-returns
 unfolding lookIn
 returns c = rw (lt-ltb _ _ (c .before .if1 .taken))
@@ -21,4 +15,4 @@ unfolding lookIn
 returns-2 c = rw (le-ltb _ _ (c .if1 .left))
 
 pub release-of-spec : {M : Type 1} → statement M
-release-of-spec = tie.close (tie.spec mul-result element-copy-out-result returns returns-2)
+release-of-spec = tie.close (tie.spec (λ c. search needs) (λ c. search needs) returns returns-2)

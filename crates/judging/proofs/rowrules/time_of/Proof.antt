@@ -7,15 +7,6 @@ use borrow.Author.Needs.{needs}
 use Rattle.judging.proofs.rowrules.time_of.Statement.{statement}
 use Rattle.judging.proofs.rowrules.time_of.Tie as tie
 
-place-requires : tie.Need-place-requires
-place-requires c κs = search needs
-
-mul-result : tie.Need-mul-result
-mul-result c = search needs
-
-element-copy-out-result : tie.Need-element-copy-out-result
-element-copy-out-result c = search needs
-
 returns : tie.Need-returns
 unfolding lookIn
 returns c = rw (sym (c .before .before .place .ensures), lt-ltb _ _ (c .before .if1 .taken))
@@ -25,4 +16,4 @@ unfolding lookIn
 returns-2 c = rw (sym (c .before .place .ensures), le-ltb _ _ (c .if1 .left))
 
 pub time-of-spec : {M : Type 1} → statement M
-time-of-spec = tie.close (tie.spec place-requires mul-result element-copy-out-result returns returns-2)
+time-of-spec = tie.close (tie.spec (λ c κs. search needs) (λ c. search needs) (λ c. search needs) returns returns-2)

@@ -20,18 +20,9 @@ Inv-loop s nodes₀ begins₀ ends₀ tasks₀ deadlines₀ starts₀ stops₀ h
 abbrev μ-loop : tie.MeasureT-loop
 μ-loop s nodes₀ begins₀ ends₀ tasks₀ deadlines₀ starts₀ stops₀ head₀ control₀ rows₀ previous₀ at₀ nodes begins ends tasks deadlines starts stops head control rows previous at = length s - at
 
-empty-requires : tie.Need-empty-requires Inv-loop μ-loop
-empty-requires c κs = search needs
-
 loop-holds : tie.Need-loop-holds Inv-loop μ-loop
 unfolding from records
 loop-holds c = (search needs, search needs, rw (c .empty .ensures))
-
-next-requires : tie.Need-next-requires Inv-loop μ-loop
-next-requires c κs = search needs
-
-enum-known-kind : tie.Need-enum-known-kind Inv-loop μ-loop
-enum-known-kind c = search needs
 
 data-row-requires : tie.Need-data-row-requires Inv-loop μ-loop
 data-row-requires c κs = row-fits (now (c .before .before .before .before .before .before .before .before .before .before .before .before .args .s)) _ (c .before .before .before .before .before .before .before .before .before .loop .previous) (c .before .before .before .before .before .before .before .before .before .loop .at) (c .before .before .before .before .before .before .before .before .before .loop .inv .0) (c .before .before .before .before .before .before .before .before .before .loop .head) (c .before .before .before .before .before .before .before .before .before .loop .control) (c .before .before .before .before .before .before .before .before .before .loop .rows) (c .before .before .before .before .before .before .before .before .before .loop .nodes) (c .before .before .before .before .before .before .before .before .before .loop .begins) (c .before .before .before .before .before .before .before .before .before .loop .ends) (c .before .before .before .before .before .before .before .before .before .loop .tasks) (c .before .before .before .before .before .before .before .before .before .loop .deadlines) (c .before .before .before .before .before .before .before .before .before .loop .starts) (c .before .before .before .before .before .before .before .before .before .loop .stops) (c .before .before .before .before .before .before .before .before .before .loop .inv .2) (c .before .before .before .before .before .before .before .before .next .ensures) (c .before .before .before .before .before .before .kind .given .1) (c .before .before .before .before .if1 .taken)
@@ -69,19 +60,17 @@ loop-less-3 c = let f = facts (now (c .before .before .before .before .before .b
 loop-again-3 : tie.Need-loop-again-3 Inv-loop μ-loop
 loop-again-3 c = let f = facts (now (c .before .before .before .before .before .before .before .before .before .before .args .s)) _ (c .before .before .before .before .before .before .before .loop .previous) (c .before .before .before .before .before .before .before .loop .at) (c .before .before .before .before .before .before .before .loop .inv .0) (c .before .before .before .before .before .before .before .loop .head) (c .before .before .before .before .before .before .before .loop .control) (c .before .before .before .before .before .before .before .loop .rows) (c .before .before .before .before .before .before .before .loop .nodes) (c .before .before .before .before .before .before .before .loop .begins) (c .before .before .before .before .before .before .before .loop .ends) (c .before .before .before .before .before .before .before .loop .tasks) (c .before .before .before .before .before .before .before .loop .deadlines) (c .before .before .before .before .before .before .before .loop .starts) (c .before .before .before .before .before .before .before .loop .stops) (c .before .before .before .before .before .before .before .loop .inv .2) (c .before .before .before .before .before .before .next .ensures) (c .before .before .before .before .kind .given .1) in (f .fits, omega (arith, f .further, c .before .before .before .before .before .before .before .loop .inv .1), header-turn (now (c .before .before .before .before .before .before .before .before .before .before .args .s)) _ (c .before .before .before .before .before .before .before .loop .previous) (c .before .before .before .before .before .before .before .loop .at) (c .before .before .before .before .before .before .before .loop .inv .0) (c .before .before .before .before .before .before .before .loop .head) (c .before .before .before .before .before .before .before .loop .control) (c .before .before .before .before .before .before .before .loop .rows) (c .before .before .before .before .before .before .before .loop .nodes) (c .before .before .before .before .before .before .before .loop .begins) (c .before .before .before .before .before .before .before .loop .ends) (c .before .before .before .before .before .before .before .loop .tasks) (c .before .before .before .before .before .before .before .loop .deadlines) (c .before .before .before .before .before .before .before .loop .starts) (c .before .before .before .before .before .before .before .loop .stops) (c .before .before .before .before .before .before .before .loop .inv .2) (c .before .before .before .before .before .before .next .ensures) (c .before .before .before .before .kind .given .1) (c .before .before .if1 .left) (c .before .if2 .left) (c .first-record .ensures))
 
-enum-told : tie.Need-enum-told Inv-loop μ-loop
-enum-told c = search needs
-
 returns : tie.Need-returns Inv-loop μ-loop
 unfolding reported
 returns c = sym (end-turn (now (c .before .before .before .before .before .before .args .s)) _ (c .before .before .before .loop .previous) (c .before .before .before .loop .at) (c .before .before .before .loop .inv .0) (c .before .before .before .loop .head) (c .before .before .before .loop .control) (c .before .before .before .loop .rows) (c .before .before .before .loop .nodes) (c .before .before .before .loop .begins) (c .before .before .before .loop .ends) (c .before .before .before .loop .tasks) (c .before .before .before .loop .deadlines) (c .before .before .before .loop .starts) (c .before .before .before .loop .stops) (c .before .before .before .loop .inv .2) (c .before .before .next .ensures) (c .enum-told .given .1))
-
-enum-known-place : tie.Need-enum-known-place Inv-loop μ-loop
-enum-known-place c = search needs
 
 returns-2 : tie.Need-returns-2 Inv-loop μ-loop
 unfolding reported
 returns-2 c = sym (wrong-turn (now (c .before .before .before .before .before .before .before .args .s)) _ (c .before .before .before .before .loop .previous) (c .before .before .before .before .loop .at) (c .before .before .before .before .loop .inv .0) (c .before .before .before .before .loop .head) (c .before .before .before .before .loop .control) (c .before .before .before .before .loop .rows) (c .before .before .before .before .loop .nodes) (c .before .before .before .before .loop .begins) (c .before .before .before .before .loop .ends) (c .before .before .before .before .loop .tasks) (c .before .before .before .before .loop .deadlines) (c .before .before .before .before .loop .starts) (c .before .before .before .before .loop .stops) (c .before .before .before .before .loop .inv .2) (c .before .before .before .next .ensures) (c .before .place .given .1))
 
 pub gather-spec : {M : Type 1} → statement M
-gather-spec = tie.close (tie.spec Inv-loop μ-loop empty-requires loop-holds next-requires enum-known-kind data-row-requires add-rows add-at control-row-requires add-control first-record-requires loop-less loop-again loop-less-2 loop-again-2 loop-less-3 loop-again-3 enum-told returns enum-known-place returns-2)
+gather-spec =
+    tie.close
+    (tie.spec Inv-loop μ-loop (λ c κs. search needs) loop-holds (λ c κs. search needs) (λ c. search needs) data-row-requires add-rows
+    add-at control-row-requires add-control first-record-requires loop-less loop-again loop-less-2 loop-again-2 loop-less-3
+    loop-again-3 (λ c. search needs) returns (λ c. search needs) returns-2)

@@ -7,18 +7,6 @@ use borrow.Author.Needs.{needs}
 use Rattle.judging.proofs.table.read_table.Statement.{statement}
 use Rattle.judging.proofs.table.read_table.Tie as tie
 
-gather-requires : tie.Need-gather-requires
-gather-requires c κs = search needs
-
-enum-told : tie.Need-enum-told
-enum-told c = search needs
-
-enum-known-outcome : tie.Need-enum-known-outcome
-enum-known-outcome c = search needs
-
-empty-requires : tie.Need-empty-requires
-empty-requires c κs = search needs
-
 returns : tie.Need-returns
 unfolding tableFrom
 returns c = read-whole (now (c .before .before .before .before .before .before .before .before .before .before .before .before .args .s)) (c .before .before .before .gather .result) _ _ _ _ _ _ _ (c .before .before .before .gather .ensures) (c .enum-told .given .1)
@@ -28,4 +16,6 @@ unfolding tableFrom
 returns-2 c = rw (c .empty .ensures) (read-broken (now (c .before .before .before .before .before .before .before .before .before .before .before .before .before .before .args .s)) (c .before .before .before .before .before .gather .result) _ _ _ _ _ _ _ (c .before .before .before .before .before .gather .ensures) (c .before .before .outcome .given .1))
 
 pub read-table-spec : {M : Type 1} → statement M
-read-table-spec = tie.close (tie.spec gather-requires enum-told enum-known-outcome empty-requires returns returns-2)
+read-table-spec =
+    tie.close
+    (tie.spec (λ c κs. search needs) (λ c. search needs) (λ c. search needs) (λ c κs. search needs) returns returns-2)

@@ -1,9 +1,6 @@
 use Rattle.olbiothar.proofs.Inputs.{change-none, change-some}
-use borrow.Author.Needs.{needs}
 use Rattle.olbiothar.proofs.playing.change_for.Statement.{statement}
 use Rattle.olbiothar.proofs.playing.change_for.Tie as tie
-use Rattle.olbiothar.proofs.playing.change_for.Reads as reads
-use Rattle.olbiothar.proofs.playing.change_for.Lts as lts
 
 returns : tie.Need-returns
 returns c = change-none _ _ (c .if1 .taken)

@@ -1,9 +1,6 @@
 use Rattle.olbiothar.proofs.Inputs.{given-none, given-some}
-use borrow.Author.Needs.{needs}
 use Rattle.olbiothar.proofs.playing.given_for.Statement.{statement}
 use Rattle.olbiothar.proofs.playing.given_for.Tie as tie
-use Rattle.olbiothar.proofs.playing.given_for.Reads as reads
-use Rattle.olbiothar.proofs.playing.given_for.Lts as lts
 
 returns : tie.Need-returns
 returns c = given-none _ _ (c .if1 .taken)

@@ -9,12 +9,6 @@ use Rattle.plan.specs.Memory.{connectionLaid}
 use Rattle.plan.proofs.bodies.connection.Statement.{statement}
 use Rattle.plan.proofs.bodies.connection.Tie as tie
 
-read8-requires : tie.Need-read8-requires
-read8-requires c κs = search needs
-
-read8-requires-2 : tie.Need-read8-requires-2
-read8-requires-2 c κs = search needs
-
 returns : tie.Need-returns
 unfolding connectionLaid connectionOf fields kinds
 returns c =
@@ -22,4 +16,4 @@ returns c =
     (ap (λ (b : List ℕ). connectionLaid (connectionOf b)) (sym (numbers-laid (c .before .before .before .args .body .now) 0 7)))
 
 pub connection-spec : {M : Type 1} → statement M
-connection-spec = tie.close (tie.spec read8-requires read8-requires-2 returns)
+connection-spec = tie.close (tie.spec (λ c κs. search needs) (λ c κs. search needs) returns)

@@ -9,18 +9,6 @@ use Rattle.plan.specs.Memory.{invocationLaid}
 use Rattle.plan.proofs.bodies.invocation.Statement.{statement}
 use Rattle.plan.proofs.bodies.invocation.Tie as tie
 
-read16-requires : tie.Need-read16-requires
-read16-requires c κs = search needs
-
-read8-requires : tie.Need-read8-requires
-read8-requires c κs = search needs
-
-read8-requires-2 : tie.Need-read8-requires-2
-read8-requires-2 c κs = search needs
-
-cast-t7 : tie.Need-cast-t7
-cast-t7 c = search needs
-
 returns : tie.Need-returns
 unfolding invocationLaid invocationOf fields kinds
 returns c =
@@ -29,4 +17,5 @@ returns c =
 
 pub invocation-spec : {M : Type 1} → statement M
 invocation-spec =
-    tie.close (tie.spec read16-requires read8-requires read8-requires-2 cast-t7 returns)
+    tie.close
+    (tie.spec (λ c κs. search needs) (λ c κs. search needs) (λ c κs. search needs) (λ c. search needs) returns)

@@ -9,15 +9,6 @@ use Rattle.plan.specs.Memory.{modeLaid}
 use Rattle.plan.proofs.bodies.mode.Statement.{statement}
 use Rattle.plan.proofs.bodies.mode.Tie as tie
 
-read8-requires : tie.Need-read8-requires
-read8-requires c κs = search needs
-
-read32-requires : tie.Need-read32-requires
-read32-requires c κs = search needs
-
-read32-requires-2 : tie.Need-read32-requires-2
-read32-requires-2 c κs = search needs
-
 returns : tie.Need-returns
 unfolding modeLaid modeOf fields kinds
 returns c =
@@ -25,4 +16,4 @@ returns c =
     (ap (λ (b : List ℕ). modeLaid (modeOf b)) (sym (numbers-laid (c .before .before .before .before .args .body .now) 0 4)))
 
 pub mode-spec : {M : Type 1} → statement M
-mode-spec = tie.close (tie.spec read8-requires read32-requires read32-requires-2 returns)
+mode-spec = tie.close (tie.spec (λ c κs. search needs) (λ c κs. search needs) (λ c κs. search needs) returns)

@@ -9,9 +9,6 @@ use Rattle.plan.specs.Memory.{moduleLaid}
 use Rattle.plan.proofs.bodies.module.Statement.{statement}
 use Rattle.plan.proofs.bodies.module.Tie as tie
 
-read8-requires : tie.Need-read8-requires
-read8-requires c κs = search needs
-
 returns : tie.Need-returns
 unfolding moduleLaid moduleOf fields kinds
 returns c =
@@ -19,4 +16,4 @@ returns c =
     (ap (λ (b : List ℕ). moduleLaid (moduleOf b)) (sym (numbers-laid (c .before .before .args .body .now) 0 3)))
 
 pub module-spec : {M : Type 1} → statement M
-module-spec = tie.close (tie.spec read8-requires returns)
+module-spec = tie.close (tie.spec (λ c κs. search needs) returns)

@@ -9,18 +9,6 @@ use Rattle.plan.specs.Memory.{taskLaid}
 use Rattle.plan.proofs.bodies.task.Statement.{statement}
 use Rattle.plan.proofs.bodies.task.Tie as tie
 
-read8-requires : tie.Need-read8-requires
-read8-requires c κs = search needs
-
-read8-requires-2 : tie.Need-read8-requires-2
-read8-requires-2 c κs = search needs
-
-cast-t5 : tie.Need-cast-t5
-cast-t5 c = search needs
-
-read32-requires : tie.Need-read32-requires
-read32-requires c κs = search needs
-
 returns : tie.Need-returns
 unfolding taskLaid taskOf fields kinds
 returns c =
@@ -28,4 +16,4 @@ returns c =
     (ap (λ (b : List ℕ). taskLaid (taskOf b)) (sym (numbers-laid (c .before .before .before .before .args .body .now) 0 5)))
 
 pub task-spec : {M : Type 1} → statement M
-task-spec = tie.close (tie.spec read8-requires read8-requires-2 cast-t5 read32-requires returns)
+task-spec = tie.close (tie.spec (λ c κs. search needs) (λ c κs. search needs) (λ c. search needs) (λ c κs. search needs) returns)

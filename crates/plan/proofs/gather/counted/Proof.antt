@@ -4,8 +4,6 @@ use native.Mathlib.Omega.{arith}
 use Rattle.plan.specs.Gather.{isThing, numberOf, countedMore}
 use Rattle.plan.proofs.gather.counted.Statement.{statement}
 use Rattle.plan.proofs.gather.counted.Tie as tie
-use Rattle.plan.proofs.gather.counted.Reads as reads
-use Rattle.plan.proofs.gather.counted.Lts as lts
 
 returns : tie.Need-returns
 unfolding numberOf countedMore isThing
@@ -18,24 +16,12 @@ returns-2 c =
     let h = lt-leb _ 7 (c .if2 .taken) in
     (rw (l, h), rw (l, h))
 
-mul-n : tie.Need-mul-n
-mul-n c = search needs
-
-element-copy-out-n : tie.Need-element-copy-out-n
-element-copy-out-n c = search needs
-
 add-counts : tie.Need-add-counts
 unfolding numberOf isThing
 add-counts c =
     let l = le-leb 3 _ (c .before .before .if1 .left) in
     let h = le-leb _ 7 (c .before .if2 .left) in
     omega (arith, rw (l, h) at (c .before .before .before .pre))
-
-mul-counts : tie.Need-mul-counts
-mul-counts c = search needs
-
-element-write-counts : tie.Need-element-write-counts
-element-write-counts c = search needs
 
 returns-3 : tie.Need-returns-3
 unfolding numberOf countedMore isThing
@@ -47,12 +33,4 @@ returns-3 c =
 pub counted-spec : {M : Type 1} → statement M
 counted-spec =
     tie.close
-    (tie.spec
-    returns
-    returns-2
-    mul-n
-    element-copy-out-n
-    add-counts
-    mul-counts
-    element-write-counts
-    returns-3)
+    (tie.spec returns returns-2 (λ c. search needs) (λ c. search needs) add-counts (λ c. search needs) (λ c. search needs) returns-3)

@@ -16,48 +16,15 @@ Inv-loop s p₀ previous₀ at₀ p previous at = SoFar s p previous at
 abbrev μ-loop : tie.MeasureT-loop
 μ-loop s p₀ previous₀ at₀ p previous at = length s - at
 
-empty-requires : tie.Need-empty-requires Inv-loop μ-loop
-empty-requires c κs = search needs
-
 loop-holds : tie.Need-loop-holds Inv-loop μ-loop
 loop-holds c = rw (c .empty .ensures) (so-far-none _)
-
-next-requires : tie.Need-next-requires Inv-loop μ-loop
-next-requires c κs = search needs
-
-enum-known-kind : tie.Need-enum-known-kind Inv-loop μ-loop
-enum-known-kind c = search needs
-
-body-requires : tie.Need-body-requires Inv-loop μ-loop
-body-requires c κs = search needs
 
 counted-requires : tie.Need-counted-requires Inv-loop μ-loop
 counted-requires c κs = omega (arith, so-far-number _ _ _ _ (c .before .before .before .before .before .before .loop .inv) _ _ _ (sym (c .before .before .before .before .before .next .ensures) ∙ c .before .before .before .kind .given .1), c .before .before .before .before .before .before .before .before .before .good .0 .0)
 
-kept-requires : tie.Need-kept-requires Inv-loop μ-loop
-kept-requires c κs = search needs
-
-bus-requires : tie.Need-bus-requires Inv-loop μ-loop
-bus-requires c κs = search needs
-
-read8-requires : tie.Need-read8-requires Inv-loop μ-loop
-read8-requires c κs = search needs
-
-cast-p : tie.Need-cast-p Inv-loop μ-loop
-cast-p c = search needs
-
-element-write-p : tie.Need-element-write-p Inv-loop μ-loop
-element-write-p c = search needs
-
-module-requires : tie.Need-module-requires Inv-loop μ-loop
-module-requires c κs = search needs
-
 element-set-from-p : tie.Need-element-set-from-p Inv-loop μ-loop
 unfolding places
 element-set-from-p c = kept-place _ _ 3 (sym (c .before .before .kept .ensures) ∙ c .before .match2 .keys3) (omega arith)
-
-mode-requires : tie.Need-mode-requires Inv-loop μ-loop
-mode-requires c κs = search needs
 
 mul-t25 : tie.Need-mul-t25 Inv-loop μ-loop
 unfolding places
@@ -67,9 +34,6 @@ element-set-from-p-2 : tie.Need-element-set-from-p-2 Inv-loop μ-loop
 unfolding places
 element-set-from-p-2 c = kept-place _ _ 4 (sym (c .before .before .kept .ensures) ∙ c .before .match2 .keys4) (omega arith)
 
-task-requires : tie.Need-task-requires Inv-loop μ-loop
-task-requires c κs = search needs
-
 mul-t29 : tie.Need-mul-t29 Inv-loop μ-loop
 unfolding places
 mul-t29 c = omega (arith, kept-place _ _ 5 (sym (c .before .before .kept .ensures) ∙ c .before .match2 .keys5) (omega arith))
@@ -78,9 +42,6 @@ element-set-from-p-3 : tie.Need-element-set-from-p-3 Inv-loop μ-loop
 unfolding places
 element-set-from-p-3 c = kept-place _ _ 5 (sym (c .before .before .kept .ensures) ∙ c .before .match2 .keys5) (omega arith)
 
-invocation-requires : tie.Need-invocation-requires Inv-loop μ-loop
-invocation-requires c κs = search needs
-
 mul-t33 : tie.Need-mul-t33 Inv-loop μ-loop
 unfolding places
 mul-t33 c = omega (arith, kept-place _ _ 6 (sym (c .before .before .kept .ensures) ∙ c .before .match2 .keys6) (omega arith))
@@ -88,9 +49,6 @@ mul-t33 c = omega (arith, kept-place _ _ 6 (sym (c .before .before .kept .ensure
 element-set-from-p-4 : tie.Need-element-set-from-p-4 Inv-loop μ-loop
 unfolding places
 element-set-from-p-4 c = kept-place _ _ 6 (sym (c .before .before .kept .ensures) ∙ c .before .match2 .keys6) (omega arith)
-
-connection-requires : tie.Need-connection-requires Inv-loop μ-loop
-connection-requires c κs = search needs
 
 mul-t37 : tie.Need-mul-t37 Inv-loop μ-loop
 unfolding places
@@ -165,17 +123,8 @@ loop-again-8 c =
     so-far-more _ _ _ _ (c .before .before .before .before .before .before .before .before .before .loop .inv) _ _ _ _ _ (sym (c .before .before .before .before .before .before .before .before .next .ensures) ∙ c .before .before .before .before .before .before .kind .given .1) (c .before .before .before .before .body .ensures)
     (not-stored _ _ _ (c .before .before .before .before .before .before .before .before .before .loop .inv .sized) _ _ _ (c .before .before .counted .ensures .0) (c .before .before .counted .ensures .1) (c .before .kept .ensures) (c .match2 .rest))
 
-enum-told : tie.Need-enum-told Inv-loop μ-loop
-enum-told c = search needs
-
 returns : tie.Need-returns Inv-loop μ-loop
 returns c = so-far-end _ _ _ _ (c .before .before .before .loop .inv) (sym (c .before .before .next .ensures) ∙ c .enum-told .given .1)
-
-enum-known-place : tie.Need-enum-known-place Inv-loop μ-loop
-enum-known-place c = search needs
-
-empty-requires-2 : tie.Need-empty-requires-2 Inv-loop μ-loop
-empty-requires-2 c κs = search needs
 
 returns-2 : tie.Need-returns-2 Inv-loop μ-loop
 returns-2 c = rw (c .empty2 .ensures) (so-far-wrong _ _ _ _ (c .before .before .before .before .before .loop .inv) _ (sym (c .before .before .before .before .next .ensures) ∙ c .before .before .place .given .1))
@@ -183,52 +132,10 @@ returns-2 c = rw (c .empty2 .ensures) (so-far-wrong _ _ _ _ (c .before .before .
 pub gather-spec : {M : Type 1} → statement M
 gather-spec =
     tie.close
-    (tie.spec
-    Inv-loop
-    μ-loop
-    empty-requires
-    loop-holds
-    next-requires
-    enum-known-kind
-    body-requires
-    counted-requires
-    kept-requires
-    bus-requires
-    read8-requires
-    cast-p
-    element-write-p
-    module-requires
-    element-set-from-p
-    mode-requires
-    mul-t25
-    element-set-from-p-2
-    task-requires
-    mul-t29
-    element-set-from-p-3
-    invocation-requires
-    mul-t33
-    element-set-from-p-4
-    connection-requires
-    mul-t37
-    element-set-from-p-5
-    loop-less
-    loop-again
-    loop-less-2
-    loop-again-2
-    loop-less-3
-    loop-again-3
-    loop-less-4
-    loop-again-4
-    loop-less-5
-    loop-again-5
-    loop-less-6
-    loop-again-6
-    loop-less-7
-    loop-again-7
-    loop-less-8
-    loop-again-8
-    enum-told
-    returns
-    enum-known-place
-    empty-requires-2
-    returns-2)
+    (tie.spec Inv-loop μ-loop (λ c κs. search needs) loop-holds (λ c κs. search needs) (λ c. search needs) (λ c κs. search needs)
+    counted-requires (λ c κs. search needs) (λ c κs. search needs) (λ c κs. search needs) (λ c. search needs) (λ c. search needs)
+    (λ c κs. search needs) element-set-from-p (λ c κs. search needs) mul-t25 element-set-from-p-2 (λ c κs. search needs) mul-t29
+    element-set-from-p-3 (λ c κs. search needs) mul-t33 element-set-from-p-4 (λ c κs. search needs) mul-t37 element-set-from-p-5
+    loop-less loop-again loop-less-2 loop-again-2 loop-less-3 loop-again-3 loop-less-4 loop-again-4 loop-less-5 loop-again-5
+    loop-less-6 loop-again-6 loop-less-7 loop-again-7 loop-less-8 loop-again-8 (λ c. search needs) returns (λ c. search needs)
+    (λ c κs. search needs) returns-2)

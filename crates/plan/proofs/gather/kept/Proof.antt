@@ -5,14 +5,6 @@ use lib.ListN.{List·getD-eq-default}
 use Rattle.plan.specs.Gather.{places, keptKind}
 use Rattle.plan.proofs.gather.kept.Statement.{statement}
 use Rattle.plan.proofs.gather.kept.Tie as tie
-use Rattle.plan.proofs.gather.kept.Reads as reads
-use Rattle.plan.proofs.gather.kept.Lts as lts
-
-mul-if2 : tie.Need-mul-if2
-mul-if2 c = search needs
-
-array-read-if2 : tie.Need-array-read-if2
-array-read-if2 c = search needs
 
 returns : tie.Need-returns
 unfolding keptKind places
@@ -27,4 +19,4 @@ unfolding keptKind places
 returns-3 c = rw (List·getD-eq-default places 0 (c .if1 .left), le-ltb (c .before .args .n) 0 (omega arith))
 
 pub kept-spec : {M : Type 1} → statement M
-kept-spec = tie.close (tie.spec mul-if2 array-read-if2 returns returns-2 returns-3)
+kept-spec = tie.close (tie.spec (λ c. search needs) (λ c. search needs) returns returns-2 returns-3)

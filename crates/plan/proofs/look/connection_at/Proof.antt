@@ -6,15 +6,6 @@ use Rattle.plan.proofs.Parts.{part-at, part-behind}
 use Rattle.plan.proofs.look.connection_at.Statement.{statement}
 use Rattle.plan.proofs.look.connection_at.Tie as tie
 
-connection-count-requires : tie.Need-connection-count-requires
-connection-count-requires c κs = search needs
-
-mul-result : tie.Need-mul-result
-mul-result c = search needs
-
-array-copy-out-result : tie.Need-array-copy-out-result
-array-copy-out-result c = search needs
-
 returns : tie.Need-returns
 unfolding connectionLaid connectionSeen seen countSeen noConnection
 returns c =
@@ -30,5 +21,4 @@ returns-2 c =
     ap connectionLaid (sym (part-behind connectionSeen (countSeen p 7) (p .connections) k noConnection (omega arith)))
 
 pub connection-at-spec : {M : Type 1} → statement M
-connection-at-spec =
-    tie.close (tie.spec connection-count-requires mul-result array-copy-out-result returns returns-2)
+connection-at-spec = tie.close (tie.spec (λ c κs. search needs) (λ c. search needs) (λ c. search needs) returns returns-2)

@@ -7,15 +7,6 @@ use Rattle.plan.proofs.Parts.{part-at, part-behind}
 use Rattle.plan.proofs.look.invocation_at.Statement.{statement}
 use Rattle.plan.proofs.look.invocation_at.Tie as tie
 
-invocation-count-requires : tie.Need-invocation-count-requires
-invocation-count-requires c κs = search needs
-
-mul-result : tie.Need-mul-result
-mul-result c = search needs
-
-array-copy-out-result : tie.Need-array-copy-out-result
-array-copy-out-result c = search needs
-
 returns : tie.Need-returns
 unfolding invocationLaid invocationSeen seen countSeen rules.theInvocation
 returns c =
@@ -31,5 +22,4 @@ returns-2 c =
     ap invocationLaid (sym (part-behind invocationSeen (countSeen p 6) (p .invocations) k rules.noInvocation (omega arith)))
 
 pub invocation-at-spec : {M : Type 1} → statement M
-invocation-at-spec =
-    tie.close (tie.spec invocation-count-requires mul-result array-copy-out-result returns returns-2)
+invocation-at-spec = tie.close (tie.spec (λ c κs. search needs) (λ c. search needs) (λ c. search needs) returns returns-2)

@@ -7,15 +7,6 @@ use Rattle.plan.proofs.Parts.{part-at, part-behind}
 use Rattle.plan.proofs.look.mode_at.Statement.{statement}
 use Rattle.plan.proofs.look.mode_at.Tie as tie
 
-mode-count-requires : tie.Need-mode-count-requires
-mode-count-requires c κs = search needs
-
-mul-result : tie.Need-mul-result
-mul-result c = search needs
-
-array-copy-out-result : tie.Need-array-copy-out-result
-array-copy-out-result c = search needs
-
 returns : tie.Need-returns
 unfolding modeLaid modeSeen seen countSeen rules.theMode
 returns c =
@@ -31,5 +22,4 @@ returns-2 c =
     ap modeLaid (sym (part-behind modeSeen (countSeen p 4) (p .modes) k rules.noMode (omega arith)))
 
 pub mode-at-spec : {M : Type 1} → statement M
-mode-at-spec =
-    tie.close (tie.spec mode-count-requires mul-result array-copy-out-result returns returns-2)
+mode-at-spec = tie.close (tie.spec (λ c κs. search needs) (λ c. search needs) (λ c. search needs) returns returns-2)

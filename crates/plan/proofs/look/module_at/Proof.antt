@@ -6,12 +6,6 @@ use Rattle.plan.proofs.Parts.{part-at, part-behind}
 use Rattle.plan.proofs.look.module_at.Statement.{statement}
 use Rattle.plan.proofs.look.module_at.Tie as tie
 
-module-count-requires : tie.Need-module-count-requires
-module-count-requires c κs = search needs
-
-array-copy-out-result : tie.Need-array-copy-out-result
-array-copy-out-result c = search needs
-
 returns : tie.Need-returns
 unfolding moduleLaid moduleSeen seen countSeen
 returns c =
@@ -27,5 +21,4 @@ returns-2 c =
     ap moduleLaid (sym (part-behind moduleSeen (countSeen p 3) (p .modules) k 0 (omega arith)))
 
 pub module-at-spec : {M : Type 1} → statement M
-module-at-spec =
-    tie.close (tie.spec module-count-requires array-copy-out-result returns returns-2)
+module-at-spec = tie.close (tie.spec (λ c κs. search needs) (λ c. search needs) returns returns-2)

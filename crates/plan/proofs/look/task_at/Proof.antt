@@ -7,15 +7,6 @@ use Rattle.plan.proofs.Parts.{part-at, part-behind}
 use Rattle.plan.proofs.look.task_at.Statement.{statement}
 use Rattle.plan.proofs.look.task_at.Tie as tie
 
-task-count-requires : tie.Need-task-count-requires
-task-count-requires c κs = search needs
-
-mul-result : tie.Need-mul-result
-mul-result c = search needs
-
-array-copy-out-result : tie.Need-array-copy-out-result
-array-copy-out-result c = search needs
-
 returns : tie.Need-returns
 unfolding taskLaid taskSeen seen countSeen rules.theTask
 returns c =
@@ -31,5 +22,4 @@ returns-2 c =
     ap taskLaid (sym (part-behind taskSeen (countSeen p 5) (p .tasks) k rules.noTask (omega arith)))
 
 pub task-at-spec : {M : Type 1} → statement M
-task-at-spec =
-    tie.close (tie.spec task-count-requires mul-result array-copy-out-result returns returns-2)
+task-at-spec = tie.close (tie.spec (λ c κs. search needs) (λ c. search needs) (λ c. search needs) returns returns-2)

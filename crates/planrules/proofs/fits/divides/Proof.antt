@@ -4,9 +4,6 @@ use native.Mathlib.Nat.{mod-zero}
 use Rattle.planrules.proofs.fits.divides.Statement.{statement}
 use Rattle.planrules.proofs.fits.divides.Tie as tie
 
-rem-result : tie.Need-rem-result
-rem-result c = search needs
-
 returns : tie.Need-returns
 returns c = rw (c .if1 .taken, mod-zero)
 
@@ -14,4 +11,4 @@ returns-2 : tie.Need-returns-2
 returns-2 c = refl
 
 pub divides-spec : {M : Type 1} → statement M
-divides-spec = tie.close (tie.spec rem-result returns returns-2)
+divides-spec = tie.close (tie.spec (λ c. search needs) returns returns-2)

@@ -22,26 +22,11 @@ abbrev μ-loop : tie.MeasureT-loop
 loop-holds : tie.Need-loop-holds Inv-loop μ-loop
 loop-holds c = (search needs, refl)
 
-mul-switch-divides : tie.Need-mul-switch-divides Inv-loop μ-loop
-mul-switch-divides c = search needs
-
-array-copy-out-switch-divides : tie.Need-array-copy-out-switch-divides Inv-loop μ-loop
-array-copy-out-switch-divides c = search needs
-
-switch-divides-requires : tie.Need-switch-divides-requires Inv-loop μ-loop
-switch-divides-requires c κs = search needs
-
 returns : tie.Need-returns Inv-loop μ-loop
 unfolding modeLaid
 returns c =
     bad-part-hit modeSeen switchDivides _ _ _ (omega (arith, c .before .before .before .before .before .good .0 .1 .0 .1)) (modeLaid noMode) (c .before .before .before .loop-test .taken) (c .before .before .before .before .loop .inv .1)
     (sym (c .before .switch-divides .ensures) ∙ not-true _ (c .if1 .taken))
-
-add-k : tie.Need-add-k Inv-loop μ-loop
-add-k c = search needs
-
-loop-less : tie.Need-loop-less Inv-loop μ-loop
-loop-less c = search needs
 
 loop-again : tie.Need-loop-again Inv-loop μ-loop
 unfolding modeLaid
@@ -58,15 +43,5 @@ returns-2 c =
 pub first-bad-switch-spec : {M : Type 1} → statement M
 first-bad-switch-spec =
     tie.close
-    (tie.spec
-    Inv-loop
-    μ-loop
-    loop-holds
-    mul-switch-divides
-    array-copy-out-switch-divides
-    switch-divides-requires
-    returns
-    add-k
-    loop-less
-    loop-again
-    returns-2)
+    (tie.spec Inv-loop μ-loop loop-holds (λ c. search needs) (λ c. search needs) (λ c κs. search needs) returns (λ c. search needs)
+    (λ c. search needs) loop-again returns-2)

@@ -21,50 +21,8 @@ Inv-loop p modes tasks count k₀ k = (k ≤ count) × (firstBad (fitsAt (seen p
 abbrev μ-loop : tie.MeasureT-loop
 μ-loop p modes tasks count k₀ k = count - k
 
-mode-count-requires : tie.Need-mode-count-requires Inv-loop μ-loop
-mode-count-requires c κs = search needs
-
-task-count-requires : tie.Need-task-count-requires Inv-loop μ-loop
-task-count-requires c κs = search needs
-
-invocation-count-requires : tie.Need-invocation-count-requires Inv-loop μ-loop
-invocation-count-requires c κs = search needs
-
 loop-holds : tie.Need-loop-holds Inv-loop μ-loop
 loop-holds c = (search needs, refl)
-
-mul-i : tie.Need-mul-i Inv-loop μ-loop
-mul-i c = search needs
-
-element-copy-out-i : tie.Need-element-copy-out-i Inv-loop μ-loop
-element-copy-out-i c = search needs
-
-place-requires : tie.Need-place-requires Inv-loop μ-loop
-place-requires c κs = search needs
-
-place-requires-2 : tie.Need-place-requires-2 Inv-loop μ-loop
-place-requires-2 c κs = search needs
-
-mul-mode-if : tie.Need-mul-mode-if Inv-loop μ-loop
-mul-mode-if c = search needs
-
-element-copy-out-mode-if : tie.Need-element-copy-out-mode-if Inv-loop μ-loop
-element-copy-out-mode-if c = search needs
-
-mode-if-requires : tie.Need-mode-if-requires Inv-loop μ-loop
-mode-if-requires c κs = search needs
-
-mul-task-if : tie.Need-mul-task-if Inv-loop μ-loop
-mul-task-if c = search needs
-
-element-copy-out-task-if : tie.Need-element-copy-out-task-if Inv-loop μ-loop
-element-copy-out-task-if c = search needs
-
-task-if-requires : tie.Need-task-if-requires Inv-loop μ-loop
-task-if-requires c κs = search needs
-
-fits-its-mode-requires : tie.Need-fits-its-mode-requires Inv-loop μ-loop
-fits-its-mode-requires c κs = search needs
 
 returns : tie.Need-returns Inv-loop μ-loop
 unfolding invocationLaid modeLaid taskLaid
@@ -73,12 +31,6 @@ returns c =
     (fits-at (c .before .before .before .before .before .before .before .before .before .before .before .before .before .before .args .t1) (sizes (c .before .before .before .before .before .before .before .before .before .before .before .before .before .before .args .t1) _ (c .before .before .before .before .before .before .before .before .before .before .before .before .before .before .good .0)) _ (c .before .before .before .before .before .before .before .before .before .before .loop .k) _ _ (omega arith) refl
     (c .before .before .before .before .mode-if .ensures ∙ rw (c .before .before .before .before .before .before .before .place .ensures, c .before .before .before .before .before .before .before .before .before .before .before .before .before .mode-count .ensures .0)) (c .before .before .task-if .ensures ∙ rw (c .before .before .before .before .before .before .place2 .ensures, c .before .before .before .before .before .before .before .before .before .before .before .before .task-count .ensures .0))
     ∙ sym (c .before .fits-its-mode .ensures) ∙ not-true _ (c .if1 .taken))
-
-add-k : tie.Need-add-k Inv-loop μ-loop
-add-k c = search needs
-
-loop-less : tie.Need-loop-less Inv-loop μ-loop
-loop-less c = search needs
 
 loop-again : tie.Need-loop-again Inv-loop μ-loop
 unfolding invocationLaid modeLaid taskLaid
@@ -97,26 +49,7 @@ returns-2 c =
 pub first-misfit-spec : {M : Type 1} → statement M
 first-misfit-spec =
     tie.close
-    (tie.spec
-    Inv-loop
-    μ-loop
-    mode-count-requires
-    task-count-requires
-    invocation-count-requires
-    loop-holds
-    mul-i
-    element-copy-out-i
-    place-requires
-    place-requires-2
-    mul-mode-if
-    element-copy-out-mode-if
-    mode-if-requires
-    mul-task-if
-    element-copy-out-task-if
-    task-if-requires
-    fits-its-mode-requires
-    returns
-    add-k
-    loop-less
-    loop-again
-    returns-2)
+    (tie.spec Inv-loop μ-loop (λ c κs. search needs) (λ c κs. search needs) (λ c κs. search needs) loop-holds (λ c. search needs)
+    (λ c. search needs) (λ c κs. search needs) (λ c κs. search needs) (λ c. search needs) (λ c. search needs) (λ c κs. search needs)
+    (λ c. search needs) (λ c. search needs) (λ c κs. search needs) (λ c κs. search needs) returns (λ c. search needs)
+    (λ c. search needs) loop-again returns-2)

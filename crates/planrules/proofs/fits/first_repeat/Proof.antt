@@ -34,39 +34,12 @@ pairs-holds c = (search needs, refl)
 loop-holds : tie.Need-loop-holds Inv-loop μ-loop Inv-pairs μ-pairs
 loop-holds c = (search needs, refl)
 
-mul-same-run : tie.Need-mul-same-run Inv-loop μ-loop Inv-pairs μ-pairs
-mul-same-run c = search needs
-
-array-copy-out-same-run : tie.Need-array-copy-out-same-run Inv-loop μ-loop Inv-pairs μ-pairs
-array-copy-out-same-run c = search needs
-
-mul-same-run-2 : tie.Need-mul-same-run-2 Inv-loop μ-loop Inv-pairs μ-pairs
-mul-same-run-2 c = search needs
-
-array-copy-out-same-run-2 : tie.Need-array-copy-out-same-run-2 Inv-loop μ-loop Inv-pairs μ-pairs
-array-copy-out-same-run-2 c = search needs
-
-same-run-requires : tie.Need-same-run-requires Inv-loop μ-loop Inv-pairs μ-pairs
-same-run-requires c κs = search needs
-
-add-earlier : tie.Need-add-earlier Inv-loop μ-loop Inv-pairs μ-pairs
-add-earlier c = search needs
-
-loop-less : tie.Need-loop-less Inv-loop μ-loop Inv-pairs μ-pairs
-loop-less c = search needs
-
 loop-again : tie.Need-loop-again Inv-loop μ-loop Inv-pairs μ-pairs
 unfolding invocationLaid
 loop-again c = (
   search needs,
   pair-missed _ _ _ (omega (arith, c .before .before .before .before .before .before .before .before .good .0 .1 .0 .1)) (c .before .before .before .before .before .before .pairs-test .taken) _ _ (c .before .before .before .before .loop-test .taken) (c .before .same-run .ensures) (c .before .before .before .before .before .loop .inv .1) (c .if1 .left),
 )
-
-add-later : tie.Need-add-later Inv-loop μ-loop Inv-pairs μ-pairs
-add-later c = search needs
-
-pairs-less : tie.Need-pairs-less Inv-loop μ-loop Inv-pairs μ-pairs
-pairs-less c = search needs
 
 pairs-again : tie.Need-pairs-again Inv-loop μ-loop Inv-pairs μ-pairs
 pairs-again c = (
@@ -87,23 +60,6 @@ returns-2 c =
 pub first-repeat-spec : {M : Type 1} → statement M
 first-repeat-spec =
     tie.close
-    (tie.spec
-    Inv-loop
-    μ-loop
-    Inv-pairs
-    μ-pairs
-    pairs-holds
-    loop-holds
-    mul-same-run
-    array-copy-out-same-run
-    mul-same-run-2
-    array-copy-out-same-run-2
-    same-run-requires
-    add-earlier
-    loop-less
-    loop-again
-    add-later
-    pairs-less
-    pairs-again
-    returns
-    returns-2)
+    (tie.spec Inv-loop μ-loop Inv-pairs μ-pairs pairs-holds loop-holds (λ c. search needs) (λ c. search needs) (λ c. search needs)
+    (λ c. search needs) (λ c κs. search needs) (λ c. search needs) (λ c. search needs) loop-again (λ c. search needs)
+    (λ c. search needs) pairs-again returns returns-2)

@@ -4,18 +4,6 @@ use Rattle.planrules.proofs.LowestUnfit.{unfit-module, unfit-mode, unfi
 use Rattle.planrules.proofs.fits.first_unfit.Statement.{statement}
 use Rattle.planrules.proofs.fits.first_unfit.Tie as tie
 
-module-count-requires : tie.Need-module-count-requires
-module-count-requires c κs = search needs
-
-mode-count-requires : tie.Need-mode-count-requires
-mode-count-requires c κs = search needs
-
-task-count-requires : tie.Need-task-count-requires
-task-count-requires c κs = search needs
-
-invocation-count-requires : tie.Need-invocation-count-requires
-invocation-count-requires c κs = search needs
-
 first-without-mode-requires : tie.Need-first-without-mode-requires
 first-without-mode-requires c κs = c .before .before .before .mode-count .ensures .1
 
@@ -45,14 +33,8 @@ returns-2 c =
     _ (c .before .before .before .first-without-mode .ensures)
     _ (c .before .before .if1 .left) (c .before .first-bad-switch .ensures) (c .if2 .taken)
 
-first-misfit-requires : tie.Need-first-misfit-requires
-first-misfit-requires c κs = search needs
-
 first-repeat-requires : tie.Need-first-repeat-requires
 first-repeat-requires c κs = c .before .before .before .before .before .before .before .invocation-count .ensures .1
-
-lower-requires : tie.Need-lower-requires
-lower-requires c κs = search needs
 
 add-t17 : tie.Need-add-t17
 add-t17 c =
@@ -87,24 +69,6 @@ returns-4 c =
 pub first-unfit-spec : {M : Type 1} → statement M
 first-unfit-spec =
     tie.close
-    (tie.spec
-    module-count-requires
-    mode-count-requires
-    task-count-requires
-    invocation-count-requires
-    first-without-mode-requires
-    add-t12
-    returns
-    first-bad-switch-requires
-    add-t13
-    add-t14
-    returns-2
-    first-misfit-requires
-    first-repeat-requires
-    lower-requires
-    add-t17
-    add-t18
-    add-t19
-    add-t20
-    returns-3
-    returns-4)
+    (tie.spec (λ c κs. search needs) (λ c κs. search needs) (λ c κs. search needs) (λ c κs. search needs) first-without-mode-requires
+    add-t12 returns first-bad-switch-requires add-t13 add-t14 returns-2 (λ c κs. search needs) first-repeat-requires
+    (λ c κs. search needs) add-t17 add-t18 add-t19 add-t20 returns-3 returns-4)

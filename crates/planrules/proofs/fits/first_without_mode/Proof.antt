@@ -22,18 +22,9 @@ abbrev μ-loop : tie.MeasureT-loop
 loop-holds : tie.Need-loop-holds Inv-loop μ-loop
 loop-holds c = (search needs, refl)
 
-has-mode-requires : tie.Need-has-mode-requires Inv-loop μ-loop
-has-mode-requires c κs = search needs
-
 returns : tie.Need-returns Inv-loop μ-loop
 returns c =
     met-upTo _ _ _ (c .before .before .loop-test .taken) (c .before .before .before .loop .inv .1) (sym (c .before .has-mode .ensures) ∙ not-true _ (c .if1 .taken))
-
-add-m : tie.Need-add-m Inv-loop μ-loop
-add-m c = search needs
-
-loop-less : tie.Need-loop-less Inv-loop μ-loop
-loop-less c = search needs
 
 loop-again : tie.Need-loop-again Inv-loop μ-loop
 loop-again c = (
@@ -48,13 +39,4 @@ returns-2 c = none-upTo _ _ _ (c .before .loop .inv .0) (c .loop-test .left) (c 
 pub first-without-mode-spec : {M : Type 1} → statement M
 first-without-mode-spec =
     tie.close
-    (tie.spec
-    Inv-loop
-    μ-loop
-    loop-holds
-    has-mode-requires
-    returns
-    add-m
-    loop-less
-    loop-again
-    returns-2)
+    (tie.spec Inv-loop μ-loop loop-holds (λ c κs. search needs) returns (λ c. search needs) (λ c. search needs) loop-again returns-2)

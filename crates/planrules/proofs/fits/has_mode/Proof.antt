@@ -23,25 +23,10 @@ abbrev μ-loop : tie.MeasureT-loop
 loop-holds : tie.Need-loop-holds Inv-loop μ-loop
 loop-holds c = (search needs, refl)
 
-mul-mode : tie.Need-mul-mode Inv-loop μ-loop
-mul-mode c = search needs
-
-array-copy-out-mode : tie.Need-array-copy-out-mode Inv-loop μ-loop
-array-copy-out-mode c = search needs
-
-place-requires : tie.Need-place-requires Inv-loop μ-loop
-place-requires c κs = search needs
-
 returns : tie.Need-returns Inv-loop μ-loop
 unfolding hasModeIn isHome modeSeen modeLaid
 returns c =
     sym (any-part-hit modeSeen (isHome _) _ _ _ (omega (arith, c .before .before .before .before .before .good .0 .1 .0 .1)) (modeLaid noMode) (c .before .before .before .loop-test .taken) (eq-eqb _ _ (sym (c .before .place .ensures) ∙ c .if1 .taken)))
-
-add-k : tie.Need-add-k Inv-loop μ-loop
-add-k c = search needs
-
-loop-less : tie.Need-loop-less Inv-loop μ-loop
-loop-less c = search needs
 
 loop-again : tie.Need-loop-again Inv-loop μ-loop
 unfolding isHome modeSeen modeLaid
@@ -59,15 +44,5 @@ returns-2 c =
 pub has-mode-spec : {M : Type 1} → statement M
 has-mode-spec =
     tie.close
-    (tie.spec
-    Inv-loop
-    μ-loop
-    loop-holds
-    mul-mode
-    array-copy-out-mode
-    place-requires
-    returns
-    add-k
-    loop-less
-    loop-again
-    returns-2)
+    (tie.spec Inv-loop μ-loop loop-holds (λ c. search needs) (λ c. search needs) (λ c κs. search needs) returns (λ c. search needs)
+    (λ c. search needs) loop-again returns-2)

@@ -4,9 +4,6 @@ use native.Mathlib.Nat.{div-zero}
 use Rattle.planrules.proofs.fits.quotient.Statement.{statement}
 use Rattle.planrules.proofs.fits.quotient.Tie as tie
 
-div-result : tie.Need-div-result
-div-result c = search needs
-
 returns : tie.Need-returns
 returns c = rw (c .if1 .taken, div-zero)
 
@@ -14,4 +11,4 @@ returns-2 : tie.Need-returns-2
 returns-2 c = refl
 
 pub quotient-spec : {M : Type 1} → statement M
-quotient-spec = tie.close (tie.spec div-result returns returns-2)
+quotient-spec = tie.close (tie.spec (λ c. search needs) returns returns-2)

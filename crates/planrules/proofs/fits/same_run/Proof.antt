@@ -4,12 +4,9 @@ use Rattle.plan.specs.Memory.{invocationSeen}
 use Rattle.planrules.proofs.fits.same_run.Statement.{statement}
 use Rattle.planrules.proofs.fits.same_run.Tie as tie
 
-both-requires : tie.Need-both-requires
-both-requires c κs = search needs
-
 returns : tie.Need-returns
 unfolding sameRun invocationSeen
 returns c = c .both .ensures
 
 pub same-run-spec : {M : Type 1} → statement M
-same-run-spec = tie.close (tie.spec both-requires returns)
+same-run-spec = tie.close (tie.spec (λ c κs. search needs) returns)

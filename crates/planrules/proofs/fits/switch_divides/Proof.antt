@@ -4,12 +4,9 @@ use Rattle.plan.specs.Memory.{modeSeen}
 use Rattle.planrules.proofs.fits.switch_divides.Statement.{statement}
 use Rattle.planrules.proofs.fits.switch_divides.Tie as tie
 
-divides-requires : tie.Need-divides-requires
-divides-requires c κs = search needs
-
 returns : tie.Need-returns
 unfolding switchDivides modeSeen
 returns c = c .divides .ensures
 
 pub switch-divides-spec : {M : Type 1} → statement M
-switch-divides-spec = tie.close (tie.spec divides-requires returns)
+switch-divides-spec = tie.close (tie.spec (λ c κs. search needs) returns)

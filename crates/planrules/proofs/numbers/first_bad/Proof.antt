@@ -19,27 +19,6 @@ abbrev μ-loop : tie.MeasureT-loop
 loop-holds : tie.Need-loop-holds Inv-loop μ-loop
 loop-holds c = (scanned-none _ _ (c .before .pre), scanned-none _ _ (c .before .pre))
 
-next-requires : tie.Need-next-requires Inv-loop μ-loop
-next-requires c κs = search needs
-
-enum-known-kind : tie.Need-enum-known-kind Inv-loop μ-loop
-enum-known-kind c = search needs
-
-body-requires : tie.Need-body-requires Inv-loop μ-loop
-body-requires c κs = search needs
-
-names-are-there-requires : tie.Need-names-are-there-requires Inv-loop μ-loop
-names-are-there-requires c κs = search needs
-
-earlier-requires : tie.Need-earlier-requires Inv-loop μ-loop
-earlier-requires c κs = search needs
-
-numbers-are-within-requires : tie.Need-numbers-are-within-requires Inv-loop μ-loop
-numbers-are-within-requires c κs = search needs
-
-earlier-requires-2 : tie.Need-earlier-requires-2 Inv-loop μ-loop
-earlier-requires-2 c κs = search needs
-
 add-n : tie.Need-add-n Inv-loop μ-loop
 add-n c = omega (arith, scanned-number _ _ _ _ _ _ (c .before .before .before .before .before .before .before .before .before .loop .inv .0) _ _ _ (sym (c .before .before .before .before .before .before .before .before .next .ensures) ∙ c .before .before .before .before .before .before .kind .given .1), c .before .before .before .before .before .before .before .before .before .before .before .good .0 .0)
 
@@ -52,15 +31,9 @@ loop-again c = (
   scanned-more _ _ _ _ _ _ (c .before .before .before .before .before .before .before .before .before .loop .inv .1) _ _ _ _ _ _ (sym (c .before .before .before .before .before .before .before .before .next .ensures) ∙ c .before .before .before .before .before .before .kind .given .1) (c .before .before .before .before .body .ensures) (c .before .numbers-are-within .ensures) (c .earlier2 .ensures),
 )
 
-enum-told : tie.Need-enum-told Inv-loop μ-loop
-enum-told c = search needs
-
 returns : tie.Need-returns Inv-loop μ-loop
 returns c =
     rw (scanned-end _ _ _ _ _ _ (c .before .before .before .loop .inv .0) (sym (c .before .before .next .ensures) ∙ c .enum-told .given .1), scanned-end _ _ _ _ _ _ (c .before .before .before .loop .inv .1) (sym (c .before .before .next .ensures) ∙ c .enum-told .given .1))
-
-enum-told-2 : tie.Need-enum-told-2 Inv-loop μ-loop
-enum-told-2 c = search needs
 
 returns-2 : tie.Need-returns-2 Inv-loop μ-loop
 returns-2 c = scanned-wrong _ _ _ _ _ _ (c .before .before .before .loop .inv .0) _ (sym (c .before .before .next .ensures) ∙ c .enum-told2 .given .1)
@@ -68,21 +41,6 @@ returns-2 c = scanned-wrong _ _ _ _ _ _ (c .before .before .before .loop .inv .0
 pub first-bad-spec : {M : Type 1} → statement M
 first-bad-spec =
     tie.close
-    (tie.spec
-    Inv-loop
-    μ-loop
-    loop-holds
-    next-requires
-    enum-known-kind
-    body-requires
-    names-are-there-requires
-    earlier-requires
-    numbers-are-within-requires
-    earlier-requires-2
-    add-n
-    loop-less
-    loop-again
-    enum-told
-    returns
-    enum-told-2
-    returns-2)
+    (tie.spec Inv-loop μ-loop loop-holds (λ c κs. search needs) (λ c. search needs) (λ c κs. search needs) (λ c κs. search needs)
+    (λ c κs. search needs) (λ c κs. search needs) (λ c κs. search needs) add-n loop-less loop-again (λ c. search needs) returns
+    (λ c. search needs) returns-2)

@@ -7,69 +7,6 @@ use Rattle.planrules.proofs.RecordTests.{and-true, no-names}
 use Rattle.planrules.proofs.numbers.names_are_there.Statement.{statement}
 use Rattle.planrules.proofs.numbers.names_are_there.Tie as tie
 
-module-requires : tie.Need-module-requires
-module-requires c κs = search needs
-
-place-requires : tie.Need-place-requires
-place-requires c κs = search needs
-
-array-read-result : tie.Need-array-read-result
-array-read-result c = search needs
-
-mode-requires : tie.Need-mode-requires
-mode-requires c κs = search needs
-
-place-requires-2 : tie.Need-place-requires-2
-place-requires-2 c κs = search needs
-
-array-read-result-2 : tie.Need-array-read-result-2
-array-read-result-2 c = search needs
-
-task-requires : tie.Need-task-requires
-task-requires c κs = search needs
-
-place-requires-3 : tie.Need-place-requires-3
-place-requires-3 c κs = search needs
-
-array-read-result-3 : tie.Need-array-read-result-3
-array-read-result-3 c = search needs
-
-invocation-requires : tie.Need-invocation-requires
-invocation-requires c κs = search needs
-
-place-requires-4 : tie.Need-place-requires-4
-place-requires-4 c κs = search needs
-
-array-read-both : tie.Need-array-read-both
-array-read-both c = search needs
-
-place-requires-5 : tie.Need-place-requires-5
-place-requires-5 c κs = search needs
-
-array-read-both-2 : tie.Need-array-read-both-2
-array-read-both-2 c = search needs
-
-both-requires : tie.Need-both-requires
-both-requires c κs = search needs
-
-connection-requires : tie.Need-connection-requires
-connection-requires c κs = search needs
-
-place-requires-6 : tie.Need-place-requires-6
-place-requires-6 c κs = search needs
-
-array-read-both-3 : tie.Need-array-read-both-3
-array-read-both-3 c = search needs
-
-place-requires-7 : tie.Need-place-requires-7
-place-requires-7 c κs = search needs
-
-array-read-both-4 : tie.Need-array-read-both-4
-array-read-both-4 c = search needs
-
-both-requires-2 : tie.Need-both-requires-2
-both-requires-2 c κs = search needs
-
 returns : tie.Need-returns
 unfolding namesAreThere recordOf fields kinds moduleLaid moduleOf
 returns c = rw (c .place .ensures, c .before .«module» .ensures, c .before .before .match .keys1) (simp and-true)
@@ -99,31 +36,8 @@ returns-6 c =
 pub names-are-there-spec : {M : Type 1} → statement M
 names-are-there-spec =
     tie.close
-    (tie.spec
-    module-requires
-    place-requires
-    array-read-result
-    mode-requires
-    place-requires-2
-    array-read-result-2
-    task-requires
-    place-requires-3
-    array-read-result-3
-    invocation-requires
-    place-requires-4
-    array-read-both
-    place-requires-5
-    array-read-both-2
-    both-requires
-    connection-requires
-    place-requires-6
-    array-read-both-3
-    place-requires-7
-    array-read-both-4
-    both-requires-2
-    returns
-    returns-2
-    returns-3
-    returns-4
-    returns-5
-    returns-6)
+    (tie.spec (λ c κs. search needs) (λ c κs. search needs) (λ c. search needs) (λ c κs. search needs) (λ c κs. search needs)
+    (λ c. search needs) (λ c κs. search needs) (λ c κs. search needs) (λ c. search needs) (λ c κs. search needs)
+    (λ c κs. search needs) (λ c. search needs) (λ c κs. search needs) (λ c. search needs) (λ c κs. search needs)
+    (λ c κs. search needs) (λ c κs. search needs) (λ c. search needs) (λ c κs. search needs) (λ c. search needs)
+    (λ c κs. search needs) returns returns-2 returns-3 returns-4 returns-5 returns-6)

@@ -4,18 +4,6 @@ use Rattle.planrules.proofs.RecordTests.{no-ranges}
 use Rattle.planrules.proofs.numbers.numbers_are_within.Statement.{statement}
 use Rattle.planrules.proofs.numbers.numbers_are_within.Tie as tie
 
-bus-is-within-requires : tie.Need-bus-is-within-requires
-bus-is-within-requires c κs = search needs
-
-mode-is-within-requires : tie.Need-mode-is-within-requires
-mode-is-within-requires c κs = search needs
-
-task-is-within-requires : tie.Need-task-is-within-requires
-task-is-within-requires c κs = search needs
-
-rate-is-within-requires : tie.Need-rate-is-within-requires
-rate-is-within-requires c κs = search needs
-
 returns : tie.Need-returns
 returns c = rw (c .before .match .keys1) (c .bus-is-within .ensures)
 
@@ -35,13 +23,5 @@ returns-5 c =
 pub numbers-are-within-spec : {M : Type 1} → statement M
 numbers-are-within-spec =
     tie.close
-    (tie.spec
-    bus-is-within-requires
-    mode-is-within-requires
-    task-is-within-requires
-    rate-is-within-requires
-    returns
-    returns-2
-    returns-3
-    returns-4
-    returns-5)
+    (tie.spec (λ c κs. search needs) (λ c κs. search needs) (λ c κs. search needs) (λ c κs. search needs) returns returns-2 returns-3
+    returns-4 returns-5)

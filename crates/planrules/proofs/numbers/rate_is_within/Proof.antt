@@ -6,15 +6,9 @@ use Rattle.planrules.proofs.RecordTests.{and-true}
 use Rattle.planrules.proofs.numbers.rate_is_within.Statement.{statement}
 use Rattle.planrules.proofs.numbers.rate_is_within.Tie as tie
 
-invocation-requires : tie.Need-invocation-requires
-invocation-requires c κs = search needs
-
-within-requires : tie.Need-within-requires
-within-requires c κs = search needs
-
 returns : tie.Need-returns
 unfolding numbersAreWithin payloadsOrdered isKind recordOf fields kinds invocationLaid invocationOf
 returns c = rw (c .within .ensures, c .before .invocation .ensures) (simp and-true)
 
 pub rate-is-within-spec : {M : Type 1} → statement M
-rate-is-within-spec = tie.close (tie.spec invocation-requires within-requires returns)
+rate-is-within-spec = tie.close (tie.spec (λ c κs. search needs) (λ c κs. search needs) returns)

@@ -14,9 +14,6 @@ use Rattle.records.proofs.kinds.body_length.Tie as tie
 lengths : ℕ → List ℕ
 lengths u = 0 ∷ 16 ∷ 1 ∷ 1 ∷ 9 ∷ 6 ∷ 4 ∷ 2 ∷ u ∷ u ∷ u ∷ u ∷ u ∷ u ∷ u ∷ u ∷ 7 ∷ 9 ∷ 13 ∷ []
 
-array-read-result : tie.Need-array-read-result
-array-read-result c = search needs
-
 returns : tie.Need-returns
 unfolding lengths right lengthOf known bodyLength fields kinds
 returns c = entry (lengths 255) refl (c .before .args .kind) (c .if1 .taken)
@@ -25,4 +22,4 @@ returns-2 : tie.Need-returns-2
 returns-2 c = sym (above (c .before .args .kind) (c .if1 .left))
 
 pub body-length-spec : {M : Type 1} → statement M
-body-length-spec = tie.close (tie.spec array-read-result returns returns-2)
+body-length-spec = tie.close (tie.spec (λ c. search needs) returns returns-2)

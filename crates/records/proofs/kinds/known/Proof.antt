@@ -5,11 +5,8 @@ use Rattle.records.proofs.LengthTable.{known-told}
 use Rattle.records.proofs.kinds.known.Statement.{statement}
 use Rattle.records.proofs.kinds.known.Tie as tie
 
-body-length-requires : tie.Need-body-length-requires
-body-length-requires c κs = search needs
-
 returns : tie.Need-returns
 returns c = rw (c .body-length .ensures) (known-told (c .before .args .kind))
 
 pub known-spec : {M : Type 1} → statement M
-known-spec = tie.close (tie.spec body-length-requires returns)
+known-spec = tie.close (tie.spec (λ c κs. search needs) returns)

@@ -14,12 +14,9 @@ returns-2 : tie.Need-returns-2
 unfolding planFollows
 returns-2 c = simp (ne-eqb _ _ (c .before .if1 .left), eq-eqb _ _ (c .if2 .taken))
 
-rises-requires : tie.Need-rises-requires
-rises-requires c κs = search needs
-
 returns-3 : tie.Need-returns-3
 unfolding planFollows
 returns-3 c = simp (ne-eqb _ _ (c .before .before .if1 .left), ne-eqb _ _ (c .before .if2 .left)) (c .rises .ensures)
 
 pub plan-follows-spec : {M : Type 1} → statement M
-plan-follows-spec = tie.close (tie.spec returns returns-2 rises-requires returns-3)
+plan-follows-spec = tie.close (tie.spec returns returns-2 (λ c κs. search needs) returns-3)

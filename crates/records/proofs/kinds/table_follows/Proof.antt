@@ -10,12 +10,9 @@ returns : tie.Need-returns
 unfolding tableFollows
 returns c = simp (eq-eqb _ _ (c .if1 .taken))
 
-rises-requires : tie.Need-rises-requires
-rises-requires c κs = search needs
-
 returns-2 : tie.Need-returns-2
 unfolding tableFollows
 returns-2 c = simp (ne-eqb _ _ (c .before .if1 .left)) (c .rises .ensures)
 
 pub table-follows-spec : {M : Type 1} → statement M
-table-follows-spec = tie.close (tie.spec returns rises-requires returns-2)
+table-follows-spec = tie.close (tie.spec returns (λ c κs. search needs) returns-2)

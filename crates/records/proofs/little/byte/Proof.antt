@@ -8,18 +8,6 @@ use borrow.Author.Needs.{needs}
 use Rattle.records.proofs.little.byte.Statement.{statement}
 use Rattle.records.proofs.little.byte.Tie as tie
 
-sub-if2 : tie.Need-sub-if2
-sub-if2 c = search needs
-
-add-result : tie.Need-add-result
-add-result c = search needs
-
-shared-slice-read-result : tie.Need-shared-slice-read-result
-shared-slice-read-result c = search needs
-
-returns : tie.Need-returns
-returns c = search needs
-
 returns-2 : tie.Need-returns-2
 returns-2 c = sym (List·getD-eq-default (now ((c .before .before .args) .s)) 0 {n = (c .before .before .args) .at + (c .before .before .args) .k} (search needs))
 
@@ -27,5 +15,4 @@ returns-3 : tie.Need-returns-3
 returns-3 c = sym (List·getD-eq-default (now ((c .before .args) .s)) 0 {n = (c .before .args) .at + (c .before .args) .k} (search needs))
 
 pub byte-spec : {M : Type 1} → statement M
-byte-spec =
-    tie.close (tie.spec sub-if2 add-result shared-slice-read-result returns returns-2 returns-3)
+byte-spec = tie.close (tie.spec (λ c. search needs) (λ c. search needs) (λ c. search needs) (λ c. search needs) returns-2 returns-3)

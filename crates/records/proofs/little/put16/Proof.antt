@@ -7,21 +7,6 @@ use borrow.Author.Needs.{needs}
 use Rattle.records.proofs.little.put16.Statement.{statement}
 use Rattle.records.proofs.little.put16.Tie as tie
 
-cast-store : tie.Need-cast-store
-cast-store c = search needs
-
-store-requires : tie.Need-store-requires
-store-requires c κs = search needs
-
-cast-store-2 : tie.Need-cast-store-2
-cast-store-2 c = search needs
-
-store-requires-2 : tie.Need-store-requires-2
-store-requires-2 c κs = search needs
-
-same-length : tie.Need-same-length
-same-length c = search needs
-
 returns : tie.Need-returns
 returns c =
     let a = c .before .before .before .before .before .before .before .before .before .args in
@@ -30,4 +15,4 @@ returns c =
 pub put16-spec : {M : Type 1} → statement M
 put16-spec =
     tie.close
-    (tie.spec cast-store store-requires cast-store-2 store-requires-2 same-length returns)
+    (tie.spec (λ c. search needs) (λ c κs. search needs) (λ c. search needs) (λ c κs. search needs) (λ c. search needs) returns)

@@ -10,12 +10,6 @@ use borrow.Author.Needs.{needs}
 use Rattle.records.proofs.little.put8.Statement.{statement}
 use Rattle.records.proofs.little.put8.Tie as tie
 
-store-requires : tie.Need-store-requires
-store-requires c κs = search needs
-
-same-length : tie.Need-same-length
-same-length c = search needs
-
 returns : tie.Need-returns
 returns c =
     let a = c .before .before .before .before .before .args in
@@ -23,4 +17,4 @@ returns c =
     rw (e, c .before .before .store .ensures) (stored-sets (now (a .buf)) (a .at) (a .x ∷ []))
 
 pub put8-spec : {M : Type 1} → statement M
-put8-spec = tie.close (tie.spec store-requires same-length returns)
+put8-spec = tie.close (tie.spec (λ c κs. search needs) (λ c. search needs) returns)

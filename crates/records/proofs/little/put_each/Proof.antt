@@ -7,33 +7,6 @@ use borrow.Author.Needs.{needs}
 use Rattle.records.proofs.little.put_each.Statement.{statement}
 use Rattle.records.proofs.little.put_each.Tie as tie
 
-cast-store : tie.Need-cast-store
-cast-store c = search needs
-
-store-requires : tie.Need-store-requires
-store-requires c κs = search needs
-
-cast-store-2 : tie.Need-cast-store-2
-cast-store-2 c = search needs
-
-store-requires-2 : tie.Need-store-requires-2
-store-requires-2 c κs = search needs
-
-cast-store-3 : tie.Need-cast-store-3
-cast-store-3 c = search needs
-
-store-requires-3 : tie.Need-store-requires-3
-store-requires-3 c κs = search needs
-
-cast-store-4 : tie.Need-cast-store-4
-cast-store-4 c = search needs
-
-store-requires-4 : tie.Need-store-requires-4
-store-requires-4 c κs = search needs
-
-same-length : tie.Need-same-length
-same-length c = search needs
-
 returns : tie.Need-returns
 returns c =
     let a = c .before .before .before .before .before .before .before .before .before .before .before .before .before .before .before .before .before .args in
@@ -42,14 +15,5 @@ returns c =
 pub put-each-spec : {M : Type 1} → statement M
 put-each-spec =
     tie.close
-    (tie.spec
-    cast-store
-    store-requires
-    cast-store-2
-    store-requires-2
-    cast-store-3
-    store-requires-3
-    cast-store-4
-    store-requires-4
-    same-length
-    returns)
+    (tie.spec (λ c. search needs) (λ c κs. search needs) (λ c. search needs) (λ c κs. search needs) (λ c. search needs)
+    (λ c κs. search needs) (λ c. search needs) (λ c κs. search needs) (λ c. search needs) returns)

@@ -12,26 +12,8 @@ use borrow.Author.Needs.{needs}
 use Rattle.records.proofs.little.put_whole.Statement.{statement}
 use Rattle.records.proofs.little.put_whole.Tie as tie
 
-cast-buf : tie.Need-cast-buf
-cast-buf c = search needs
-
-slice-write-buf : tie.Need-slice-write-buf
-slice-write-buf c = search needs
-
-cast-buf-2 : tie.Need-cast-buf-2
-cast-buf-2 c = search needs
-
-add-buf : tie.Need-add-buf
-add-buf c = search needs
-
 slice-write-buf-2 : tie.Need-slice-write-buf-2
 slice-write-buf-2 c = let a = c .args in omega (arith, length-set (now (a .buf)) (a .at) (a .x % 256))
-
-cast-buf-3 : tie.Need-cast-buf-3
-cast-buf-3 c = search needs
-
-add-buf-2 : tie.Need-add-buf-2
-add-buf-2 c = search needs
 
 slice-write-buf-3 : tie.Need-slice-write-buf-3
 slice-write-buf-3 c =
@@ -39,21 +21,12 @@ slice-write-buf-3 c =
     let one = set (now (a .buf)) (a .at) (a .x % 256) in
     omega (arith, length-set (now (a .buf)) (a .at) (a .x % 256), length-set one (a .at + 1) (a .x / 256 % 256))
 
-cast-buf-4 : tie.Need-cast-buf-4
-cast-buf-4 c = search needs
-
-add-buf-3 : tie.Need-add-buf-3
-add-buf-3 c = search needs
-
 slice-write-buf-4 : tie.Need-slice-write-buf-4
 slice-write-buf-4 c =
     let a = c .args in
     let one = set (now (a .buf)) (a .at) (a .x % 256) in
     let two = set one (a .at + 1) (a .x / 256 % 256) in
     omega (arith, length-set (now (a .buf)) (a .at) (a .x % 256), length-set one (a .at + 1) (a .x / 256 % 256), length-set two (a .at + 2) (a .x / 256 / 256 % 256))
-
-same-length : tie.Need-same-length
-same-length c = search needs
 
 returns : tie.Need-returns
 returns c =
@@ -64,17 +37,5 @@ returns c =
 pub put-whole-spec : {M : Type 1} → statement M
 put-whole-spec =
     tie.close
-    (tie.spec
-    cast-buf
-    slice-write-buf
-    cast-buf-2
-    add-buf
-    slice-write-buf-2
-    cast-buf-3
-    add-buf-2
-    slice-write-buf-3
-    cast-buf-4
-    add-buf-3
-    slice-write-buf-4
-    same-length
-    returns)
+    (tie.spec (λ c. search needs) (λ c. search needs) (λ c. search needs) (λ c. search needs) slice-write-buf-2 (λ c. search needs)
+    (λ c. search needs) slice-write-buf-3 (λ c. search needs) (λ c. search needs) slice-write-buf-4 (λ c. search needs) returns)

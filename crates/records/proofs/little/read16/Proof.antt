@@ -18,9 +18,6 @@ room c =
     let a = c .before .before .before .args in
     leb-true (a .at + 2) (length (now (a .s))) (sym (c .before .holds .ensures) ∙ c .if1 .taken)
 
-holds-requires : tie.Need-holds-requires
-holds-requires c κs = search needs
-
 shared-slice-read-two : tie.Need-shared-slice-read-two
 shared-slice-read-two c = omega (arith, room (c .before))
 
@@ -30,22 +27,10 @@ add-two c = omega (arith, room (c .before))
 shared-slice-read-two-2 : tie.Need-shared-slice-read-two-2
 shared-slice-read-two-2 c = omega (arith, room (c .before .before))
 
-two-requires : tie.Need-two-requires
-two-requires c κs = search needs
-
 returns : tie.Need-returns
 returns c =
     let a = c .before .before .before .before .before .before .args in
     omega (arith, number-added 2 (now (a .s)) (a .at), ap (λ (k : ℕ). getD (now (a .s)) k 0) (add-zero (a .at)))
-
-byte-requires : tie.Need-byte-requires
-byte-requires c κs = search needs
-
-byte-requires-2 : tie.Need-byte-requires-2
-byte-requires-2 c κs = search needs
-
-two-requires-2 : tie.Need-two-requires-2
-two-requires-2 c κs = search needs
 
 returns-2 : tie.Need-returns-2
 returns-2 c = let a = c .before .before .before .before .before .before .args in omega (arith, number-added 2 (now (a .s)) (a .at))
@@ -53,14 +38,5 @@ returns-2 c = let a = c .before .before .before .before .before .before .args in
 pub read16-spec : {M : Type 1} → statement M
 read16-spec =
     tie.close
-    (tie.spec
-    holds-requires
-    shared-slice-read-two
-    add-two
-    shared-slice-read-two-2
-    two-requires
-    returns
-    byte-requires
-    byte-requires-2
-    two-requires-2
-    returns-2)
+    (tie.spec (λ c κs. search needs) shared-slice-read-two add-two shared-slice-read-two-2 (λ c κs. search needs) returns
+    (λ c κs. search needs) (λ c κs. search needs) (λ c κs. search needs) returns-2)

@@ -18,9 +18,6 @@ room c =
     let a = c .before .before .before .args in
     leb-true (a .at + 4) (length (now (a .s))) (sym (c .before .holds .ensures) ∙ c .if1 .taken)
 
-holds-requires : tie.Need-holds-requires
-holds-requires c κs = search needs
-
 shared-slice-read-four : tie.Need-shared-slice-read-four
 shared-slice-read-four c = omega (arith, room (c .before))
 
@@ -42,28 +39,10 @@ add-four-3 c = omega (arith, room (c .before .before .before))
 shared-slice-read-four-4 : tie.Need-shared-slice-read-four-4
 shared-slice-read-four-4 c = omega (arith, room (c .before .before .before .before))
 
-four-requires : tie.Need-four-requires
-four-requires c κs = search needs
-
 returns : tie.Need-returns
 returns c =
     let a = c .before .before .before .before .before .before .before .before .args in
     omega (arith, number-added 4 (now (a .s)) (a .at), ap (λ (k : ℕ). getD (now (a .s)) k 0) (add-zero (a .at)))
-
-byte-requires : tie.Need-byte-requires
-byte-requires c κs = search needs
-
-byte-requires-2 : tie.Need-byte-requires-2
-byte-requires-2 c κs = search needs
-
-byte-requires-3 : tie.Need-byte-requires-3
-byte-requires-3 c κs = search needs
-
-byte-requires-4 : tie.Need-byte-requires-4
-byte-requires-4 c κs = search needs
-
-four-requires-2 : tie.Need-four-requires-2
-four-requires-2 c κs = search needs
 
 returns-2 : tie.Need-returns-2
 returns-2 c = let a = c .before .before .before .before .before .before .before .before .args in omega (arith, number-added 4 (now (a .s)) (a .at))
@@ -71,20 +50,6 @@ returns-2 c = let a = c .before .before .before .before .before .before .before 
 pub read32-spec : {M : Type 1} → statement M
 read32-spec =
     tie.close
-    (tie.spec
-    holds-requires
-    shared-slice-read-four
-    add-four
-    shared-slice-read-four-2
-    add-four-2
-    shared-slice-read-four-3
-    add-four-3
-    shared-slice-read-four-4
-    four-requires
-    returns
-    byte-requires
-    byte-requires-2
-    byte-requires-3
-    byte-requires-4
-    four-requires-2
-    returns-2)
+    (tie.spec (λ c κs. search needs) shared-slice-read-four add-four shared-slice-read-four-2 add-four-2 shared-slice-read-four-3
+    add-four-3 shared-slice-read-four-4 (λ c κs. search needs) returns (λ c κs. search needs) (λ c κs. search needs)
+    (λ c κs. search needs) (λ c κs. search needs) (λ c κs. search needs) returns-2)

@@ -7,11 +7,8 @@ use borrow.Author.Needs.{needs}
 use Rattle.records.proofs.little.read8.Statement.{statement}
 use Rattle.records.proofs.little.read8.Tie as tie
 
-byte-requires : tie.Need-byte-requires
-byte-requires c κs = search needs
-
 returns : tie.Need-returns
 returns c = let a = c .before .before .args in omega (arith, number-added 1 (now (a .s)) (a .at))
 
 pub read8-spec : {M : Type 1} → statement M
-read8-spec = tie.close (tie.spec byte-requires returns)
+read8-spec = tie.close (tie.spec (λ c κs. search needs) returns)

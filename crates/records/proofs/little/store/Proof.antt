@@ -6,21 +6,6 @@ use borrow.Author.Needs.{needs}
 use Rattle.records.proofs.little.store.Statement.{statement}
 use Rattle.records.proofs.little.store.Tie as tie
 
-sub-if2 : tie.Need-sub-if2
-sub-if2 c = search needs
-
-add-buf : tie.Need-add-buf
-add-buf c = search needs
-
-slice-write-buf : tie.Need-slice-write-buf
-slice-write-buf c = search needs
-
-same-length : tie.Need-same-length
-same-length c = search needs
-
-returns : tie.Need-returns
-returns c = search needs
-
 returns-2 : tie.Need-returns-2
 returns-2 c = sym (set-out _ _ _ (search needs))
 
@@ -29,4 +14,5 @@ returns-3 c = sym (set-out _ _ _ (search needs))
 
 pub store-spec : {M : Type 1} → statement M
 store-spec =
-    tie.close (tie.spec sub-if2 add-buf slice-write-buf same-length returns returns-2 returns-3)
+    tie.close
+    (tie.spec (λ c. search needs) (λ c. search needs) (λ c. search needs) (λ c. search needs) (λ c. search needs) returns-2 returns-3)

@@ -1,20 +1,6 @@
 use borrow.Author.Needs.{needs}
 use Rattle.stationjudge.proofs.Run.is_awaited.Statement.{statement}
 use Rattle.stationjudge.proofs.Run.is_awaited.Tie as tie
-use Rattle.stationjudge.proofs.Run.is_awaited.Reads as reads
-use Rattle.stationjudge.proofs.Run.is_awaited.Lts as lts
-use Rattle.places.proofs.both.Reads as both-reads
-use Rattle.stationjudge.proofs.Run.is_under_way.Reads as is-under-way-reads
-use Rattle.stationjudge.proofs.Run.since_release.Reads as since-release-reads
-
-is-under-way-requires : tie.Need-is-under-way-requires
-is-under-way-requires c κs = search needs
-
-both-requires : tie.Need-both-requires
-both-requires c κs = search needs
-
-since-release-requires : tie.Need-since-release-requires
-since-release-requires c κs = search needs
 
 returns : tie.Need-returns
 returns c = rw (← c .before .before .before .is-under-way .ensures, ← c .before .before .both .ensures, c .before .if1 .taken, c .if2 .taken)
@@ -28,10 +14,4 @@ returns-3 c = rw (← c .before .before .is-under-way .ensures, ← c .before .b
 pub is-awaited-spec : {M : Type 1} → statement M
 is-awaited-spec =
     tie.close
-    (tie.spec
-    is-under-way-requires
-    both-requires
-    since-release-requires
-    returns
-    returns-2
-    returns-3)
+    (tie.spec (λ c κs. search needs) (λ c κs. search needs) (λ c κs. search needs) returns returns-2 returns-3)

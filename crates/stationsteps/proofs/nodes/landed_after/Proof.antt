@@ -6,18 +6,6 @@ use Rattle.stationsteps.proofs.Ways.{lands-not, lands-here}
 use borrow.Author.Needs.{needs}
 use Rattle.stationsteps.proofs.nodes.landed_after.Statement.{statement}
 use Rattle.stationsteps.proofs.nodes.landed_after.Tie as tie
-use Rattle.stationsteps.proofs.nodes.landed_after.Reads as reads
-use Rattle.stationsteps.proofs.nodes.landed_after.Lts as lts
-use Rattle.stationsteps.proofs.nodes.with_place.Reads as with-place-reads
-
-enum-told : tie.Need-enum-told
-enum-told c = search needs
-
-enum-known-landing : tie.Need-enum-known-landing
-enum-known-landing c = search needs
-
-with-place-requires : tie.Need-with-place-requires
-with-place-requires c κs = search needs
 
 returns : tie.Need-returns
 returns c = let a = c .before .before .args in stores-idle (a .landed) (landedRule (a .landing) (a .n) (a .landed)) 32 0 (λ k w. rw (c .enum-told .given .1))
@@ -29,6 +17,4 @@ returns-3 : tie.Need-returns-3
 returns-3 c = let a = c .before .before .before .before .before .args in let b = c .before .before .before .landing .given .0 in let e : length (a .landed) ≡ 32 = search needs in c .with-place .ensures ∙ stores-one (a .landed) (landedRule (a .landing) (a .n) (a .landed)) 32 (b .0) (b .1 .1 .0) 0 e (λ k w. lands-here (a .landing) (b .0) (b .1 .0) (b .1 .1 .0) (a .n) (a .landed) (c .before .before .before .landing .given .1) (c .before .if1 .left) k)
 
 pub landed-after-spec : {M : Type 1} → statement M
-landed-after-spec =
-    tie.close
-    (tie.spec enum-told enum-known-landing with-place-requires returns returns-2 returns-3)
+landed-after-spec = tie.close (tie.spec (λ c. search needs) (λ c. search needs) (λ c κs. search needs) returns returns-2 returns-3)

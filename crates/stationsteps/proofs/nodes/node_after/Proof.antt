@@ -6,20 +6,10 @@ use Rattle.stationsteps.proofs.Ways.{made, shown-of-landed}
 use borrow.Author.Needs.{needs}
 use Rattle.stationsteps.proofs.nodes.node_after.Statement.{statement}
 use Rattle.stationsteps.proofs.nodes.node_after.Tie as tie
-use Rattle.stationsteps.proofs.nodes.node_after.Reads as reads
-use Rattle.stationsteps.proofs.nodes.node_after.Lts as lts
-use Rattle.stationsteps.proofs.nodes.landed_after.Reads as landed-after-reads
-use Rattle.stationsteps.proofs.nodes.shown_after.Reads as shown-after-reads
-
-landed-after-requires : tie.Need-landed-after-requires
-landed-after-requires c κs = search needs
-
-shown-after-requires : tie.Need-shown-after-requires
-shown-after-requires c κs = search needs
 
 returns : tie.Need-returns
 unfolding nodeAt
 returns c = let a = c .before .before .before .before .before .args in let size : length (a .node .landed) ≡ 32 = search needs in made (c .before .before .before .landed-after .ensures) (shown-of-landed (now (a .ends)) (now (a .homes)) (now (a .nodes)) (now (a .out)) (now (a .held)) (now (a .bus)) (now (a .runs)) (a .clock) (a .n) (a .node .landed) (a .node .shown) (landedRule (a .landing) (a .n) (a .node .landed)) size (c .before .before .before .landed-after .ensures) (c .shown-after .ensures))
 
 pub node-after-spec : {M : Type 1} → statement M
-node-after-spec = tie.close (tie.spec landed-after-requires shown-after-requires returns)
+node-after-spec = tie.close (tie.spec (λ c κs. search needs) (λ c κs. search needs) returns)

@@ -6,9 +6,6 @@ use Rattle.stationsteps.specs.Nodes.{shownRule}
 use borrow.Author.Needs.{needs}
 use Rattle.stationsteps.proofs.nodes.shown_after.Statement.{statement}
 use Rattle.stationsteps.proofs.nodes.shown_after.Tie as tie
-use Rattle.stationsteps.proofs.nodes.shown_after.Reads as reads
-use Rattle.stationsteps.proofs.nodes.shown_after.Lts as lts
-use Rattle.stationsteps.proofs.nodes.shown_at.Reads as shown-at-reads
 
 abbrev Inv-loop : tie.InvT-loop
 Inv-loop n ends homes nodes out landed held bus runs clock shown₀ t₀ shown t = (t ≤ 32) × Filled shown₀ (shownRule ends homes nodes out held bus runs clock n (numberAt landed) shown₀) t shown
@@ -19,27 +16,6 @@ abbrev μ-loop : tie.MeasureT-loop
 loop-holds : tie.Need-loop-holds Inv-loop μ-loop
 loop-holds c = (search needs, filled-none)
 
-mul-shown-at : tie.Need-mul-shown-at Inv-loop μ-loop
-mul-shown-at c = search needs
-
-array-read-shown-at : tie.Need-array-read-shown-at Inv-loop μ-loop
-array-read-shown-at c = search needs
-
-shown-at-requires : tie.Need-shown-at-requires Inv-loop μ-loop
-shown-at-requires c κs = search needs
-
-mul-shown : tie.Need-mul-shown Inv-loop μ-loop
-mul-shown c = search needs
-
-array-write-shown : tie.Need-array-write-shown Inv-loop μ-loop
-array-write-shown c = search needs
-
-add-t : tie.Need-add-t Inv-loop μ-loop
-add-t c = search needs
-
-loop-less : tie.Need-loop-less Inv-loop μ-loop
-loop-less c = search needs
-
 loop-again : tie.Need-loop-again Inv-loop μ-loop
 loop-again c = (search needs, filled-turn (c .before .before .loop .inv .1) (c .shown-at .ensures ∙ rw (filled-next (c .before .before .loop .inv .1) 0)))
 
@@ -49,16 +25,5 @@ returns c = filled-end (c .before .loop .inv .1) (c .before .loop .inv .0) (c .l
 pub shown-after-spec : {M : Type 1} → statement M
 shown-after-spec =
     tie.close
-    (tie.spec
-    Inv-loop
-    μ-loop
-    loop-holds
-    mul-shown-at
-    array-read-shown-at
-    shown-at-requires
-    mul-shown
-    array-write-shown
-    add-t
-    loop-less
-    loop-again
-    returns)
+    (tie.spec Inv-loop μ-loop loop-holds (λ c. search needs) (λ c. search needs) (λ c κs. search needs) (λ c. search needs)
+    (λ c. search needs) (λ c. search needs) (λ c. search needs) loop-again returns)

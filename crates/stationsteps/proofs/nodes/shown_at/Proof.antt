@@ -10,42 +10,9 @@ use Rattle.stationsteps.proofs.Ways.{shows-own, shows-landed, shows-old
 use borrow.Author.Needs.{needs}
 use Rattle.stationsteps.proofs.nodes.shown_at.Statement.{statement}
 use Rattle.stationsteps.proofs.nodes.shown_at.Tie as tie
-use Rattle.stationsteps.proofs.nodes.shown_at.Reads as reads
-use Rattle.stationsteps.proofs.nodes.shown_at.Lts as lts
-use Rattle.places.proofs.byte_at.Reads as byte-at-reads
-use Rattle.places.proofs.flag_at.Reads as flag-at-reads
-use Rattle.places.proofs.value_at.Reads as value-at-reads
-use Rattle.stationsteps.proofs.has_message.Reads as has-message-reads
-
-flag-at-requires : tie.Need-flag-at-requires
-flag-at-requires c κs = search needs
-
-byte-at-requires : tie.Need-byte-at-requires
-byte-at-requires c κs = search needs
-
-byte-at-requires-2 : tie.Need-byte-at-requires-2
-byte-at-requires-2 c κs = search needs
-
-value-at-requires : tie.Need-value-at-requires
-value-at-requires c κs = search needs
 
 returns : tie.Need-returns
 returns c = let a = c .before .before .before .before .before .before .before .before .before .before .args in shows-own (getD (now (a .ends)) (a .t) false) (eqb (getD (now (a .nodes)) (getD (now (a .homes)) (a .t) 0) 0) (a .n)) (messageIn (now (a .bus)) (now (a .runs)) (a .t) (getD (now (a .held)) (a .n * 16 + getD (now (a .homes)) (a .t) 0) 0) (a .clock)) (getD (now (a .out)) (a .t) 0) (getD (now (a .landed)) (a .t) 0) (a .old) (sym (c .before .before .before .before .before .before .before .before .flag-at .ensures) ∙ c .before .before .before .before .before .before .before .if1 .taken) (rw (← c .before .before .before .before .before .byte-at .ensures .0, ← c .before .before .before .byte-at2 .ensures .0, eq-eqb _ _ (c .before .before .if2 .taken))) (c .value-at .ensures)
-
-mul-byte-at : tie.Need-mul-byte-at
-mul-byte-at c = search needs
-
-add-byte-at : tie.Need-add-byte-at
-add-byte-at c = search needs
-
-byte-at-requires-3 : tie.Need-byte-at-requires-3
-byte-at-requires-3 c κs = search needs
-
-has-message-requires : tie.Need-has-message-requires
-has-message-requires c κs = search needs
-
-value-at-requires-2 : tie.Need-value-at-requires-2
-value-at-requires-2 c κs = search needs
 
 returns-2 : tie.Need-returns-2
 returns-2 c = let a = c .before .before .before .before .before .before .before .before .before .before .before .before .before .before .args in shows-landed (getD (now (a .ends)) (a .t) false) (eqb (getD (now (a .nodes)) (getD (now (a .homes)) (a .t) 0) 0) (a .n)) (messageIn (now (a .bus)) (now (a .runs)) (a .t) (getD (now (a .held)) (a .n * 16 + getD (now (a .homes)) (a .t) 0) 0) (a .clock)) (getD (now (a .out)) (a .t) 0) (getD (now (a .landed)) (a .t) 0) (a .old) (sym (c .before .before .before .before .before .before .before .before .before .before .before .before .flag-at .ensures) ∙ c .before .before .before .before .before .before .before .before .before .before .before .if1 .taken) (rw (← c .before .before .before .before .before .before .before .before .before .byte-at .ensures .0, ← c .before .before .before .before .before .before .before .byte-at2 .ensures .0, ne-eqb _ _ (c .before .before .before .before .before .before .if2 .left))) (sym (c .before .before .before .has-message .ensures ∙ rw (c .before .before .before .before .byte-at3 .ensures .0, c .before .before .before .before .before .before .before .before .before .byte-at .ensures .0)) ∙ c .before .before .if3 .taken) (c .value-at2 .ensures)
@@ -59,17 +26,5 @@ returns-4 c = let a = c .before .before .before .args in shows-none (getD (now (
 pub shown-at-spec : {M : Type 1} → statement M
 shown-at-spec =
     tie.close
-    (tie.spec
-    flag-at-requires
-    byte-at-requires
-    byte-at-requires-2
-    value-at-requires
-    returns
-    mul-byte-at
-    add-byte-at
-    byte-at-requires-3
-    has-message-requires
-    value-at-requires-2
-    returns-2
-    returns-3
-    returns-4)
+    (tie.spec (λ c κs. search needs) (λ c κs. search needs) (λ c κs. search needs) (λ c κs. search needs) returns (λ c. search needs)
+    (λ c. search needs) (λ c κs. search needs) (λ c κs. search needs) (λ c κs. search needs) returns-2 returns-3 returns-4)

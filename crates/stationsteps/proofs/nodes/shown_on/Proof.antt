@@ -6,25 +6,9 @@ use Rattle.stationsteps.specs.Nodes.{noNode}
 use borrow.Author.Needs.{needs}
 use Rattle.stationsteps.proofs.nodes.shown_on.Statement.{statement}
 use Rattle.stationsteps.proofs.nodes.shown_on.Tie as tie
-use Rattle.stationsteps.proofs.nodes.shown_on.Reads as reads
-use Rattle.stationsteps.proofs.nodes.shown_on.Lts as lts
-use Rattle.places.proofs.value_at.Reads as value-at-reads
-
-mul-node : tie.Need-mul-node
-mul-node c = search needs
-
-array-copy-out-node : tie.Need-array-copy-out-node
-array-copy-out-node c = search needs
-
-value-at-requires : tie.Need-value-at-requires
-value-at-requires c κs = search needs
-
-returns : tie.Need-returns
-returns c = search needs
 
 returns-2 : tie.Need-returns-2
 returns-2 c = let a = c .before .args in let size : length (a .t1) ≡ 8 = search needs in let w : length (a .t1) ≤ a .n = omega arith in rw (List·getD-eq-default (a .t1) noNode w)
 
 pub shown-on-spec : {M : Type 1} → statement M
-shown-on-spec =
-    tie.close (tie.spec mul-node array-copy-out-node value-at-requires returns returns-2)
+shown-on-spec = tie.close (tie.spec (λ c. search needs) (λ c. search needs) (λ c κs. search needs) (λ c. search needs) returns-2)

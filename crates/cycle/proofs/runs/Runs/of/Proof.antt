@@ -28,74 +28,17 @@ few c =
     let l = c .before .loop in
     laid-few q (q .invocations) (l .i) (l .count) (l .tasks) (l .periods) (l .worsts) (omega arith) (l .inv .1)
 
-invocation-count-requires : tie.Need-invocation-count-requires Inv-loop μ-loop
-invocation-count-requires c κs = search needs
-
-mode-periods-requires : tie.Need-mode-periods-requires Inv-loop μ-loop
-mode-periods-requires c κs = search needs
-
-task-worsts-requires : tie.Need-task-worsts-requires Inv-loop μ-loop
-task-worsts-requires c κs = search needs
-
 loop-holds : tie.Need-loop-holds Inv-loop μ-loop
 loop-holds c = (search needs, laid-none (seen (c .before .before .before .args .t1)))
 
-mul-place : tie.Need-mul-place Inv-loop μ-loop
-mul-place c = search needs
-
-element-copy-out-place : tie.Need-element-copy-out-place Inv-loop μ-loop
-element-copy-out-place c = search needs
-
-place-requires : tie.Need-place-requires Inv-loop μ-loop
-place-requires c κs = search needs
-
-array-read-if1 : tie.Need-array-read-if1 Inv-loop μ-loop
-array-read-if1 c = search needs
-
-mul-place-2 : tie.Need-mul-place-2 Inv-loop μ-loop
-mul-place-2 c = search needs
-
-element-copy-out-place-2 : tie.Need-element-copy-out-place-2 Inv-loop μ-loop
-element-copy-out-place-2 c = search needs
-
-place-requires-2 : tie.Need-place-requires-2 Inv-loop μ-loop
-place-requires-2 c κs = search needs
-
-mul-tasks : tie.Need-mul-tasks Inv-loop μ-loop
-mul-tasks c = search needs
-
-element-copy-out-tasks : tie.Need-element-copy-out-tasks Inv-loop μ-loop
-element-copy-out-tasks c = search needs
-
 array-write-tasks : tie.Need-array-write-tasks Inv-loop μ-loop
 array-write-tasks c = omega (arith, few (c .before .before .before))
-
-mul-quotient : tie.Need-mul-quotient Inv-loop μ-loop
-mul-quotient c = search needs
-
-array-read-quotient : tie.Need-array-read-quotient Inv-loop μ-loop
-array-read-quotient c = search needs
-
-mul-quotient-2 : tie.Need-mul-quotient-2 Inv-loop μ-loop
-mul-quotient-2 c = search needs
-
-element-copy-out-quotient : tie.Need-element-copy-out-quotient Inv-loop μ-loop
-element-copy-out-quotient c = search needs
-
-quotient-requires : tie.Need-quotient-requires Inv-loop μ-loop
-quotient-requires c κs = search needs
 
 mul-periods : tie.Need-mul-periods Inv-loop μ-loop
 mul-periods c = omega (arith, few (c .before .before .before .before))
 
 array-write-periods : tie.Need-array-write-periods Inv-loop μ-loop
 array-write-periods c = omega (arith, few (c .before .before .before .before))
-
-mul-worsts : tie.Need-mul-worsts Inv-loop μ-loop
-mul-worsts c = search needs
-
-array-read-worsts : tie.Need-array-read-worsts Inv-loop μ-loop
-array-read-worsts c = search needs
 
 mul-worsts-2 : tie.Need-mul-worsts-2 Inv-loop μ-loop
 mul-worsts-2 c = omega (arith, few (c .before .before .before .before))
@@ -105,12 +48,6 @@ array-write-worsts c = omega (arith, few (c .before .before .before .before))
 
 add-count : tie.Need-add-count Inv-loop μ-loop
 add-count c = omega (arith, few (c .before .before .before .before))
-
-add-i : tie.Need-add-i Inv-loop μ-loop
-add-i c = search needs
-
-loop-less : tie.Need-loop-less Inv-loop μ-loop
-loop-less c = search needs
 
 loop-again : tie.Need-loop-again Inv-loop μ-loop
 unfolding invocationSeen invocationLaid
@@ -152,36 +89,8 @@ returns c =
 pub of-spec : {M : Type 1} → statement M
 of-spec =
     tie.close
-    (tie.spec
-    Inv-loop
-    μ-loop
-    invocation-count-requires
-    mode-periods-requires
-    task-worsts-requires
-    loop-holds
-    mul-place
-    element-copy-out-place
-    place-requires
-    array-read-if1
-    mul-place-2
-    element-copy-out-place-2
-    place-requires-2
-    mul-tasks
-    element-copy-out-tasks
-    array-write-tasks
-    mul-quotient
-    array-read-quotient
-    mul-quotient-2
-    element-copy-out-quotient
-    quotient-requires
-    mul-periods
-    array-write-periods
-    mul-worsts
-    array-read-worsts
-    mul-worsts-2
-    array-write-worsts
-    add-count
-    add-i
-    loop-less
-    loop-again
-    returns)
+    (tie.spec Inv-loop μ-loop (λ c κs. search needs) (λ c κs. search needs) (λ c κs. search needs) loop-holds (λ c. search needs)
+    (λ c. search needs) (λ c κs. search needs) (λ c. search needs) (λ c. search needs) (λ c. search needs) (λ c κs. search needs)
+    (λ c. search needs) (λ c. search needs) array-write-tasks (λ c. search needs) (λ c. search needs) (λ c. search needs)
+    (λ c. search needs) (λ c κs. search needs) mul-periods array-write-periods (λ c. search needs) (λ c. search needs) mul-worsts-2
+    array-write-worsts add-count (λ c. search needs) (λ c. search needs) loop-again returns)

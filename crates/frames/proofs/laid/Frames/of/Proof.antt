@@ -3,9 +3,6 @@ use Rattle.frames.specs.Walk.{runAt, runsIn}
 use Rattle.frames.proofs.Laying.{laid-is}
 use Rattle.frames.proofs.laid.Frames.of.Statement.{statement}
 use Rattle.frames.proofs.laid.Frames.of.Tie as tie
-use Rattle.frames.proofs.laid.Frames.of.Reads as reads
-use Rattle.frames.proofs.laid.Frames.of.Lts as lts
-use Rattle.frames.proofs.derive.Reads as derive-reads
 
 derive-requires : tie.Need-derive-requires
 unfolding cycle.runsSeen cycle.runAt runsIn runAt

@@ -5,12 +5,9 @@ use borrow.Author.Needs.{needs}
 use Rattle.judging.proofs.table.Table.empty.Statement.{statement}
 use Rattle.judging.proofs.table.Table.empty.Tie as tie
 
-empty-requires : tie.Need-empty-requires
-empty-requires c κs = search needs
-
 returns : tie.Need-returns
 unfolding emptyTable layOut noTable
 returns c = rw (c .empty .ensures)
 
 pub empty-spec : {M : Type 1} → statement M
-empty-spec = tie.close (tie.spec empty-requires returns)
+empty-spec = tie.close (tie.spec (λ c κs. search needs) returns)
