@@ -29,9 +29,8 @@ fn respond(plan: &[u8], out: &mut [u8]) -> usize
     }
 }
 
-// One byte more is read than the longest plan has, so that a longer one is seen to be longer.
 fn main() {
-    let mut plan = [0u8; 65537];
+    let mut plan = input::file_room();
     let got = input::read_open(STDIN_FILENO, b"standard input", &mut plan);
     match got {
         Input::Bytes(n) => {

@@ -4,11 +4,12 @@ ghost use Prim.Native.Nat.{_≤_};
 ghost use lib.ListN.{length};
 ghost use lib.Seq.{sets};
 ghost use Rattle.io.specs.Counts.{Counts};
-ghost use Rattle.input.specs.Within.{Within};
 ghost use Rattle.checktable.specs.Answer.{answerFor};
 use checker::Answer;
 use frames::laid::Frames;
 use input::Input;
+use input::file_room;
+use input::read_argument;
 use libc::STDERR_FILENO;
 use libc::STDOUT_FILENO;
 
@@ -31,30 +32,16 @@ fn respond(plan: &[u8], table: &[u8], out: &mut [u8]) -> usize
     }
 }
 
-// The file that an argument names, read into the buffer. Standard error has been told where it could not be.
-fn read_argument(i: usize, what: &[u8], buf: &mut [u8]) -> Input
-    ensures { λ r. ⌜ Within r (now (buf .exit)) ⌝ }
-{
-    let mut path = io::buffer();
-    let length = os::arg(i, &mut path);
-    if os::errno() != 0 {
-        os::fail(what);
-        return Input::Unreadable;
-    }
-    input::read_named(&path[..length], buf)
-}
-
-// One byte more is read than the longest file has, so that a longer one is seen to be longer.
 fn main() {
     if os::arg_count() != 3 {
         io::write_all(STDERR_FILENO, b"usage: checktable PLAN TABLE\n");
         return;
     }
-    let mut plan = [0u8; 65537];
+    let mut plan = file_room();
     let Input::Bytes(n) = read_argument(1, b"PLAN", &mut plan) else {
         return;
     };
-    let mut table = [0u8; 65537];
+    let mut table = file_room();
     let Input::Bytes(m) = read_argument(2, b"TABLE", &mut table) else {
         return;
     };

@@ -1,4 +1,7 @@
 // Input as the programs take it: an open file or a named one, read into a lent buffer until that is full or the input ends.
+ghost use mathlib.Core.Path.{_≡_};
+ghost use lib.ListN.{length};
+ghost use Rattle.input.specs.Room.{zeros};
 ghost use Rattle.input.specs.Within.{Within};
 
 pub enum Input {
@@ -6,6 +9,20 @@ pub enum Input {
     Bytes(usize),
     // It could not be opened, or a read failed. Standard error has been told why.
     Unreadable,
+}
+
+// Room for a plan or a table, and for one byte more than the longest has, so that a longer file is seen to be longer.
+pub fn file_room() -> [u8; 65537]
+    ensures { λ r. ⌜ (r ≡ zeros 65537) × (65537 ≡ length r) ⌝ }
+{
+    [0; 65537]
+}
+
+// The same for a history.
+pub fn history_room() -> [u8; 262145]
+    ensures { λ r. ⌜ (r ≡ zeros 262145) × (262145 ≡ length r) ⌝ }
+{
+    [0; 262145]
 }
 
 // `io::read_full` stops alike where the input ends and where a read fails, and only one more read tells the two apart.

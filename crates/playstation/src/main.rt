@@ -3,6 +3,8 @@
 ghost use mathlib.Core.Path.{_≡_};
 ghost use Rattle.playstation.specs.Answered.{answered};
 use input::Input;
+use input::file_room;
+use input::history_room;
 use input::read_argument;
 use input::read_open;
 use libc::STDERR_FILENO;
@@ -24,21 +26,20 @@ fn respond(plan: &[u8], table: &[u8], history: &[u8]) -> Station
     }
 }
 
-// One byte more is read than the longest input has, so that a longer one is seen to be longer.
 fn main() {
     if os::arg_count() != 3 {
         io::write_all(STDERR_FILENO, b"usage: playstation PLAN TABLE <HISTORY\n");
         return;
     }
-    let mut plan = [0u8; 65537];
+    let mut plan = file_room();
     let Input::Bytes(n) = read_argument(1, b"PLAN", &mut plan) else {
         return;
     };
-    let mut table = [0u8; 65537];
+    let mut table = file_room();
     let Input::Bytes(m) = read_argument(2, b"TABLE", &mut table) else {
         return;
     };
-    let mut history = [0u8; 262145];
+    let mut history = history_room();
     let Input::Bytes(k) = read_open(STDIN_FILENO, b"standard input", &mut history) else {
         return;
     };

@@ -1,3 +1,4 @@
+-- What was read stands at the front of its room (`counted`), and the answer at the front of `out`.
 use Rattle.input.proofs.Counted.{counted}
 use borrow.Author.Needs.{needs}
 use Rattle.bustable.proofs.main.Statement.{statement}
@@ -18,6 +19,6 @@ slice-aggregate-write-all c = c .before .before .respond .ensures .1 (search nee
 pub main-spec : {M : Type 1} → statement M
 main-spec =
     tie.close
-    (tie.spec (λ c. search needs) (λ c. search needs) (λ c κs. search needs) (λ c. search needs) array-share-prefix-plan
-    slice-aggregate-respond (λ c. search needs) (λ c κs. search needs) array-share-prefix-out slice-aggregate-write-all
-    (λ c κs. search needs) (λ c. search needs) (λ c. search needs) (λ c. search needs))
+    (tie.spec (λ c κs. search needs) (λ c. search needs) (λ c. search needs) (λ c κs. search needs) (λ c. search needs)
+    array-share-prefix-plan slice-aggregate-respond (λ c. search needs) (λ c κs. search needs) array-share-prefix-out
+    slice-aggregate-write-all (λ c κs. search needs) (λ c. search needs) (λ c. search needs) (λ c. search needs))

@@ -1,13 +1,14 @@
+-- What was read stands at the front of its room (`counted`), and the line at the front of `out`.
 use Rattle.input.proofs.Counted.{counted}
 use borrow.Author.Needs.{needs}
 use Rattle.checktable.proofs.main.Statement.{statement}
 use Rattle.checktable.proofs.main.Tie as tie
 
 array-share-prefix-plan : tie.Need-array-share-prefix-plan
-array-share-prefix-plan c = counted _ (c .before .before .before .before .before .before .before .before .before .before .before .read-argument .ensures) (c .before .before .before .before .before .before .before .before .n .given .1) .0
+array-share-prefix-plan c = counted _ (c .before .before .before .before .before .before .before .before .before .before .before .before .read-argument .ensures) (c .before .before .before .before .before .before .before .before .before .n .given .1) .0
 
 slice-aggregate-respond : tie.Need-slice-aggregate-respond
-slice-aggregate-respond c = counted _ (c .before .before .before .before .before .before .before .before .before .before .before .before .read-argument .ensures) (c .before .before .before .before .before .before .before .before .before .n .given .1) .1
+slice-aggregate-respond c = counted _ (c .before .before .before .before .before .before .before .before .before .before .before .before .before .read-argument .ensures) (c .before .before .before .before .before .before .before .before .before .before .n .given .1) .1
 
 array-share-prefix-table : tie.Need-array-share-prefix-table
 array-share-prefix-table c = counted _ (c .before .before .before .before .before .read-argument2 .ensures) (c .before .before .m .given .1) .0
@@ -24,8 +25,9 @@ slice-aggregate-write-all-2 c = c .before .before .respond .ensures .1 (search n
 pub main-spec : {M : Type 1} → statement M
 main-spec =
     tie.close
-    (tie.spec (λ c κs. search needs) (λ c. search needs) (λ c κs. search needs) (λ c. search needs) (λ c. search needs)
-    (λ c. search needs) (λ c κs. search needs) (λ c. search needs) (λ c. search needs) (λ c. search needs) (λ c. search needs)
-    (λ c. search needs) (λ c κs. search needs) (λ c. search needs) (λ c. search needs) (λ c. search needs) array-share-prefix-plan
-    slice-aggregate-respond array-share-prefix-table slice-aggregate-respond-2 (λ c. search needs) (λ c κs. search needs)
-    array-share-prefix-out slice-aggregate-write-all-2 (λ c κs. search needs) (λ c. search needs))
+    (tie.spec (λ c κs. search needs) (λ c. search needs) (λ c κs. search needs) (λ c. search needs) (λ c κs. search needs)
+    (λ c. search needs) (λ c. search needs) (λ c κs. search needs) (λ c. search needs) (λ c. search needs) (λ c. search needs)
+    (λ c κs. search needs) (λ c. search needs) (λ c. search needs) (λ c κs. search needs) (λ c. search needs) (λ c. search needs)
+    (λ c. search needs) array-share-prefix-plan slice-aggregate-respond array-share-prefix-table slice-aggregate-respond-2
+    (λ c. search needs) (λ c κs. search needs) array-share-prefix-out slice-aggregate-write-all-2 (λ c κs. search needs)
+    (λ c. search needs))

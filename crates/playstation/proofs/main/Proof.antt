@@ -1,19 +1,20 @@
+-- What was read stands at the front of its room (`counted`).
 use Rattle.input.proofs.Counted.{counted}
 use borrow.Author.Needs.{needs}
 use Rattle.playstation.proofs.main.Statement.{statement}
 use Rattle.playstation.proofs.main.Tie as tie
 
 array-share-prefix-plan : tie.Need-array-share-prefix-plan
-array-share-prefix-plan c = counted _ (c .before .before .before .before .before .before .before .before .before .before .before .before .before .before .before .before .before .before .read-argument .ensures) (c .before .before .before .before .before .before .before .before .before .before .before .before .before .before .before .n .given .1) .0
+array-share-prefix-plan c = counted _ (c .before .before .before .before .before .before .before .before .before .before .before .before .before .before .before .before .before .before .before .before .read-argument .ensures) (c .before .before .before .before .before .before .before .before .before .before .before .before .before .before .before .before .before .n .given .1) .0
 
 slice-aggregate-respond : tie.Need-slice-aggregate-respond
-slice-aggregate-respond c = counted _ (c .before .before .before .before .before .before .before .before .before .before .before .before .before .before .before .before .before .before .before .read-argument .ensures) (c .before .before .before .before .before .before .before .before .before .before .before .before .before .before .before .before .n .given .1) .1
+slice-aggregate-respond c = counted _ (c .before .before .before .before .before .before .before .before .before .before .before .before .before .before .before .before .before .before .before .before .before .read-argument .ensures) (c .before .before .before .before .before .before .before .before .before .before .before .before .before .before .before .before .before .before .n .given .1) .1
 
 array-share-prefix-table : tie.Need-array-share-prefix-table
-array-share-prefix-table c = counted _ (c .before .before .before .before .before .before .before .before .before .before .before .before .read-argument2 .ensures) (c .before .before .before .before .before .before .before .before .before .m .given .1) .0
+array-share-prefix-table c = counted _ (c .before .before .before .before .before .before .before .before .before .before .before .before .before .read-argument2 .ensures) (c .before .before .before .before .before .before .before .before .before .before .m .given .1) .0
 
 slice-aggregate-respond-2 : tie.Need-slice-aggregate-respond-2
-slice-aggregate-respond-2 c = counted _ (c .before .before .before .before .before .before .before .before .before .before .before .before .before .read-argument2 .ensures) (c .before .before .before .before .before .before .before .before .before .before .m .given .1) .1
+slice-aggregate-respond-2 c = counted _ (c .before .before .before .before .before .before .before .before .before .before .before .before .before .before .read-argument2 .ensures) (c .before .before .before .before .before .before .before .before .before .before .before .m .given .1) .1
 
 array-share-prefix-history : tie.Need-array-share-prefix-history
 array-share-prefix-history c = counted _ (c .before .before .before .before .before .before .read-open .ensures) (c .before .before .before .k .given .1) .0
@@ -24,9 +25,9 @@ slice-aggregate-respond-3 c = counted _ (c .before .before .before .before .befo
 pub main-spec : {M : Type 1} → statement M
 main-spec =
     tie.close
-    (tie.spec (λ c κs. search needs) (λ c. search needs) (λ c κs. search needs) (λ c. search needs) (λ c. search needs)
-    (λ c. search needs) (λ c κs. search needs) (λ c. search needs) (λ c. search needs) (λ c. search needs) (λ c. search needs)
-    (λ c. search needs) (λ c κs. search needs) (λ c. search needs) (λ c. search needs) (λ c. search needs) (λ c. search needs)
-    (λ c. search needs) (λ c κs. search needs) (λ c. search needs) (λ c. search needs) (λ c. search needs) array-share-prefix-plan
-    slice-aggregate-respond array-share-prefix-table slice-aggregate-respond-2 array-share-prefix-history slice-aggregate-respond-3
-    (λ c κs. search needs) (λ c. search needs))
+    (tie.spec (λ c κs. search needs) (λ c. search needs) (λ c κs. search needs) (λ c. search needs) (λ c κs. search needs)
+    (λ c. search needs) (λ c. search needs) (λ c κs. search needs) (λ c. search needs) (λ c. search needs) (λ c. search needs)
+    (λ c κs. search needs) (λ c. search needs) (λ c. search needs) (λ c κs. search needs) (λ c. search needs) (λ c. search needs)
+    (λ c. search needs) (λ c κs. search needs) (λ c. search needs) (λ c. search needs) (λ c κs. search needs) (λ c. search needs)
+    (λ c. search needs) (λ c. search needs) array-share-prefix-plan slice-aggregate-respond array-share-prefix-table
+    slice-aggregate-respond-2 array-share-prefix-history slice-aggregate-respond-3 (λ c κs. search needs) (λ c. search needs))
