@@ -40,8 +40,8 @@ use Rattle.planrules.specs.declared.Reading.{Reading}
 use Rattle.checker.specs.Checking.{Checks, heard, lentPassed, verdict}
 use Rattle.checker.specs.declared.Answer.the-variants as checker
 use Rattle.checker.specs.declared.Checked.{Checked}
-use Rattle.judging.specs.declared.table.Reading as tables
-use Rattle.judging.specs.Memory.{nodeOf, beginOf, endOf, taskOf, deadlineOf, startOf, stopOf, layOut, readingOf}
+use Rattle.tableread.specs.declared.Reading as tables
+use Rattle.tableread.specs.Memory.{nodeOf, beginOf, endOf, taskOf, deadlineOf, startOf, stopOf, layOut, readingOf}
 use Rattle.stationjudge.specs.Inputs.{changeAt}
 use Rattle.stationjudge.specs.declared.Change.{Change}
 use Rattle.station.specs.Memory.{heldLaid, laid, nodeLaid, notBegun, playLaid}

@@ -6,7 +6,7 @@ use Rattle.laws.specs.Lists.{tab}
 use Rattle.rules.specs.Plan.{Plan, Invocation, theMode, theTask}
 use Rattle.rules.specs.Frames.{moduleNode, isBusTask, isSending}
 use Rattle.rules.specs.Playing.{periodAmong}
-use Rattle.judging.specs.declared.table.Table.{Table}
+use Rattle.tableread.specs.declared.Table.{Table}
 use Rattle.station.specs.Memory.{notBegun}
 use Rattle.station.specs.declared.Modules.{Modules}
 use Rattle.station.specs.declared.Modes.{Modes}

@@ -7,7 +7,6 @@ ghost use Rattle.plan.specs.Memory.{seen};
 ghost use Rattle.bus.specs.Senders.{byNumber};
 ghost use Rattle.beginning.specs.Keeping.{controlsOf, keptFrom, modesOf, modulesOf, runsOf, tasksOf};
 use bus::senders::Senders;
-use judging::table::Table;
 use plan::Plan;
 use plan::look::invocation_at;
 use plan::look::invocation_count;
@@ -22,6 +21,7 @@ use station::Modes;
 use station::Modules;
 use station::Station;
 use station::Tasks;
+use tableread::Table;
 use units::Ticks;
 
 fn modules(p: Plan, senders: [bool; 256]) -> Modules

@@ -10,7 +10,6 @@ ghost use Rattle.beginning.specs.declared.Answer.the-variants.{Refused};
 use answers::Refusal;
 use checker::check;
 use frames::laid::Frames;
-use judging::table::read_table;
 use places::both;
 use places::byte_at;
 use planrules::read;
@@ -18,6 +17,7 @@ use station::Station;
 use stationjudge::Change;
 use stationjudge::Found;
 use stationsteps::modes_after;
+use tableread::read_table;
 use units::ModuleNo;
 
 mod keeping;

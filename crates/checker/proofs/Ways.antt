@@ -23,12 +23,12 @@ use Rattle.line.specs.declared.Answer.the-variants as line
 use Rattle.line.specs.Line.{lineOf, taskOf, releaseOf, deadlineOf}
 use Rattle.line.specs.Laying as laying
 use Rattle.line.specs.Laying.{Lays, fileLaid}
-use Rattle.judging.specs.declared.table.Reading.{Reading}
-use Rattle.judging.specs.declared.table.Outcome.the-variants.{Whole, Broken}
-use Rattle.judging.specs.declared.judge.Judgement.{Judgement}
-use Rattle.judging.specs.declared.judge.Verdict.the-variants as judge
-use Rattle.judging.specs.Places.{Numbered}
-use Rattle.judging.specs.Memory.{layOut, seen, readingOf}
+use Rattle.tableread.specs.declared.Reading.{Reading}
+use Rattle.tableread.specs.declared.Outcome.the-variants.{Whole, Broken}
+use Rattle.judging.specs.declared.Judgement.{Judgement}
+use Rattle.judging.specs.declared.Verdict.the-variants as judge
+use Rattle.datarows.specs.Places.{Numbered}
+use Rattle.tableread.specs.Memory.{layOut, seen, readingOf}
 use Rattle.judging.specs.Judged.{framesOn, lineJudged, verdictSays, Right}
 use Rattle.line.proofs.Drawn.{Drawn, drawn}
 use Rattle.judging.proofs.Layouts.{line-numbered, line-controls, line-right}

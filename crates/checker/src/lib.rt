@@ -6,13 +6,13 @@ ghost use Rattle.checker.specs.declared.Answer.the-variants.{Refused};
 ghost use Rattle.checker.specs.Checking.{Checks, lentPassed, rowsOn, PassesExactly, RefusesExactly};
 use answers::Refusal;
 use frames::laid::Frames;
-use judging::judge::Verdict;
-use judging::judge::judge;
-use judging::table::Outcome;
-use judging::table::read_table;
+use judging::Verdict;
+use judging::judge;
 use line::Line;
 use line::lay_out;
 use rows::Rows;
+use tableread::Outcome;
+use tableread::read_table;
 
 pub enum Answer {
     Passed,

@@ -9,8 +9,8 @@ use native.Mathlib.Omega.{arith}
 use lib.Dec.{ltb}
 use lib.ListN.{length, getD, replicate, length-replicate}
 use borrow.Author.Tests.{lt-ltb, ltb-true}
-use Prim.Native.Nat.{ℕ, zero, suc, _+_, _-_, _≤_, _<_}
-use Rattle.laws.specs.Res.{Res, _>>_, at}
+use Prim.Native.Nat.{ℕ, zero, suc, _+_, _≤_, _<_}
+use Rattle.laws.specs.Res.{Res, at, _>>_}
 use Rattle.laws.specs.Lists.{firstBad, tab, upTo, lastD}
 use Rattle.laws.specs.Loops.{stores}
 use Rattle.laws.proofs.Lists.{both-left, length-tab}
@@ -18,15 +18,15 @@ use Rattle.laws.proofs.Loops.{stores-at, firstBad-upTo-passes}
 use Rattle.rules.specs.Frames.{ControlRow, noControlRow}
 use Rattle.rules.specs.Table.{DataRow}
 use Rattle.rules.specs.Checker.{rowAt, deadlineKept, stopBefore, firstRow, rowsKeep}
-use Rattle.judging.specs.declared.table.Table.{Table}
-use Rattle.judging.specs.declared.rowrules.Bounds.{Bounds}
-use Rattle.judging.specs.Places.{Numbered, lookIn, beforeIn, numberOf, numberAt, marks, isNew}
-use Rattle.judging.specs.Memory.{controlIn, rowSeen, seen}
-use Rattle.judging.specs.Rows.{timeKept, releaseKept, dueKept, gapKept}
+use Rattle.tableread.specs.declared.Table.{Table}
+use Rattle.judging.specs.declared.Bounds.{Bounds}
+use Rattle.datarows.specs.Places.{Numbered, lookIn, beforeIn, numberOf, numberAt, marks, isNew}
+use Rattle.tableread.specs.Memory.{controlIn, rowSeen, seen}
+use Rattle.datarows.specs.Rows.{timeKept, releaseKept, dueKept, gapKept}
 use Rattle.judging.specs.Judged.{namesNew, timeFits, releaseFits, gapFits, timesJudged, rowsJudged, frameIn, framesIn, timeIn}
 use Rattle.laws.proofs.Turns.{same-bad}
-use Rattle.judging.proofs.Places.{last-tab}
-use Rattle.judging.proofs.Names.{named-frame, named-task, row-at, new-names}
+use Rattle.laws.proofs.Arrays.{last-tab}
+use Rattle.judging.proofs.NamedFrames.{named-frame, named-task, row-at, new-names}
 
 look-within : (room : ℕ) (a : List ℕ) (k : ℕ) → k < room → lookIn room a k ≡ getD a k 0
 unfolding lookIn

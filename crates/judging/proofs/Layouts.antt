@@ -9,22 +9,21 @@ use lib.Dec.{eqb}
 use lib.ListN.{length, getD, take}
 use borrow.Author.Tests.{lt-ltb, eqb-true}
 use Prim.Native.Nat.{ℕ, _+_, _*_, _≤_, _<_}
-use Rattle.laws.specs.Res.{ok, refuse, _>>_, at}
+use Rattle.laws.specs.Res.{refuse, at, _>>_}
 use Rattle.laws.specs.Lists.{any, firstBad, upTo}
 use Rattle.laws.proofs.Lists.{both-left, both-right, true-false, length-tab}
 use Rattle.laws.proofs.Loops.{firstBad-upTo-passes}
 use Rattle.laws.proofs.Arrays.{tab-list, getD-laid}
-use Rattle.laws.proofs.Members.{All, also, Pairs, pairs-getD, all-getD, all-weaker}
+use Rattle.laws.proofs.Members.{All, also, pairs-getD, all-getD, all-weaker}
 use Rattle.rules.proofs.FramesOf.{Before, before-case}
 use Rattle.rules.specs.Frames.{Frame, ControlRow, noControlRow, Layout, payload}
 use Rattle.rules.specs.Table.{DataRow}
 use Rattle.rules.specs.LatestRelease.{noFrame, frameTime}
 use Rattle.rules.specs.Checker.{TableRead, noDataRow, rowAt, isFrameOf, samePair, namedIn, firstRow, rowsKeep, headerRight, controlKept, namesNewFrame, frameOfRow, timeKept, releaseKept, gapKept, judged}
-use Rattle.judging.specs.declared.rowrules.Bounds.{Bounds}
-use Rattle.judging.specs.declared.judge.Judgement.{Judgement}
-use Rattle.judging.specs.Places.{lookIn, keyAt, Numbered}
-use Rattle.judging.specs.Memory.{nodeOf, beginOf, endOf, taskOf, deadlineOf, startOf, stopOf, layOut, controlIn, rowSeen, seen}
-use Rattle.line.specs.Line as line
+use Rattle.judging.specs.declared.Bounds.{Bounds}
+use Rattle.judging.specs.declared.Judgement.{Judgement}
+use Rattle.datarows.specs.Places.{lookIn, keyAt, Numbered}
+use Rattle.tableread.specs.Memory.{nodeOf, beginOf, endOf, taskOf, deadlineOf, startOf, stopOf, layOut, controlIn, rowSeen, seen}
 use Rattle.line.specs.Line.{taskTime, lineOf}
 use Rattle.line.proofs.Drawn.{Drawn, frameOf, controlOf, frame-drawn, frames-drawn, controls-drawn, time-drawn}
 use Rattle.judging.specs.Judged.{headerFits, controlFits, namesNew, timeFits, releaseFits, gapFits, timesJudged, rowsJudged, judgedFor, frameIn, framesIn, timeIn, controlsOn, framesOn, boundsOn, lineJudged, Right}

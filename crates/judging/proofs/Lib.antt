@@ -1,6 +1,4 @@
-pub mod Places
-pub mod Names
 pub mod Held
-pub mod Gathering
 pub mod Layouts
 pub mod Verdicts
+pub mod NamedFrames

@@ -10,25 +10,25 @@ use lib.Dec.{eqb}
 use lib.ListN.{length, replicate}
 use borrow.Author.Tests.{eqb-true}
 use Prim.Native.Nat.{ℕ, _+_, _≤_, _<_}
-use Rattle.laws.specs.Res.{Res, ok, refuse, _>>_, at}
+use Rattle.laws.specs.Res.{Res, ok, refuse, at, _>>_}
 use Rattle.laws.specs.Lists.{firstBad, tab, upTo}
 use Rattle.laws.specs.Loops.{stores}
 use Rattle.laws.proofs.Lists.{length-tab, getD-tab, both-left, both-right}
 use Rattle.laws.proofs.Loops.{firstBad-upTo-passes, firstBad-upTo-within}
 use Rattle.rules.specs.Frames.{Frame, ControlRow, noControlRow}
 use Rattle.rules.specs.Checker.{TableRead, controlAt}
-use Rattle.judging.specs.declared.table.Table.{Table}
-use Rattle.judging.specs.declared.naming.Spot.{Spot}
-use Rattle.judging.specs.declared.naming.Spot.the-variants.{At, Nowhere}
-use Rattle.judging.specs.declared.rowrules.Bounds.{Bounds}
-use Rattle.judging.specs.declared.judge.Verdict.the-variants.{Passed}
-use Rattle.judging.specs.declared.judge.Judgement.{Judgement}
-use Rattle.judging.specs.Places.{beforeIn, spotOf, Numbered, numberAt, isNew, spread}
-use Rattle.judging.specs.Memory.{controlIn, rowSeen, seen}
-use Rattle.judging.specs.Rows.{timeKept, releaseKept, dueKept, gapKept}
+use Rattle.tableread.specs.declared.Table.{Table}
+use Rattle.datarows.specs.declared.naming.Spot.{Spot}
+use Rattle.datarows.specs.declared.naming.Spot.the-variants.{At, Nowhere}
+use Rattle.judging.specs.declared.Bounds.{Bounds}
+use Rattle.judging.specs.declared.Verdict.the-variants.{Passed}
+use Rattle.judging.specs.declared.Judgement.{Judgement}
+use Rattle.datarows.specs.Places.{beforeIn, spotOf, Numbered, numberAt, isNew, spread}
+use Rattle.tableread.specs.Memory.{controlIn, rowSeen, seen}
+use Rattle.datarows.specs.Rows.{timeKept, releaseKept, dueKept, gapKept}
 use Rattle.judging.specs.Judged.{headerFits, controlFits, rowsJudged, judgedFor, headerSame, controlsSame, frameIn, framesIn, timeIn, verdictSays, startsOn, Right}
 use Rattle.laws.proofs.Turns.{same-bad}
-use Rattle.judging.proofs.Names.{starts-laid}
+use Rattle.judging.proofs.NamedFrames.{starts-laid}
 use Rattle.judging.proofs.Held.{inOrder, last-stop, number-given, rows-judged}
 
 -- ---- what a scan found

@@ -6,7 +6,7 @@ use mathlib.Core.List.{List, map}
 use lib.Dec.{eqb, leb}
 use lib.ListN.{length, getD, take, replicate}
 use Prim.Native.Nat.{ℕ, _+_}
-use Rattle.laws.specs.Res.{Res, ok, refuse, _>>_, unless, at}
+use Rattle.laws.specs.Res.{Res, ok, refuse, unless, at, _>>_}
 use Rattle.laws.specs.Lists.{any, firstBad, tab, upTo}
 use Rattle.laws.specs.Loops.{padTo}
 use Rattle.laws.specs.Numbers.{divides}
@@ -25,14 +25,14 @@ use Rattle.rules.specs.Checker.{
   startIn,
 }
 use Rattle.answers.specs.Refusals.{said}
-use Rattle.judging.specs.declared.table.Header.{Header}
-use Rattle.judging.specs.declared.rowrules.Bounds.{Bounds}
-use Rattle.judging.specs.declared.judge.Verdict.{Verdict}
-use Rattle.judging.specs.declared.judge.Verdict.the-variants.{Passed, Refused}
-use Rattle.judging.specs.declared.judge.Judgement.{Judgement}
+use Rattle.tableread.specs.declared.Header.{Header}
+use Rattle.judging.specs.declared.Bounds.{Bounds}
+use Rattle.judging.specs.declared.Verdict.{Verdict}
+use Rattle.judging.specs.declared.Verdict.the-variants.{Passed, Refused}
+use Rattle.judging.specs.declared.Judgement.{Judgement}
 use Rattle.line.specs.declared.Line.{Line}
-use Rattle.judging.specs.Places.{lookIn}
-use Rattle.judging.specs.Memory.{controlIn}
+use Rattle.datarows.specs.Places.{lookIn}
+use Rattle.tableread.specs.Memory.{controlIn}
 
 -- Refusal 21: "P, a header count, or the number of rows of a kind isn't what the plan gives".
 unfoldable pub headerFits : List ControlRow → List Frame → Bounds → TableRead → Bool

@@ -1,4 +1,1 @@
-pub mod Places
-pub mod Memory
-pub mod Rows
 pub mod Judged

@@ -1,5 +1,208 @@
-// A table read into memory and judged: refusals 20 to 27.
-pub mod judge;
-pub mod naming;
-pub mod rowrules;
-pub mod table;
+// The judgement of a table: rules 21 to 27, rule by rule, at the lowest record at fault.
+ghost use mathlib.Core.Path.{_≡_};
+ghost use mathlib.Core.Bool.{_&&_};
+ghost use lib.Dec.{eqb};
+ghost use lib.ListN.{replicate};
+ghost use Prim.Native.Nat.{_+_, _≤_, _<_};
+ghost use Rattle.laws.specs.Lists.{firstBad, upTo};
+ghost use Rattle.answers.specs.Refusals as answers;
+ghost use Rattle.datarows.specs.Places.{Numbered, beforeIn, spotOf};
+ghost use Rattle.tableread.specs.Memory.{seen, controlIn};
+ghost use Rattle.judging.specs.Judged.{headerSame, controlsSame, rowsJudged, framesIn, framesOn, timeIn, lineJudged, verdictSays, Right};
+use answers::Refusal;
+use datarows::naming::Spot;
+use datarows::naming::first_unnamed;
+use datarows::naming::numbers;
+use datarows::naming::starts_by_frame;
+use datarows::times::first_crowded;
+use datarows::times::first_early;
+use datarows::times::first_late;
+use datarows::times::first_mistimed;
+use line::Line;
+use tableread::Header;
+use tableread::Table;
+use units::RecordNo;
+use units::Ticks;
+
+// What the bus asks of every row.
+pub struct Bounds {
+    pub period: Ticks,
+    pub resolution: Ticks,
+    pub gap: Ticks,
+}
+
+pub enum Verdict {
+    Passed,
+    Refused(Refusal),
+}
+
+// The verdict, and the start of each frame by number; all 0 where the table is refused.
+pub struct Judgement {
+    pub verdict: Verdict,
+    pub starts: [u32; 256],
+}
+
+fn refused(x: Refusal) -> Judgement
+    ensures { λ r. ⌜ (verdictSays (r .verdict) ≡ answers.said x) × (r .starts ≡ replicate 256 0) ⌝ }
+{
+    Judgement {
+        verdict: Verdict::Refused(x),
+        starts: [0; 256],
+    }
+}
+
+fn header_right(
+    head: Header,
+    control: usize,
+    rows: usize,
+    bounds: Bounds,
+    controls: usize,
+    frames: usize,
+) -> bool
+    ensures { λ r. ⌜ r ≡ headerSame head control rows bounds controls frames ⌝ }
+{
+    if head.period.0 != bounds.period.0 {
+        return false;
+    }
+    if head.controls != controls {
+        return false;
+    }
+    if head.datas != frames {
+        return false;
+    }
+    if control != controls {
+        return false;
+    }
+    rows == frames
+}
+
+fn same_control(node: u8, begin: u32, end: u32, other: u8, opens: u32, closes: u32) -> bool
+    ensures { λ r. ⌜ r ≡ (eqb node other && (eqb begin opens && eqb end closes)) ⌝ }
+{
+    node == other && (begin == opens && end == closes)
+}
+
+// The first control row that is not the fixed one.
+fn first_strange<'a, 'b>(
+    nodes: &'a [u8; 8],
+    begins: &'a [u32; 8],
+    ends: &'a [u32; 8],
+    senders: &'b [u8; 8],
+    opens: &'b [u32; 8],
+    closes: &'b [u32; 8],
+    controls: usize,
+) -> Spot
+    requires { ⌜ controls ≤ 8 ⌝ }
+    ensures { λ r. ⌜ r ≡ spotOf (firstBad (controlsSame (controlIn (now (nodes .entry)) (now (begins .entry)) (now (ends .entry))) (controlIn (now (senders .entry)) (now (opens .entry)) (now (closes .entry)))) (upTo controls)) ⌝ }
+{
+    let mut k = 0;
+    while k < controls {
+        if !same_control(
+            nodes[k],
+            begins[k],
+            ends[k],
+            senders[k],
+            opens[k],
+            closes[k],
+        ) {
+            return Spot::At(k);
+        }
+        k += 1;
+    }
+    Spot::Nowhere
+}
+
+// The stop of the last control row.
+fn last_stop(ends: &[u32; 8], control: usize) -> u32
+    requires { ⌜ control ≤ 8 ⌝ }
+    ensures { λ r. ⌜ r ≡ beforeIn (now (ends .entry)) 0 control ⌝ }
+{
+    if control == 0 { 0 } else { ends[control - 1] }
+}
+
+// Rules 23 to 27.
+fn by_rows<'a>(
+    t: Table,
+    tasks: &'a [u8; 256],
+    releases: &'a [u32; 256],
+    deadlines: &'a [u32; 256],
+    frames: usize,
+    times: &'a [u32; 32],
+    bounds: Bounds,
+) -> Judgement
+    requires { ⌜ Numbered (now tasks) (now deadlines) frames ⌝ }
+    requires { ⌜ t .control ≤ 8 ⌝ }
+    requires { ⌜ t .rows ≡ frames ⌝ }
+    ensures { λ r. ⌜ Right (rowsJudged (framesIn (now (tasks .entry)) (now (releases .entry)) (now (deadlines .entry)) frames) (timeIn (now (times .entry))) bounds (seen t)) (framesIn (now (tasks .entry)) (now (releases .entry)) (now (deadlines .entry)) frames) (seen t) r ⌝ }
+{
+    let count = t.rows;
+    let first = 1 + t.control;
+    let named = numbers(tasks, deadlines, frames, &t.tasks, &t.deadlines, count);
+    if let Spot::At(k) = first_unnamed(&named, frames, count) {
+        return refused(Refusal::NoNewFrame(RecordNo(first + k)));
+    }
+    if let Spot::At(k) = first_mistimed(
+        &t.tasks,
+        &t.starts,
+        &t.stops,
+        times,
+        bounds.resolution.0,
+        count,
+    ) {
+        return refused(Refusal::WrongTime(RecordNo(first + k)));
+    }
+    if let Spot::At(k) = first_early(&t.starts, releases, &named, count) {
+        return refused(Refusal::BeforeRelease(RecordNo(first + k)));
+    }
+    if let Spot::At(k) = first_late(&t.stops, &t.deadlines, count) {
+        return refused(Refusal::AfterDeadline(RecordNo(first + k)));
+    }
+    let last = last_stop(&t.ends, t.control);
+    if let Spot::At(k) = first_crowded(&t.starts, &t.stops, last, bounds.gap.0, count) {
+        return refused(Refusal::GapBroken(RecordNo(first + k)));
+    }
+    Judgement {
+        verdict: Verdict::Passed,
+        starts: starts_by_frame(&named, &t.starts, count),
+    }
+}
+
+// A table judged by what a plan asks of the bus.
+pub fn judge(t: Table, line: Line) -> Judgement
+    requires { ⌜ Numbered (line .task) (line .deadline) (line .frames) ⌝ }
+    requires { ⌜ line .controls ≤ 8 ⌝ }
+    ensures { λ r. ⌜ Right (lineJudged line (seen t)) (framesOn line) (seen t) r ⌝ }
+{
+    let head = t.header;
+    let period = line.period;
+    let resolution = line.resolution;
+    let gap = line.gap;
+    let bounds = Bounds {
+        period,
+        resolution,
+        gap,
+    };
+    if !header_right(head, t.control, t.rows, bounds, line.controls, line.frames) {
+        return refused(Refusal::WrongHeader);
+    }
+    if let Spot::At(k) = first_strange(
+        &t.nodes,
+        &t.begins,
+        &t.ends,
+        &line.nodes,
+        &line.starts,
+        &line.stops,
+        line.controls,
+    ) {
+        return refused(Refusal::WrongControlRow(RecordNo(1 + k)));
+    }
+    by_rows(
+        t,
+        &line.task,
+        &line.release,
+        &line.deadline,
+        line.frames,
+        &line.time,
+        bounds,
+    )
+}

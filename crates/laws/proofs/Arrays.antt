@@ -1,14 +1,17 @@
 -- Arrays: lists laid into a fixed number of places, read back place by place.
 use mathlib.Core.Path.{_≡_, refl, sym, ap, _∙_}
-use mathlib.Core.List.{List, [], _∷_, map}
-use native.Mathlib.Nat.{zero-add}
+use mathlib.Core.Bool.{Bool, true, false, cond}
+use mathlib.Core.List.{List, [], _∷_, _++_, map}
+use native.Mathlib.Nat.{zero-add, add-zero, add-suc, suc-add}
 use native.Mathlib.Omega.{arith}
-use lib.ListN.{length, getD, length-map, List·getD-map}
-use lib.Seq.{ext-getD}
-use Prim.Native.Nat.{ℕ, _+_, _≤_, _<_}
-use Rattle.laws.specs.Lists.{tab}
-use Rattle.laws.specs.Loops.{padTo}
-use Rattle.laws.proofs.Lists.{length-tab, getD-tab, getD-padTo}
+use lib.Dec.{ltb}
+use lib.ListN.{length, getD, set, List·getD-map}
+use lib.Seq.{ext-getD, set-out}
+use borrow.Author.Tests.{ltb-false}
+use Prim.Native.Nat.{ℕ, zero, suc, _+_, _<_}
+use Rattle.laws.specs.Lists.{tab, lastD}
+use Rattle.laws.specs.Loops.{padTo, placed}
+use Rattle.laws.proofs.Lists.{length-tab, getD-tab, length-padTo, getD-padTo, padTo-snoc}
 
 module _ {A : Type 0} where
   -- a list is what its places hold
@@ -22,3 +25,24 @@ module _ {A : Type 0} where
   pub getD-laid : (g : A → ℕ) (l : List A) (d : A) (n k : ℕ) → g d ≡ 0 → k < n → getD (padTo n 0 (map g l)) k 0 ≡ g (getD l k d)
   getD-laid g l d n k e h =
       getD-padTo n 0 (map g l) k h ∙ ap (getD (map g l) k) (sym e) ∙ List·getD-map g l k d
+
+-- ---- stores that ask nothing of the place
+
+module _ {A : Type 0} (room : ℕ) (old : List A) (k : ℕ) (x : A) where
+  placed-if : (b : Bool) → ltb k room ≡ b → length old ≡ room → cond b (set old k x) old ≡ set old k x
+  placed-if true e n = refl
+  placed-if false e n = sym (set-out old k x (omega (arith, ltb-false k room e)))
+
+  -- into an array of that many places
+  pub placed-set : length old ≡ room → placed room old k x ≡ set old k x
+  placed-set n = placed-if (ltb k room) refl n
+
+-- one element more, in an array that is filled up
+pub placed-snoc : {A : Type 0} (room : ℕ) (z : A) (l : List A) (x : A) → placed room (padTo room z l) (length l) x ≡ padTo room z (l ++ (x ∷ []))
+placed-snoc room z l x = placed-set room (padTo room z l) (length l) x (length-padTo room z l) ∙ sym (padTo-snoc room z l x)
+
+-- ---- the last of a row of places
+
+pub last-tab : {A : Type 0} (f : ℕ → A) (low n : ℕ) (d : A) → lastD (tab f low (suc n)) d ≡ f (low + n)
+last-tab f low zero d = ap f (sym (add-zero low))
+last-tab f low (suc n) d = last-tab f (suc low) n (f low) ∙ ap f (suc-add low n ∙ sym (add-suc low n))

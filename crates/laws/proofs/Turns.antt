@@ -5,12 +5,12 @@
 use mathlib.Core.Path.{_≡_, refl, sym, ap, _∙_}
 use mathlib.Core.Bool.{Bool, true, false, _&&_}
 use mathlib.Core.List.{List, [], _∷_}
-use mathlib.Core.Option.{Option, none, some}
+use mathlib.Core.Option.{none, some}
 use native.Mathlib.Nat.{le-antisymm}
 use native.Mathlib.Omega.{arith}
 use lib.ListN.{getD, set}
 use Prim.Native.Nat.{ℕ, zero, suc, _+_, _≤_, _<_}
-use Rattle.laws.specs.Lists.{all, firstBad, tab, upTo}
+use Rattle.laws.specs.Lists.{all, any, firstBad, tab, upTo}
 use Rattle.laws.specs.Loops.{stores}
 use Rattle.laws.proofs.Lists.{all-upTo-more}
 use Rattle.laws.proofs.Loops.{stores-turn, stores-next, firstBad-upTo-more, firstBad-upTo-hit}
@@ -85,3 +85,13 @@ module _ (p q : ℕ → Bool) where
 
   pub same-bad : (n : ℕ) → ((k : ℕ) → k < n → p k ≡ q k) → firstBad p (upTo n) ≡ firstBad q (upTo n)
   same-bad n h = tab-bad 0 n (λ k v w. h k (omega arith))
+
+-- one of the places passes either test
+module _ {A : Type 0} (p : ℕ → Bool) (q : A → Bool) (f : ℕ → A) where
+  tab-any : (low n : ℕ) → ((k : ℕ) → low ≤ k → k < low + n → p k ≡ q (f k)) → any p (tab (λ k. k) low n) ≡ any q (tab f low n)
+  tab-any low zero h = refl
+  tab-any low (suc n) h =
+      rw (h low (omega arith) (omega arith), tab-any (suc low) n (λ k v w. h k (omega arith) (omega arith)))
+
+  pub same-any : (n : ℕ) → ((k : ℕ) → k < n → p k ≡ q (f k)) → any p (upTo n) ≡ any q (tab f 0 n)
+  same-any n h = tab-any 0 n (λ k v w. h k (omega arith))

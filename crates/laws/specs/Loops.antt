@@ -1,7 +1,8 @@
 -- Loops: what an array holds after some stores, where a scan first meets something, a list laid into a fixed number of places.
-use mathlib.Core.Bool.{Bool, true, false}
+use mathlib.Core.Bool.{Bool, true, false, cond}
 use mathlib.Core.List.{List, [], _∷_}
 use mathlib.Core.Option.{Option, none, some}
+use lib.Dec.{ltb}
 use lib.ListN.{set}
 use Prim.Native.Nat.{ℕ, zero, suc}
 
@@ -16,6 +17,10 @@ module _ {A : Type 0} where
   padTo zero z l = []
   padTo (suc n) z [] = z ∷ padTo n z []
   padTo (suc n) z (x ∷ l) = x ∷ padTo n z l
+
+-- a store into an array of `room` places; behind its end nothing is stored
+abbrev pub placed : {A : Type 0} → ℕ → List A → ℕ → A → List A
+placed room old k x = cond (ltb k room) (set old k x) old
 
 -- what was found before, else n where the test holds
 abbrev pub orAt : Option ℕ → Bool → ℕ → Option ℕ

@@ -1,0 +1,44 @@
+-- `judging::first_strange` meets its contract: the part already seen is as fixed.
+-- Assumes nothing.
+use mathlib.Core.Path.{_≡_, refl, sym, _∙_}
+use mathlib.Core.Option.{none}
+use Prim.Native.Nat.{_-_, _≤_}
+use native.Mathlib.Omega.{arith}
+use borrow.Author.Tests.{not-true, not-false}
+use denote.Ref.{now}
+use Rattle.laws.specs.Lists.{firstBad, upTo}
+use Rattle.laws.proofs.Loops.{firstBad-upTo-more}
+use Rattle.rules.specs.Checker.{sameControl}
+use Rattle.tableread.specs.Memory.{controlIn}
+use Rattle.judging.specs.Judged.{controlsSame}
+use Rattle.datarows.proofs.Places.{scan-hit, scan-end}
+use borrow.Author.Needs.{needs}
+use Rattle.judging.proofs.first_strange.Statement.{statement}
+use Rattle.judging.proofs.first_strange.Tie as tie
+
+abbrev Inv-loop : tie.InvT-loop
+Inv-loop nodes begins ends senders opens closes controls k₀ k = (k ≤ controls) × (firstBad (controlsSame (controlIn nodes begins ends) (controlIn senders opens closes)) (upTo k) ≡ none)
+
+abbrev μ-loop : tie.MeasureT-loop
+μ-loop nodes begins ends senders opens closes controls k₀ k = controls - k
+
+loop-holds : tie.Need-loop-holds Inv-loop μ-loop
+loop-holds c = (search needs, refl)
+
+returns : tie.Need-returns Inv-loop μ-loop
+unfolding controlsSame sameControl controlIn
+returns c = scan-hit (controlsSame (controlIn (now (c .before .before .before .before .before .before .before .before .before .before .args .nodes)) (now (c .before .before .before .before .before .before .before .before .before .before .args .begins)) (now (c .before .before .before .before .before .before .before .before .before .before .args .ends))) (controlIn (now (c .before .before .before .before .before .before .before .before .before .before .args .senders)) (now (c .before .before .before .before .before .before .before .before .before .before .args .opens)) (now (c .before .before .before .before .before .before .before .before .before .before .args .closes)))) (c .before .before .before .before .before .before .before .before .before .loop .inv .1) (c .before .before .before .before .before .before .before .before .loop-test .taken) (sym (c .before .same-control .ensures) ∙ not-true _ (c .if1 .taken))
+
+loop-again : tie.Need-loop-again Inv-loop μ-loop
+unfolding controlsSame sameControl controlIn
+loop-again c = (omega (arith, c .before .before .before .before .before .before .before .before .loop-test .taken), firstBad-upTo-more (controlsSame (controlIn (now (c .before .before .before .before .before .before .before .before .before .before .args .nodes)) (now (c .before .before .before .before .before .before .before .before .before .before .args .begins)) (now (c .before .before .before .before .before .before .before .before .before .before .args .ends))) (controlIn (now (c .before .before .before .before .before .before .before .before .before .before .args .senders)) (now (c .before .before .before .before .before .before .before .before .before .before .args .opens)) (now (c .before .before .before .before .before .before .before .before .before .before .args .closes)))) _ (c .before .before .before .before .before .before .before .before .before .loop .inv .1) (sym (c .before .same-control .ensures) ∙ not-false _ (c .if1 .left)))
+
+returns-2 : tie.Need-returns-2 Inv-loop μ-loop
+returns-2 c = scan-end (controlsSame (controlIn (now (c .before .before .args .nodes)) (now (c .before .before .args .begins)) (now (c .before .before .args .ends))) (controlIn (now (c .before .before .args .senders)) (now (c .before .before .args .opens)) (now (c .before .before .args .closes)))) (c .before .loop .inv .1) (c .loop-test .left) (c .before .loop .inv .0)
+
+pub first-strange-spec : {M : Type 1} → statement M
+first-strange-spec =
+    tie.close
+    (tie.spec Inv-loop μ-loop loop-holds (λ c. search needs) (λ c. search needs) (λ c. search needs) (λ c. search needs)
+    (λ c. search needs) (λ c. search needs) (λ c. search needs) (λ c. search needs) (λ c. search needs) (λ c. search needs)
+    (λ c κs. search needs) returns (λ c. search needs) (λ c. search needs) loop-again returns-2)

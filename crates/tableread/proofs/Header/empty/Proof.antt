@@ -1,0 +1,13 @@
+-- `judging::table::Header::empty` meets its contract: nothing in it.
+-- Assumes nothing.
+use mathlib.Core.Path.{refl}
+use Rattle.tableread.specs.Memory.{emptyTable, layOut, noTable}
+use Rattle.tableread.proofs.Header.empty.Statement.{statement}
+use Rattle.tableread.proofs.Header.empty.Tie as tie
+
+returns : tie.Need-returns
+unfolding emptyTable layOut noTable
+returns c = refl
+
+pub empty-spec : {M : Type 1} → statement M
+empty-spec = tie.close (tie.spec returns)

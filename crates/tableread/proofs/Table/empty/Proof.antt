@@ -1,0 +1,13 @@
+-- `judging::table::Table::empty` meets its contract: nothing in it.
+-- Assumes nothing.
+use Rattle.tableread.specs.Memory.{emptyTable, layOut, noTable}
+use borrow.Author.Needs.{needs}
+use Rattle.tableread.proofs.Table.empty.Statement.{statement}
+use Rattle.tableread.proofs.Table.empty.Tie as tie
+
+returns : tie.Need-returns
+unfolding emptyTable layOut noTable
+returns c = rw (c .empty .ensures)
+
+pub empty-spec : {M : Type 1} → statement M
+empty-spec = tie.close (tie.spec (λ c κs. search needs) returns)

@@ -1,0 +1,24 @@
+-- `judging::table::data_row` meets its contract: a store for each number where a place is left, and none else; a body that is cut out of the
+-- file says what the file says there.
+-- Assumes nothing.
+use mathlib.Core.Path.{refl, _∙_}
+use native.Mathlib.Omega.{arith}
+use borrow.Author.Tests.{lt-ltb, le-ltb}
+use denote.Ref.{now}
+use Rattle.tableread.proofs.Gathering.{front-number, part-number}
+use borrow.Author.Needs.{needs}
+use Rattle.tableread.proofs.data_row.Statement.{statement}
+use Rattle.tableread.proofs.data_row.Tie as tie
+
+returns : tie.Need-returns
+returns c = rw (lt-ltb _ _ (c .before .before .before .before .before .if1 .taken), c .before .before .before .read8 .ensures ∙ front-number (now (c .before .before .before .before .before .before .before .args .s)) (c .before .before .before .before .before .before .before .args .body) 13 1 (omega arith), c .before .before .read32 .ensures ∙ part-number (now (c .before .before .before .before .before .before .before .args .s)) (c .before .before .before .before .before .before .before .args .body) 13 1 4 (omega arith), c .before .read322 .ensures ∙ part-number (now (c .before .before .before .before .before .before .before .args .s)) (c .before .before .before .before .before .before .before .args .body) 13 5 4 (omega arith), c .read323 .ensures ∙ part-number (now (c .before .before .before .before .before .before .before .args .s)) (c .before .before .before .before .before .before .before .args .body) 13 9 4 (omega arith)) (refl, (refl, (refl, refl)))
+
+returns-2 : tie.Need-returns-2
+returns-2 c = rw (le-ltb _ _ (c .if1 .left)) (refl, (refl, (refl, refl)))
+
+pub data-row-spec : {M : Type 1} → statement M
+data-row-spec =
+    tie.close
+    (tie.spec (λ c. search needs) (λ c. search needs) (λ c. search needs) (λ c. search needs) (λ c κs. search needs)
+    (λ c. search needs) (λ c κs. search needs) (λ c. search needs) (λ c. search needs) (λ c κs. search needs) (λ c. search needs)
+    (λ c. search needs) (λ c κs. search needs) (λ c. search needs) (λ c. search needs) returns returns-2)

@@ -1,0 +1,21 @@
+-- `judging::table::read_table` meets its contract: the table of a file that is whole, no table else.
+-- Assumes nothing.
+use denote.Ref.{now}
+use Rattle.tableread.specs.Memory.{tableFrom}
+use Rattle.tableread.proofs.Gathering.{read-whole, read-broken}
+use borrow.Author.Needs.{needs}
+use Rattle.tableread.proofs.read_table.Statement.{statement}
+use Rattle.tableread.proofs.read_table.Tie as tie
+
+returns : tie.Need-returns
+unfolding tableFrom
+returns c = read-whole (now (c .before .before .before .before .before .before .before .before .before .before .before .before .args .s)) (c .before .before .before .gather .result) _ _ _ _ _ _ _ (c .before .before .before .gather .ensures) (c .enum-told .given .1)
+
+returns-2 : tie.Need-returns-2
+unfolding tableFrom
+returns-2 c = rw (c .empty .ensures) (read-broken (now (c .before .before .before .before .before .before .before .before .before .before .before .before .before .before .args .s)) (c .before .before .before .before .before .gather .result) _ _ _ _ _ _ _ (c .before .before .before .before .before .gather .ensures) (c .before .before .outcome .given .1))
+
+pub read-table-spec : {M : Type 1} → statement M
+read-table-spec =
+    tie.close
+    (tie.spec (λ c κs. search needs) (λ c. search needs) (λ c. search needs) (λ c κs. search needs) returns returns-2)

@@ -1,0 +1,244 @@
+// A table in memory, gathered from the records of a file as they are met: refusal 20.
+ghost use mathlib.Core.Path.{_≡_};
+ghost use lib.ListN.{take, drop};
+ghost use Prim.Native.Nat.{_+_, _≤_};
+ghost use Rattle.laws.specs.Numbers.{number};
+ghost use Rattle.rules.specs.Records as rules;
+ghost use Rattle.rules.specs.Records.{recordOf, tableFollows};
+ghost use Rattle.laws.specs.Loops.{placed};
+ghost use Rattle.tableread.specs.Memory.{headerOf, emptyTable, tableFrom, gatheredFrom, readingOf, reported};
+use records::Sort;
+use records::Step;
+use records::little::read8;
+use records::little::read16;
+use records::little::read32;
+use units::Offset;
+use units::Ticks;
+
+// What a table's first record says.
+pub struct Header {
+    pub period: Ticks,
+    pub controls: usize,
+    pub datas: usize,
+}
+
+impl Header {
+    pub fn empty() -> Header
+        ensures { λ r. ⌜ r ≡ emptyTable .header ⌝ }
+    {
+        Header {
+            period: Ticks(0),
+            controls: 0,
+            datas: 0,
+        }
+    }
+}
+
+// An array for each number of a row. `control` and `rows` count what the file has; a row without a place left is counted and not
+// stored.
+pub struct Table {
+    pub header: Header,
+    pub control: usize,
+    pub nodes: [u8; 8],
+    pub begins: [u32; 8],
+    pub ends: [u32; 8],
+    pub rows: usize,
+    pub tasks: [u8; 256],
+    pub deadlines: [u32; 256],
+    pub starts: [u32; 256],
+    pub stops: [u32; 256],
+}
+
+impl Table {
+    pub fn empty() -> Table
+        ensures { λ r. ⌜ r ≡ emptyTable ⌝ }
+    {
+        Table {
+            header: Header::empty(),
+            control: 0,
+            nodes: [0; 8],
+            begins: [0; 8],
+            ends: [0; 8],
+            rows: 0,
+            tasks: [0; 256],
+            deadlines: [0; 256],
+            starts: [0; 256],
+            stops: [0; 256],
+        }
+    }
+}
+
+// How gathering ended: at the file's end, or at the place where the record rules are broken.
+pub enum Outcome {
+    Whole,
+    Broken(Offset),
+}
+
+pub struct Reading {
+    pub outcome: Outcome,
+    pub table: Table,
+}
+
+fn first_record(s: &[u8], body: usize) -> Header
+    requires { do ⌜ body + 7 ≤ (← ⟦s.len()⟧) ⌝ }
+    ensures { λ r. ⌜ r ≡ headerOf (recordOf 16 (drop body (now (s .entry))) .numbers) ⌝ }
+{
+    Header {
+        period: Ticks(read32(s, body)),
+        controls: read8(s, body + 4) as usize,
+        datas: read16(s, body + 5) as usize,
+    }
+}
+
+fn control_row(
+    s: &[u8],
+    body: usize,
+    k: usize,
+    nodes: &mut [u8; 8],
+    begins: &mut [u32; 8],
+    ends: &mut [u32; 8],
+)
+    requires { do ⌜ body + 9 ≤ (← ⟦s.len()⟧) ⌝ }
+    ensures { λ _. ⌜ now (nodes .exit) ≡ placed 8 (now (nodes .entry)) k (number (take 1 (drop body (now (s .entry))))) ⌝ }
+    ensures { λ _. ⌜ now (begins .exit) ≡ placed 8 (now (begins .entry)) k (number (take 4 (drop (body + 1) (now (s .entry))))) ⌝ }
+    ensures { λ _. ⌜ now (ends .exit) ≡ placed 8 (now (ends .entry)) k (number (take 4 (drop (body + 5) (now (s .entry))))) ⌝ }
+{
+    if k < 8 {
+        nodes[k] = read8(s, body);
+        begins[k] = read32(s, body + 1);
+        ends[k] = read32(s, body + 5);
+    }
+}
+
+// The body is cut out first: then it is plain that each of its numbers stands within it.
+fn data_row(
+    s: &[u8],
+    body: usize,
+    k: usize,
+    tasks: &mut [u8; 256],
+    deadlines: &mut [u32; 256],
+    starts: &mut [u32; 256],
+    stops: &mut [u32; 256],
+)
+    requires { do ⌜ body + 13 ≤ (← ⟦s.len()⟧) ⌝ }
+    ensures { λ _. ⌜ now (tasks .exit) ≡ placed 256 (now (tasks .entry)) k (number (take 1 (drop body (now (s .entry))))) ⌝ }
+    ensures { λ _. ⌜ now (deadlines .exit) ≡ placed 256 (now (deadlines .entry)) k (number (take 4 (drop (body + 1) (now (s .entry))))) ⌝ }
+    ensures { λ _. ⌜ now (starts .exit) ≡ placed 256 (now (starts .entry)) k (number (take 4 (drop (body + 5) (now (s .entry))))) ⌝ }
+    ensures { λ _. ⌜ now (stops .exit) ≡ placed 256 (now (stops .entry)) k (number (take 4 (drop (body + 9) (now (s .entry))))) ⌝ }
+{
+    if k < 256 {
+        let end = body + 13;
+        let row = &s[body..end];
+        tasks[k] = read8(row, 0);
+        deadlines[k] = read32(row, 1);
+        starts[k] = read32(row, 5);
+        stops[k] = read32(row, 9);
+    }
+}
+
+struct Gathered {
+    outcome: Outcome,
+    header: Header,
+    control: usize,
+    rows: usize,
+}
+
+fn gather(
+    s: &[u8],
+    nodes: &mut [u8; 8],
+    begins: &mut [u32; 8],
+    ends: &mut [u32; 8],
+    tasks: &mut [u8; 256],
+    deadlines: &mut [u32; 256],
+    starts: &mut [u32; 256],
+    stops: &mut [u32; 256],
+) -> Gathered
+    ensures { λ r. ⌜ reported r (now (nodes .exit)) (now (begins .exit)) (now (ends .exit)) (now (tasks .exit)) (now (deadlines .exit)) (now (starts .exit)) (now (stops .exit)) ≡ gatheredFrom (tableFrom (emptyTable .header) 0 0 (now (nodes .entry)) (now (begins .entry)) (now (ends .entry)) (now (tasks .entry)) (now (deadlines .entry)) (now (starts .entry)) (now (stops .entry))) (rules.records tableFollows 20 (now (s .entry))) ⌝ }
+{
+    let mut head = Header::empty();
+    let mut control = 0;
+    let mut rows = 0;
+    let mut previous: u8 = 0;
+    let mut at: usize = 0;
+    loop {
+        match records::next(s, Sort::Table, previous, at) {
+            Step::Record { kind, body, next } => {
+                if kind == 18 {
+                    data_row(s, body, rows, tasks, deadlines, starts, stops);
+                    rows += 1;
+                    // This is `next`; but no row waits for the length of the row before it to be looked up.
+                    at = body + 13;
+                } else if kind == 17 {
+                    control_row(s, body, control, nodes, begins, ends);
+                    control += 1;
+                    at = next;
+                } else {
+                    head = first_record(s, body);
+                    at = next;
+                }
+                previous = kind;
+            }
+            Step::End => {
+                return Gathered {
+                    outcome: Outcome::Whole,
+                    header: head,
+                    control,
+                    rows,
+                };
+            }
+            Step::Wrong(place) => {
+                return Gathered {
+                    outcome: Outcome::Broken(Offset(place)),
+                    header: head,
+                    control,
+                    rows,
+                };
+            }
+        }
+    }
+}
+
+pub fn read_table(s: &[u8]) -> Reading
+    ensures { λ r. ⌜ r ≡ readingOf (rules.records tableFollows 20 (now (s .entry))) ⌝ }
+{
+    let mut nodes = [0; 8];
+    let mut begins = [0; 8];
+    let mut ends = [0; 8];
+    let mut tasks = [0; 256];
+    let mut deadlines = [0; 256];
+    let mut starts = [0; 256];
+    let mut stops = [0; 256];
+    let g = gather(
+        s,
+        &mut nodes,
+        &mut begins,
+        &mut ends,
+        &mut tasks,
+        &mut deadlines,
+        &mut starts,
+        &mut stops,
+    );
+    let outcome = g.outcome;
+    let head = g.header;
+    match outcome {
+        Outcome::Whole => Reading {
+            outcome: Outcome::Whole,
+            table: Table {
+                header: head,
+                control: g.control,
+                nodes,
+                begins,
+                ends,
+                rows: g.rows,
+                tasks,
+                deadlines,
+                starts,
+                stops,
+            },
+        },
+        Outcome::Broken(place) => Reading {
+            outcome: Outcome::Broken(place),
+            table: Table::empty(),
+        },
+    }
+}
