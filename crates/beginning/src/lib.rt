@@ -9,8 +9,8 @@ ghost use Rattle.beginning.specs.Starting.{begunBy, holdsOwn, startTest,
 ghost use Rattle.beginning.specs.declared.Answer.the-variants.{Refused};
 use answers::Refusal;
 use checker::check;
+use figures::both;
 use frames::laid::Frames;
-use places::both;
 use places::byte_at;
 use planrules::read;
 use station::Station;

@@ -7,6 +7,7 @@ ghost use Prim.Native.Nat.{_+_, _<_};
 ghost use Rattle.plan.specs.Memory.{seen};
 ghost use Rattle.rules.specs.Frames.{moduleNode, taskNode, isBusTask, isSending, controlPayload};
 ghost use Rattle.bus.specs.Senders.{byNumber, taskHome, invokedBy, sendersOf};
+use figures::place;
 use plan::Plan;
 use plan::look::connection_count;
 use plan::look::invocation_count;
@@ -18,13 +19,6 @@ pub struct Senders {
     pub tasks: [bool; 256],
     pub modules: [bool; 256],
     pub payloads: [u8; 256],
-}
-
-// A number's place in a table.
-pub fn place(number: u8) -> usize
-    ensures { λ r. ⌜ (r ≡ number) × (r < 256) ⌝ }
-{
-    number as usize
 }
 
 fn module_nodes(p: Plan) -> [u8; 256]

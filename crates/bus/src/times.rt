@@ -1,20 +1,15 @@
 // Bits and bytes on the bus as time: the only place where bytes become ticks.
 ghost use mathlib.Core.Path.{_≡_};
-ghost use Prim.Native.Nat.{_+_, _≤_, _<_, _^_, max};
+ghost use Prim.Native.Nat.{_+_, _≤_, _<_, _^_};
 ghost use Rattle.laws.specs.Numbers.{ceil, up};
 ghost use Rattle.plan.specs.Memory.{busSeen};
 ghost use Rattle.rules.specs.Frames.{ticksOfBits, sendingTime, gapTime};
+use figures::larger;
 use plan::Bus;
 use units::ByteCount;
 
 // A length of time in ticks. Wider than `Ticks`: no value of a bus, however far from its ranges, makes it wrap.
 pub struct Span(pub u64);
-
-fn larger(a: u32, b: u32) -> u32
-    ensures { λ r. ⌜ r ≡ max a b ⌝ }
-{
-    if a < b { b } else { a }
-}
 
 // a / b, rounded up. At no rate nothing takes any time, as the definition has it.
 fn quotient_up(a: u64, b: u32) -> u64

@@ -9,10 +9,10 @@ ghost use Rattle.rules.specs.Frames.{isSending, switchGrid, periodOfRuns};
 ghost use Rattle.bus.specs.Senders.{byNumber};
 ghost use Rattle.cycle.specs.Runs.{runsSeen};
 use crate::runs::Runs;
-use bus::numbers::divides;
-use bus::numbers::gcd;
-use bus::numbers::lcm;
-use bus::senders::place;
+use figures::divides;
+use figures::gcd;
+use figures::lcm;
+use figures::place;
 use plan::Plan;
 use plan::look::mode_count;
 

@@ -1,11 +1,12 @@
 // The invocations of bus tasks, each with its period and its task's worst time.
 ghost use mathlib.Core.Path.{_≡_};
-ghost use Prim.Native.Nat.{_/_, _≤_};
+ghost use Prim.Native.Nat.{_≤_};
 ghost use Rattle.plan.specs.Memory.{seen};
 ghost use Rattle.rules.specs.Frames.{isBusTask, busRuns};
 ghost use Rattle.bus.specs.Senders.{byNumber};
 ghost use Rattle.cycle.specs.Runs.{modePeriod, taskWorst, runsLaid};
-use bus::senders::place;
+use figures::place;
+use figures::quotient;
 use plan::Plan;
 use plan::look::invocation_count;
 use plan::look::mode_count;
@@ -43,16 +44,6 @@ fn task_worsts(p: Plan) -> [u32; 256]
         t += 1;
     }
     worsts
-}
-
-// Nothing is left of a period by a rate of 0, as the definition has it.
-fn quotient(a: u32, b: u32) -> u32
-    ensures { λ r. ⌜ r ≡ a / b ⌝ }
-{
-    if b == 0 {
-        return 0;
-    }
-    a / b
 }
 
 impl Runs {

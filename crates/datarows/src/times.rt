@@ -8,7 +8,8 @@ ghost use Rattle.laws.specs.Numbers as laws;
 ghost use Rattle.datarows.specs.Places.{lookIn, beforeIn, spotOf};
 ghost use Rattle.datarows.specs.Rows.{timeKept, releaseKept, dueKept, gapKept};
 use crate::naming::Spot;
-use bus::numbers::divides;
+use figures::divides;
+use figures::place;
 
 // Nothing wraps: the sum of two times has 64 bits.
 fn later(start: u32, time: u32) -> u64
@@ -21,12 +22,6 @@ fn wide(time: u32) -> u64
     ensures { λ r. ⌜ r ≡ time ⌝ }
 {
     time as u64
-}
-
-fn place(task: u8) -> usize
-    ensures { λ r. ⌜ r ≡ task ⌝ }
-{
-    task as usize
 }
 
 fn time_of(times: &[u32; 32], task: u8) -> u32

@@ -3,7 +3,7 @@
 ghost use mathlib.Core.Path.{_≡_};
 ghost use mathlib.Core.Bool.{true};
 ghost use lib.ListN.{getD};
-ghost use Prim.Native.Nat.{suc, _+_, _-_, _*_, _≤_, _<_, max};
+ghost use Prim.Native.Nat.{suc, _+_, _-_, _*_, _≤_, _<_};
 ghost use Rattle.laws.specs.Lists.{all};
 ghost use Rattle.rules.specs.Frames.{messages, framesOf};
 ghost use Rattle.frames.specs.Walk.{most, runsIn, isFair, keyOf, Ready, Planted, Waiting, CellMet, frameAt, Stored, Derived};
@@ -11,16 +11,11 @@ ghost use Rattle.frames.specs.Walk.{most, runsIn, isFair, keyOf, Ready, 
 pub mod laid;
 mod tree;
 
+use figures::larger;
 use laid::Frames;
 use tree::grow;
 use tree::leaves;
 use tree::raise;
-
-fn larger(a: u32, b: u32) -> u32
-    ensures { λ r. ⌜ r ≡ max a b ⌝ }
-{
-    if a < b { b } else { a }
-}
 
 fn narrow(t: usize) -> u8
     requires { ⌜ t < 32 ⌝ }

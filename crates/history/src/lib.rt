@@ -6,7 +6,7 @@ ghost use Rattle.history.specs.Reading.{behindWord, beginLine, changeFro
 
 pub mod writing;
 
-use places::both;
+use figures::both;
 use places::byte_at;
 use stationjudge::Change;
 use stationjudge::Given;

@@ -6,7 +6,7 @@ ghost use lib.Seq.{sets};
 ghost use Rattle.laws.specs.Lists.{all, upTo};
 ghost use Rattle.history.specs.Writing.{afterLine, begunLine, marked, nodeShown, numberedLine, placeShown, refusalLine, sameOn, samePlace, shownAt, shownLine, texts, tickedLine, unreadableLine};
 use answers::Refusal;
-use places::both;
+use figures::both;
 use station::Said;
 use stationsteps::nodes::Node;
 use text::put_bytes;

@@ -7,7 +7,6 @@ ghost use Prim.Native.Nat.{_≤_, _<_, _^_};
 ghost use Rattle.laws.specs.Lists.{any, all, tab, upTo};
 ghost use Rattle.rules.proofs.PlanKept.{PlanKept};
 ghost use Rattle.plan.specs.Memory.{seen};
-ghost use Rattle.bus.specs.Senders.{byNumber};
 ghost use Rattle.rules.specs.Frames.{someBusTask, busPeriod, switchGrid, busRuns, controlEnd, controlRows, layout, layoutOf};
 ghost use Prim.Native.Nat.{_∣_};
 ghost use Rattle.cycle.specs.Runs.{runsLaid};
@@ -20,7 +19,6 @@ ghost use Rattle.line.specs.Laying.{Lays, framing, closing, fileLaid};
 ghost use Rattle.line.specs.declared.Answer.the-variants.{Refused};
 ghost use Rattle.line.specs.Tests.{flagAt, messageKeeps, payloadKeeps, nodeIn, startIn, stopIn};
 use answers::Refusal;
-use bus::numbers::divides;
 use bus::senders::Senders;
 use bus::times::Span;
 use bus::times::gap_time;
@@ -32,6 +30,8 @@ use cycle::period::bus_period;
 use cycle::period::period_divides;
 use cycle::period::switch_grid;
 use cycle::runs::Runs;
+use figures::divides;
+use figures::wide;
 use frames::laid::Frames;
 use plan::Plan;
 use plan::look::task_count;
@@ -115,12 +115,6 @@ fn messages_fit(p: Plan, tasks: [bool; 256]) -> bool
         t += 1;
     }
     true
-}
-
-fn wide(x: u8) -> u32
-    ensures { λ r. ⌜ r ≡ x ⌝ }
-{
-    x as u32
 }
 
 // Whether the control payloads of the first nodes fit the largest payload.

@@ -2,7 +2,7 @@
 // An array is taken out of the plan before one of its elements is, so that this array alone is copied.
 ghost use mathlib.Core.Path.{_≡_};
 ghost use lib.ListN.{length, getD};
-ghost use Prim.Native.Nat.{min, _≤_};
+ghost use Prim.Native.Nat.{_≤_};
 ghost use Rattle.rules.specs.Plan as rules;
 ghost use Rattle.plan.specs.Memory.{seen, moduleLaid, modeLaid, taskLaid, invocationLaid, connectionLaid, noConnection};
 use crate::Connection;
@@ -11,6 +11,7 @@ use crate::Mode;
 use crate::Module;
 use crate::Plan;
 use crate::Task;
+use figures::lower;
 use units::ByteCount;
 use units::ModeNo;
 use units::ModuleNo;
@@ -19,40 +20,34 @@ use units::TaskNo;
 use units::Ticks;
 
 // Of the things that are counted, as many as have a place.
-fn smaller(count: usize, places: usize) -> usize
-    ensures { λ r. ⌜ r ≡ min count places ⌝ }
-{
-    if count < places { count } else { places }
-}
-
 pub fn module_count(p: Plan) -> usize
     ensures { λ r. ⌜ (r ≡ length (seen p .modules)) × (r ≤ 16) ⌝ }
 {
-    smaller(p.counts[3], ModuleNo::MOST)
+    lower(p.counts[3], ModuleNo::MOST)
 }
 
 pub fn mode_count(p: Plan) -> usize
     ensures { λ r. ⌜ (r ≡ length (seen p .modes)) × (r ≤ 32) ⌝ }
 {
-    smaller(p.counts[4], ModeNo::MOST)
+    lower(p.counts[4], ModeNo::MOST)
 }
 
 pub fn task_count(p: Plan) -> usize
     ensures { λ r. ⌜ (r ≡ length (seen p .tasks)) × (r ≤ 32) ⌝ }
 {
-    smaller(p.counts[5], TaskNo::MOST)
+    lower(p.counts[5], TaskNo::MOST)
 }
 
 pub fn invocation_count(p: Plan) -> usize
     ensures { λ r. ⌜ (r ≡ length (seen p .invocations)) × (r ≤ 64) ⌝ }
 {
-    smaller(p.counts[6], Invocation::MOST)
+    lower(p.counts[6], Invocation::MOST)
 }
 
 pub fn connection_count(p: Plan) -> usize
     ensures { λ r. ⌜ (r ≡ length (seen p .connections)) × (r ≤ 64) ⌝ }
 {
-    smaller(p.counts[7], Connection::MOST)
+    lower(p.counts[7], Connection::MOST)
 }
 
 pub fn module_at(p: Plan, k: usize) -> Module

@@ -4,7 +4,7 @@ ghost use Prim.Native.Nat.{_<_};
 ghost use Rattle.laws.specs.Lists.{firstBad, upTo};
 ghost use Rattle.planrules.specs.Scans.{placeOr};
 ghost use Rattle.planrules.specs.Tests.{countsFit};
-use crate::both;
+use figures::both;
 use plan::Connection;
 use plan::Invocation;
 use units::ModeNo;

@@ -3,15 +3,17 @@ ghost use mathlib.Core.Path.{_≡_};
 ghost use mathlib.Core.Bool.{cond};
 ghost use mathlib.Core.List.{map};
 ghost use lib.ListN.{length, take};
-ghost use Prim.Native.Nat.{min, _≤_, _/_};
+ghost use Prim.Native.Nat.{_≤_};
 ghost use Rattle.laws.specs.Lists.{firstBad, upTo};
-ghost use Rattle.laws.specs.Numbers as numbers;
 ghost use Rattle.rules.specs.Plan as rules;
 ghost use Rattle.plan.specs.Memory.{seen, modeLaid, modeSeen, taskLaid, taskSeen, invocationSeen};
 ghost use Rattle.planrules.specs.Scans.{placeOr, unfitOf};
 ghost use Rattle.planrules.specs.Tests.{hasModeIn, fitsThese, fitsAt, isFreshIn};
 use crate::Found;
-use crate::both;
+use figures::both;
+use figures::divides;
+use figures::lower;
+use figures::quotient;
 use plan::Invocation;
 use plan::Mode;
 use plan::Plan;
@@ -20,20 +22,6 @@ use plan::look;
 use units::ByteCount;
 use units::ModuleNo;
 use units::Ticks;
-
-// Whether a divides b; 0 divides 0 alone.
-fn divides(a: u32, b: u32) -> bool
-    ensures { λ r. ⌜ r ≡ numbers.divides a b ⌝ }
-{
-    if a == 0 { b == 0 } else { b % a == 0 }
-}
-
-// A mode's period divided by a rate; 0 where the rate is.
-fn quotient(period: u32, rate: u32) -> u32
-    ensures { λ r. ⌜ r ≡ period / rate ⌝ }
-{
-    if rate == 0 { 0 } else { period / rate }
-}
 
 fn has_mode(modes: [Mode; 32], count: usize, home: usize) -> bool
     requires { ⌜ count ≤ 32 ⌝ }
@@ -173,13 +161,6 @@ fn first_repeat(invocations: [Invocation; 64], count: usize) -> usize
         later += 1;
     }
     later
-}
-
-// The lower of two places.
-fn lower(a: usize, b: usize) -> usize
-    ensures { λ r. ⌜ r ≡ min a b ⌝ }
-{
-    if a < b { a } else { b }
 }
 
 // The record of the first thing that breaks refusal 5's rules.

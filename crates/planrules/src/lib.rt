@@ -1,6 +1,5 @@
 // What a plan must keep, refusals 2 to 5, and the whole way from bytes to a plan.
 ghost use mathlib.Core.Path.{_≡_};
-ghost use mathlib.Core.Bool.{_&&_};
 ghost use Rattle.rules.specs.Records as records;
 ghost use Rattle.rules.specs.Plan.{readPlan};
 ghost use Rattle.plan.specs.Memory.{emptyPlan};
@@ -33,13 +32,6 @@ pub enum Answer {
 pub struct Reading {
     pub answer: Answer,
     pub plan: Plan,
-}
-
-// Both tests at once; `&&` would leave its two ways to every proof.
-pub fn both(a: bool, b: bool) -> bool
-    ensures { λ r. ⌜ r ≡ (a && b) ⌝ }
-{
-    if a { b } else { false }
 }
 
 fn refused(why: Refusal) -> Reading

@@ -7,7 +7,7 @@ ghost use Rattle.rules.specs.Plan.{namesAreThere, numbersAreWithin};
 ghost use Rattle.planrules.specs.Scans.{earlierOf, isOk};
 ghost use Rattle.planrules.specs.Tests.{listed, firstsOf};
 use crate::Found;
-use crate::both;
+use figures::both;
 use plan::bodies;
 use records::Sort;
 use records::Step;

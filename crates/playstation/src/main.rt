@@ -2,6 +2,7 @@
 // command line, and writes an answer to each line (docs/HISTORY.md), or `too long`.
 ghost use mathlib.Core.Path.{_≡_};
 ghost use Rattle.playstation.specs.Answered.{answered};
+use figures::both;
 use input::Input;
 use input::file_room;
 use input::history_room;
@@ -10,7 +11,6 @@ use input::read_open;
 use libc::STDERR_FILENO;
 use libc::STDIN_FILENO;
 use libc::STDOUT_FILENO;
-use places::both;
 use station::Station;
 
 // Everything but the reading; the station after the history.

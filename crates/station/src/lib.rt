@@ -15,10 +15,10 @@ ghost use Rattle.station.specs.Parts.{Reads, atRest, heldNow, controlAt,
 ghost use Rattle.station.specs.Answers.{Answers};
 ghost use Rattle.station.specs.Turns.{Turns, Valued, stationBy};
 use answers::Refusal;
-use places::both;
+use figures::both;
+use figures::rest;
 use places::byte_at;
 use places::number_at;
-use places::rest;
 use stationjudge::Change;
 use stationjudge::Found;
 use stationjudge::Given;

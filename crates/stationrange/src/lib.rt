@@ -7,11 +7,11 @@ ghost use lib.Dec.{eqb, leb, ltb};
 ghost use Rattle.laws.specs.Lists.{all, upTo};
 ghost use Rattle.rules.specs.StationRange.{isBetween, isValue};
 ghost use Rattle.stationrange.specs.Ranges.{boxTest, byteTest, controlTest, countsTest, dataTest, modeTest, moduleTest, playTest, runTest, runsTest, taskTest, thingTest};
-use places::both;
+use figures::both;
+use figures::if_so;
+use figures::wide;
 use places::byte_at;
-use places::if_so;
 use places::number_at;
-use places::wide;
 
 fn is_between(low: u32, high: u32, x: u32) -> bool
     ensures { λ r. ⌜ r ≡ isBetween low high x ⌝ }

@@ -8,7 +8,7 @@ ghost use Rattle.laws.specs.Lists.{all, upTo};
 ghost use Rattle.stationjudge.specs.Inputs.{foundOf};
 ghost use Rattle.stationsteps.specs.Steps.{numberAt};
 ghost use Rattle.stationsteps.specs.Nodes.{isLanding, landedRule, landingOf, noNode, nodeAt, nodeRule, quietAt, shownAt, shownRule, zeroNode};
-use places::both;
+use figures::both;
 use places::byte_at;
 use places::flag_at;
 use places::value_at;

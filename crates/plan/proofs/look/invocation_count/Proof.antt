@@ -12,7 +12,7 @@ unfolding seen countSeen
 returns c =
     let p = c .before .before .args .t1 in
     let h = sizes p _ (c .before .before .good .0) in
-    (c .smaller .ensures ∙ sym (part-length invocationSeen (countSeen p 6) (p .invocations) 64 (h .invocations)), omega arith)
+    (c .lower .ensures ∙ sym (part-length invocationSeen (countSeen p 6) (p .invocations) 64 (h .invocations)), omega arith)
 
 pub invocation-count-spec : {M : Type 1} → statement M
 invocation-count-spec = tie.close (tie.spec (λ c. search needs) (λ c κs. search needs) returns)

@@ -12,7 +12,7 @@ unfolding seen countSeen
 returns c =
     let p = c .before .before .args .t1 in
     let h = sizes p _ (c .before .before .good .0) in
-    (c .smaller .ensures ∙ sym (part-length modeSeen (countSeen p 4) (p .modes) 32 (h .modes)), omega arith)
+    (c .lower .ensures ∙ sym (part-length modeSeen (countSeen p 4) (p .modes) 32 (h .modes)), omega arith)
 
 pub mode-count-spec : {M : Type 1} → statement M
 mode-count-spec = tie.close (tie.spec (λ c. search needs) (λ c κs. search needs) returns)

@@ -12,7 +12,7 @@ unfolding seen countSeen
 returns c =
     let p = c .before .before .args .t1 in
     let h = sizes p _ (c .before .before .good .0) in
-    (c .smaller .ensures ∙ sym (part-length moduleSeen (countSeen p 3) (p .modules) 16 (h .modules)), omega arith)
+    (c .lower .ensures ∙ sym (part-length moduleSeen (countSeen p 3) (p .modules) 16 (h .modules)), omega arith)
 
 pub module-count-spec : {M : Type 1} → statement M
 module-count-spec = tie.close (tie.spec (λ c. search needs) (λ c κs. search needs) returns)

@@ -5,8 +5,8 @@ use Prim.Native.Nat.{_<_}
 use Rattle.laws.specs.Numbers.{gcd}
 use Rattle.laws.proofs.Divisors.{gcd-step, gcd-zero}
 use native.Mathlib.Omega.{arith}
-use Rattle.bus.proofs.numbers.gcd.Statement.{statement}
-use Rattle.bus.proofs.numbers.gcd.Tie as tie
+use Rattle.figures.proofs.gcd.Statement.{statement}
+use Rattle.figures.proofs.gcd.Tie as tie
 
 abbrev Inv-loop : tie.InvT-loop
 Inv-loop a b x₀ y₀ x y = gcd x y ≡ gcd a b

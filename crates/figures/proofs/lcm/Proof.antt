@@ -8,8 +8,8 @@ use Rattle.laws.specs.Numbers.{divides, gcd, lcm}
 use Rattle.laws.proofs.Lists.{true-false}
 use Rattle.laws.proofs.Divisors.{divides-true, divides-is, gcd-right, lcm-unique}
 use borrow.Author.Needs.{needs}
-use Rattle.bus.proofs.numbers.lcm.Statement.{statement}
-use Rattle.bus.proofs.numbers.lcm.Tie as tie
+use Rattle.figures.proofs.lcm.Statement.{statement}
+use Rattle.figures.proofs.lcm.Tie as tie
 
 -- two numbers of which the first does not divide the second are not both 0
 some : (a b g : ℕ) → g ≡ gcd a b → divides a b ≡ false → 0 < g

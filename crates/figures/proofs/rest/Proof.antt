@@ -1,8 +1,8 @@
 use mathlib.Core.Path.{sym}
 use native.Mathlib.Nat.{mod-zero}
 use borrow.Author.Needs.{needs}
-use Rattle.places.proofs.rest.Statement.{statement}
-use Rattle.places.proofs.rest.Tie as tie
+use Rattle.figures.proofs.rest.Statement.{statement}
+use Rattle.figures.proofs.rest.Tie as tie
 
 returns : tie.Need-returns
 returns c = let e = c .if1 .taken in rw (e) (sym (mod-zero _))

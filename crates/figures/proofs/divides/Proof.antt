@@ -1,6 +1,6 @@
 use borrow.Author.Needs.{needs}
-use Rattle.places.proofs.divides.Statement.{statement}
-use Rattle.places.proofs.divides.Tie as tie
+use Rattle.figures.proofs.divides.Statement.{statement}
+use Rattle.figures.proofs.divides.Tie as tie
 
 returns : tie.Need-returns
 returns c = rw (c .rest .ensures)
