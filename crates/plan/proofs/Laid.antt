@@ -1,18 +1,17 @@
 -- A plan within the ranges of its counts is seen again as it was laid out, and every plan that is read is such.
 -- Assumes nothing.
-use mathlib.Core.Path.{_≡_, refl, sym, ap, _∙_}
-use mathlib.Core.Bool.{Bool, true, false}
+use mathlib.Core.Path.{_≡_, refl, sym}
 use mathlib.Core.List.{List, [], _∷_, map}
-use mathlib.Core.Option.{Option, none}
+use mathlib.Core.Option.{none}
 use native.Mathlib.Omega.{arith}
 use lib.Dec.{leb}
 use lib.ListN.{length, take, length-map}
 use borrow.Author.Tests.{leb-true}
 use Prim.Native.Nat.{ℕ, _≤_, _<_, _+_}
-use Rattle.laws.specs.Res.{Res, ok, at}
+use Rattle.laws.specs.Res.{ok, at}
 use Rattle.laws.specs.Lists.{firstBad, upTo}
 use Rattle.laws.specs.Loops.{padTo}
-use Rattle.laws.proofs.Lists.{take-padTo, both-left, both-right}
+use Rattle.laws.proofs.Lists.{take-padTo, both-right}
 use Rattle.laws.proofs.Loops.{firstBad-upTo-passes}
 use Rattle.laws.proofs.Res.{bind-case, then-case, at-ok, ok-injective}
 use Rattle.rules.specs.Records.{Rec, records, planFollows}

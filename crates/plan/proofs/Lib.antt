@@ -1,6 +1,3 @@
-pub mod Gathering
 pub mod Laid
 pub mod Parts
 pub mod Sizes
-pub mod SoFar
-pub mod Stored

@@ -1,5 +1,5 @@
 -- How a plan stands in memory: from the rules' plan to the struct (`layOut`), and from the struct to the rules' plan (`seen`).
-use mathlib.Core.List.{List, [], _∷_, map}
+use mathlib.Core.List.{[], _∷_, map}
 use lib.ListN.{getD, length, take}
 use Prim.Native.Nat.{ℕ}
 use Rattle.laws.specs.Loops.{padTo}

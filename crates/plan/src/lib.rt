@@ -3,7 +3,6 @@ ghost use mathlib.Core.Path.{_≡_};
 ghost use Rattle.plan.specs.Memory.{emptyPlan};
 
 pub mod bodies;
-pub mod gather;
 pub mod look;
 
 use units::ByteCount;

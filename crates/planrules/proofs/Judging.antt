@@ -17,20 +17,20 @@ use Rattle.answers.specs.declared.Refusal.{Refusal}
 use Rattle.answers.specs.declared.Refusal.the-variants.{BadRecords, BadCount, NotThere, OutOfRange, Unfit}
 use Rattle.answers.specs.Refusals.{said}
 use Rattle.plan.specs.declared.Plan.{Plan}
-use Rattle.plan.specs.declared.gather.Gathered.{Gathered}
-use Rattle.plan.specs.declared.gather.Outcome.{Outcome}
-use Rattle.plan.specs.declared.gather.Outcome.the-variants.{Whole, Broken}
+use Rattle.plangather.specs.declared.Gathered.{Gathered}
+use Rattle.plangather.specs.declared.Outcome.{Outcome}
+use Rattle.plangather.specs.declared.Outcome.the-variants.{Whole, Broken}
 use Rattle.plan.specs.Memory.{layOut, emptyPlan, seen}
-use Rattle.plan.specs.Gather.{gatheredOf}
-use Rattle.plan.proofs.Laid.{Placed, counts-placed, seen-laid}
-use Rattle.planrules.specs.declared.Found.{Found}
-use Rattle.planrules.specs.declared.Found.the-variants.{At, Nothing}
+use Rattle.plangather.specs.Gather.{gatheredOf}
+use Rattle.plan.proofs.Laid.{counts-placed, seen-laid}
+use Rattle.planfits.specs.declared.Found.{Found}
+use Rattle.planfits.specs.declared.Found.the-variants.{At, Nothing}
 use Rattle.planrules.specs.declared.Answer.the-variants.{Sound, Refused}
 use Rattle.planrules.specs.declared.Reading.{Reading}
-use Rattle.planrules.specs.Reading.{Reads, heard, verdict, planLeft}
-use Rattle.planrules.specs.Scans.{placeOr, foundOf, isOk, firstBadOf, unfitOf}
+use Rattle.planrules.specs.Reading.{Reads}
+use Rattle.planfits.specs.Scans.{placeOr, foundOf, isOk, firstBadOf, unfitOf}
 use Rattle.planrules.specs.Tests.{countsFit, listed}
-use Rattle.planrules.proofs.Places.{at-met-upTo, at-end-upTo}
+use Rattle.planfits.proofs.Places.{at-met-upTo, at-end-upTo}
 use Rattle.planrules.proofs.RecordRefusal.{records-refuse}
 use Rattle.planrules.proofs.RecordTests.{named-alike}
 

@@ -1,10 +1,5 @@
-pub mod ArrayScans
-pub mod Fitting
 pub mod Judging
-pub mod LowestUnfit
-pub mod Places
 pub mod RecordRefusal
 pub mod RecordScan
 pub mod RecordTests
-pub mod Repeats
 pub mod Unique

@@ -2,15 +2,15 @@
 -- Assumes nothing.
 use mathlib.Core.Path.{_≡_, refl, sym, ap, _∙_}
 use mathlib.Core.Bool.{Bool, true, false}
-use mathlib.Core.List.{List, [], _∷_}
+use mathlib.Core.List.{List}
 use mathlib.Core.Option.{Option, none, some}
-use native.Mathlib.Nat.{add-zero, add-suc}
+use native.Mathlib.Nat.{add-zero}
 use native.Mathlib.Numerals.{add-one}
 use native.Mathlib.Omega.{arith}
 use lib.ListN.{length, take, drop}
-use Prim.Native.Nat.{ℕ, zero, suc, _+_, _-_, _≤_, _<_}
+use Prim.Native.Nat.{ℕ, _+_, _-_, _≤_, _<_}
 use Rattle.laws.specs.Res.{Res, ok, refuse}
-use Rattle.laws.specs.Lists.{next, orNext, firstBad}
+use Rattle.laws.specs.Lists.{next, firstBad}
 use Rattle.laws.proofs.Lists.{true-false}
 use Rattle.rules.specs.Records.{Rec, bodyLength, recordOf, planFollows, before, records}
 use Rattle.records.specs.Reader.{nextAt}
@@ -18,10 +18,10 @@ use Rattle.records.specs.declared.Sort.the-variants.{Plan}
 use Rattle.records.specs.declared.Step.{Step}
 use Rattle.records.specs.declared.Step.the-variants.{Record, End, Wrong}
 use Rattle.records.proofs.Steps.{from, onward, one-step, found}
-use Rattle.plan.proofs.SoFar.{record-cut}
-use Rattle.planrules.specs.declared.Found.{Found}
-use Rattle.planrules.specs.declared.Found.the-variants.{At, Nothing}
-use Rattle.planrules.specs.Scans.{foundOf, earlierOf, isOk, firstBadOf}
+use Rattle.plangather.proofs.SoFar.{record-cut}
+use Rattle.planfits.specs.declared.Found.{Found}
+use Rattle.planfits.specs.declared.Found.the-variants.{At, Nothing}
+use Rattle.planfits.specs.Scans.{foundOf, earlierOf, isOk, firstBadOf}
 
 -- n places further on
 abbrev shifted : ℕ → Option ℕ → Option ℕ

@@ -1,16 +1,15 @@
 -- The rules' tests over what the code has at hand: counts as a list by kind, a mode and a task instead of their numbers.
-use mathlib.Core.Bool.{Bool, not, _&&_}
+use mathlib.Core.Bool.{Bool, _&&_}
 use mathlib.Core.List.{List}
-use lib.Dec.{leb, eqb}
-use lib.ListN.{getD, take}
-use Prim.Native.Nat.{ℕ, _+_, _/_}
+use lib.Dec.{leb}
+use lib.ListN.{getD}
+use Prim.Native.Nat.{ℕ, _+_}
 use Rattle.laws.specs.Res.{Res}
-use Rattle.laws.specs.Lists.{any}
 use Rattle.laws.specs.Numbers as numbers
 use Rattle.rules.specs.Records.{Rec}
-use Rattle.rules.specs.Plan.{Plan, Mode, Task, Invocation, nth, noInvocation, leastCounts, mostCounts, namesAreThere, numbersAreWithin, isHome, fitsItsMode, theInvocation, sameRun}
+use Rattle.rules.specs.Plan.{nth, leastCounts, mostCounts, namesAreThere, numbersAreWithin}
 use Rattle.planrules.specs.declared.numbers.Firsts.{Firsts}
-use Rattle.planrules.specs.Scans.{foundOf, firstBadOf}
+use Rattle.planfits.specs.Scans.{foundOf, firstBadOf}
 
 -- Refusal 2: "a count of things, the number of nodes included, is outside its range" (k counts kinds from 2 on).
 unfoldable pub countsFit : List ℕ → ℕ → Bool
@@ -27,21 +26,3 @@ firstsOf counts file =
       named = foundOf (firstBadOf (namesAreThere (listed counts)) file);
       ranged = foundOf (firstBadOf numbersAreWithin file);
     }
-
--- Refusal 5, of an invocation with its rate, its mode and its task: "rate doesn't divide mode period; invocation period doesn't divide
--- switch period; worst time above invocation period; task and mode of different modules".
-unfoldable pub fitsThese : ℕ → Mode → Task → Bool
-fitsThese rate μ t =
-    (numbers.divides rate (μ .period) && numbers.divides (μ .period / rate) (μ .switch))
-    && (leb (t .worst) (μ .period / rate) && eqb (t .home) (μ .home))
-
--- Refusal 5, of a module among a plan's modes: "a module without a mode".
-unfoldable pub hasModeIn : List Mode → ℕ → Bool
-hasModeIn modes m = any (isHome m) modes
-
--- Refusal 5's two tests of the k-th invocation: that it fits its mode, and that it is no repeat: "a task twice in one mode".
-unfoldable pub fitsAt : Plan → ℕ → Bool
-fitsAt p k = fitsItsMode p (theInvocation p k)
-
-unfoldable pub isFreshIn : List Invocation → ℕ → Bool
-isFreshIn invocations k = not (any (sameRun (getD invocations k noInvocation)) (take k invocations))

@@ -2,7 +2,7 @@
 ghost use mathlib.Core.Path.{_≡_};
 ghost use Prim.Native.Nat.{_<_};
 ghost use Rattle.laws.specs.Lists.{firstBad, upTo};
-ghost use Rattle.planrules.specs.Scans.{placeOr};
+ghost use Rattle.planfits.specs.Scans.{placeOr};
 ghost use Rattle.planrules.specs.Tests.{countsFit};
 use figures::both;
 use plan::Connection;

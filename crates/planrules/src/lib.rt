@@ -3,25 +3,19 @@ ghost use mathlib.Core.Path.{_≡_};
 ghost use Rattle.rules.specs.Records as records;
 ghost use Rattle.rules.specs.Plan.{readPlan};
 ghost use Rattle.plan.specs.Memory.{emptyPlan};
-ghost use Rattle.plan.specs.Gather.{gatheredOf};
-ghost use Rattle.plan.specs.declared.gather.Outcome.the-variants.{Whole};
+ghost use Rattle.plangather.specs.Gather.{gatheredOf};
+ghost use Rattle.plangather.specs.declared.Outcome.the-variants.{Whole};
 ghost use Rattle.planrules.specs.declared.Answer.the-variants.{Refused};
 ghost use Rattle.planrules.specs.Reading.{Reads};
 
 mod counts;
-mod fits;
 mod numbers;
 
 use answers::Refusal;
 use plan::Plan;
-use plan::gather::Outcome;
+use planfits::Found;
+use plangather::Outcome;
 use units::RecordNo;
-
-// What a scan found: the place, or that there is none.
-pub enum Found {
-    At(usize),
-    Nothing,
-}
 
 pub enum Answer {
     Sound,
@@ -62,7 +56,7 @@ fn judged(s: &[u8], p: Plan) -> Reading
     if let Found::At(n) = ranged {
         return refused(Refusal::OutOfRange(RecordNo(n)));
     }
-    let fitted = fits::first_unfit(p);
+    let fitted = planfits::first_unfit(p);
     if let Found::At(n) = fitted {
         return refused(Refusal::Unfit(RecordNo(n)));
     }
@@ -76,7 +70,7 @@ fn judged(s: &[u8], p: Plan) -> Reading
 pub fn read(s: &[u8]) -> Reading
     ensures { λ r. ⌜ Reads r (readPlan (now (s .entry))) ⌝ }
 {
-    let gathered = plan::gather::gather(s);
+    let gathered = plangather::gather(s);
     let outcome = gathered.outcome;
     match outcome {
         Outcome::Whole => judged(s, gathered.plan),

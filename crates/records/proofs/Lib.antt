@@ -1,4 +1,3 @@
-pub mod BodyNumbers
 pub mod Held
 pub mod LengthTable
 pub mod Steps

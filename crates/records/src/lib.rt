@@ -1,4 +1,4 @@
-// Records: the table of kinds, little-endian numbers, and the reader that gives one record of a lent file at a time.
+// Records: the table of kinds, and the reader that gives one record of a lent file at a time.
 ghost use mathlib.Core.Path.{_≡_};
 ghost use mathlib.Core.Bool.{_&&_};
 ghost use Prim.Native.Nat.{_-_};
@@ -7,7 +7,6 @@ ghost use Rattle.rules.specs.Records.{known};
 ghost use Rattle.records.specs.Reader.{follows, nextAt, bodyAt};
 
 pub mod kinds;
-pub mod little;
 pub mod reader;
 
 // The two sorts of files.

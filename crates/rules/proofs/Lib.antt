@@ -24,3 +24,4 @@ pub mod TransparentTold
 pub mod TransparentPlays
 pub mod StationPlaces
 pub mod StationKept
+pub mod BodyNumbers

@@ -7,7 +7,6 @@ ghost use lib.ListN.{length};
 ghost use Rattle.laws.specs.Lists.{tab, joined};
 ghost use Rattle.rules.specs.Table.{recordBytes, headerBytes, controlBytes, dataBytes};
 ghost use Rattle.tablebytes.specs.Rows.{controlIn, dataIn, tableIn};
-use records::little;
 
 fn put_header(buf: &mut [u8], period: u32, controls: u8, datas: u16)
     ensures { λ _. ⌜ now (buf .exit) ≡ sets (now (buf .entry)) 0 (headerBytes period controls datas) ⌝ }

@@ -24,7 +24,7 @@ use Rattle.records.specs.Reader.{nextAt}
 use Rattle.records.specs.declared.Sort.the-variants.{Table}
 use Rattle.records.specs.declared.Step.{Step}
 use Rattle.records.specs.declared.Step.the-variants.{Record, End, Wrong}
-use Rattle.records.proofs.BodyNumbers.{numbers-laid}
+use Rattle.rules.proofs.BodyNumbers.{numbers-laid}
 use Rattle.records.proofs.Steps.{from, onward, one-step, Found, found}
 use Rattle.tableread.specs.declared.Table as memory
 use Rattle.tableread.specs.declared.Header.{Header}

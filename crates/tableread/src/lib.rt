@@ -7,11 +7,11 @@ ghost use Rattle.rules.specs.Records as rules;
 ghost use Rattle.rules.specs.Records.{recordOf, tableFollows};
 ghost use Rattle.laws.specs.Loops.{placed};
 ghost use Rattle.tableread.specs.Memory.{headerOf, emptyTable, tableFrom, gatheredFrom, readingOf, reported};
+use little::read8;
+use little::read16;
+use little::read32;
 use records::Sort;
 use records::Step;
-use records::little::read8;
-use records::little::read16;
-use records::little::read32;
 use units::Offset;
 use units::Ticks;
 

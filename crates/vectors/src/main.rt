@@ -11,7 +11,7 @@ use lines::say_left;
 use lines::say_refusal;
 use lines::say_rows;
 use lines::say_table;
-use records::little::read32;
+use little::read32;
 use rows::Rows;
 
 mod lines;

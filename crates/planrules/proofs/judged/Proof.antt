@@ -1,6 +1,6 @@
 use borrow.Author.Needs.{needs}
 use mathlib.Core.Path.{refl, sym, ap, _∙_}
-use Rattle.planrules.specs.Scans.{unfitOf}
+use Rattle.planfits.specs.Scans.{unfitOf}
 use Rattle.planrules.proofs.Judging.{gathered-sound, way-count, way-names, way-ranges, way-unfit, way-sound}
 use Rattle.planrules.proofs.judged.Statement.{statement}
 use Rattle.planrules.proofs.judged.Tie as tie

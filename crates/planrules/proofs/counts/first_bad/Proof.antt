@@ -6,7 +6,7 @@ use Prim.Native.Nat.{_-_, _≤_}
 use Rattle.laws.specs.Lists.{firstBad, upTo}
 use Rattle.laws.proofs.Loops.{firstBad-upTo-more}
 use Rattle.planrules.specs.Tests.{countsFit}
-use Rattle.planrules.proofs.Places.{met-upTo, none-upTo}
+use Rattle.planfits.proofs.Places.{met-upTo, none-upTo}
 use Rattle.planrules.proofs.counts.first_bad.Statement.{statement}
 use Rattle.planrules.proofs.counts.first_bad.Tie as tie
 

@@ -1,0 +1,18 @@
+-- `records::little::put16` meets its contract: the bytes stored one by one are the number's.
+-- Assumes nothing.
+use denote.Ref.{now}
+use Rattle.laws.specs.Numbers.{bytes}
+use Rattle.laws.proofs.Little.{stored-sets}
+use borrow.Author.Needs.{needs}
+use Rattle.little.proofs.put16.Statement.{statement}
+use Rattle.little.proofs.put16.Tie as tie
+
+returns : tie.Need-returns
+returns c =
+    let a = c .before .before .before .before .before .before .before .before .before .args in
+    rw (c .before .before .store2 .ensures, c .before .before .before .before .before .before .store .ensures) (stored-sets (now (a .buf)) (a .at) (bytes 2 (a .x)))
+
+pub put16-spec : {M : Type 1} → statement M
+put16-spec =
+    tie.close
+    (tie.spec (λ c. search needs) (λ c κs. search needs) (λ c. search needs) (λ c κs. search needs) (λ c. search needs) returns)

@@ -1,0 +1,5 @@
+pub mod Places
+pub mod ArrayScans
+pub mod Fitting
+pub mod LowestUnfit
+pub mod Repeats

@@ -1,0 +1,97 @@
+-- Refusal 5 at the lowest record: what the scans over a plan in memory come to, for each way out.
+-- Assumes nothing.
+use mathlib.Core.Path.{_≡_, refl, sym, _∙_}
+use mathlib.Core.Bool.{_&&_}
+use mathlib.Core.List.{map}
+use lib.ListN.{length, take}
+use Prim.Native.Nat.{ℕ, _+_, _≤_, _<_, min}
+use Rattle.laws.specs.Res.{ok, at, _>>_}
+use Rattle.laws.specs.Lists.{firstBad, upTo}
+use Rattle.laws.proofs.Lists.{length-upTo}
+use Rattle.laws.proofs.Res.{then-ok, then-refuse}
+use Rattle.rules.specs.Plan as rules
+use Rattle.plan.specs.declared.Plan.{Plan}
+use Rattle.plan.specs.Memory.{seen, countSeen, modeSeen, invocationSeen}
+use Rattle.plan.proofs.Parts.{part-again}
+use Rattle.planfits.specs.declared.Found.the-variants.{At, Nothing}
+use Rattle.planfits.specs.Scans.{placeOr, unfitOf}
+use Rattle.planfits.specs.Fits.{hasModeIn, fitsAt, isFreshIn}
+use Rattle.planfits.proofs.Places.{at-met, at-end, at-met-upTo, at-end-upTo, first-of-two}
+
+module _
+    (p : Plan)
+    (modules modes tasks count : ℕ)
+    (em : modules ≡ length (seen p .modules))
+    (eμ : modes ≡ length (seen p .modes))
+    (et : tasks ≡ length (seen p .tasks))
+    (ei : count ≡ length (seen p .invocations)) where
+  modes-again : map modeSeen (take modes (p .modes)) ≡ seen p .modes
+  unfolding seen
+  modes-again = rw eμ (part-again modeSeen (countSeen p 4) (p .modes))
+
+  invocations-again : map invocationSeen (take count (p .invocations)) ≡ seen p .invocations
+  unfolding seen
+  invocations-again = rw ei (part-again invocationSeen (countSeen p 6) (p .invocations))
+
+  module _ (m : ℕ) (hm : m ≡ placeOr modules (firstBad (hasModeIn (map modeSeen (take modes (p .modes)))) (upTo modules))) where
+    module-place : m ≡ placeOr (length (seen p .modules)) (firstBad (rules.hasMode (seen p)) (upTo (length (seen p .modules))))
+    unfolding hasModeIn rules.hasMode
+    module-place = rw (← em) (hm ∙ rw modes-again)
+
+    pub unfit-module : m < modules → unfitOf (At (2 + m)) ≡ rules.rule5 (seen p)
+    unfolding rules.rule5
+    unfit-module h =
+        sym (then-refuse _ (at-met-upTo (rules.hasMode (seen p)) (length (seen p .modules)) 5 2 m module-place (rw em at h)))
+
+    module _ (k : ℕ) (all : modules ≤ m) (hk : k ≡ placeOr modes (firstBad rules.switchDivides (map modeSeen (take modes (p .modes))))) where
+      mode-place : k ≡ placeOr (length (seen p .modes)) (firstBad rules.switchDivides (seen p .modes))
+      mode-place = rw (← eμ) (hk ∙ rw modes-again)
+
+      modules-pass : at 5 2 (firstBad (rules.hasMode (seen p)) (upTo (length (seen p .modules)))) ≡ ok tt
+      modules-pass = at-end-upTo (rules.hasMode (seen p)) (length (seen p .modules)) 5 2 m module-place (rw em at all)
+
+      pub unfit-mode : k < modes → unfitOf (At (2 + modules + k)) ≡ rules.rule5 (seen p)
+      unfolding rules.rule5 rules.firstMode
+      unfit-mode h =
+          rw em
+          (sym (then-ok _ modules-pass
+          ∙ then-refuse _ (at-met rules.switchDivides (seen p .modes) rules.noMode 5 (rules.firstMode (seen p)) k mode-place (rw eμ at h))))
+
+      module _
+          (i a b : ℕ)
+          (every : modes ≤ k)
+          (hi : i ≡ min a b)
+          (ha : a ≡ placeOr (length (seen p .invocations)) (firstBad (fitsAt (seen p)) (upTo (length (seen p .invocations)))))
+          (hb : b ≡ placeOr count (firstBad (isFreshIn (map invocationSeen (take count (p .invocations)))) (upTo count))) where
+        repeat-place : b ≡ placeOr (length (seen p .invocations)) (firstBad (isFreshIn (seen p .invocations)) (upTo (length (seen p .invocations))))
+        repeat-place = rw (← ei) (hb ∙ rw invocations-again)
+
+        keeps-both : (x : ℕ) → rules.invocationKeeps (seen p) x ≡ (fitsAt (seen p) x && isFreshIn (seen p .invocations) x)
+        unfolding rules.invocationKeeps rules.isRepeat rules.theInvocation fitsAt isFreshIn
+        keeps-both x = refl
+
+        invocation-place : i ≡ placeOr (length (seen p .invocations)) (firstBad (rules.invocationKeeps (seen p)) (upTo (length (seen p .invocations))))
+        invocation-place =
+            let n = length (seen p .invocations) in
+            let two : placeOr n (firstBad (rules.invocationKeeps (seen p)) (upTo n))
+            ≡ min (placeOr n (firstBad (fitsAt (seen p)) (upTo n))) (placeOr n (firstBad (isFreshIn (seen p .invocations)) (upTo n)))
+            = rw (length-upTo n) at (first-of-two (fitsAt (seen p)) (isFreshIn (seen p .invocations)) (rules.invocationKeeps (seen p)) keeps-both (upTo n)) in
+            hi ∙ rw (ha, repeat-place) (sym two)
+
+        modes-pass : at 5 (rules.firstMode (seen p)) (firstBad rules.switchDivides (seen p .modes)) ≡ ok tt
+        modes-pass = at-end rules.switchDivides (seen p .modes) rules.noMode 5 (rules.firstMode (seen p)) k mode-place (rw eμ at every)
+
+        pub unfit-invocation : i < count → unfitOf (At (2 + modules + modes + tasks + i)) ≡ rules.rule5 (seen p)
+        unfolding rules.rule5 rules.firstInvocation rules.firstMode
+        unfit-invocation h =
+            rw (em, eμ, et)
+            (sym (then-ok _ modules-pass
+            ∙ then-ok _ modes-pass
+            ∙ at-met-upTo (rules.invocationKeeps (seen p)) (length (seen p .invocations)) 5 (rules.firstInvocation (seen p)) i invocation-place (rw ei at h)))
+
+        pub all-fit : count ≤ i → unfitOf Nothing ≡ rules.rule5 (seen p)
+        unfolding rules.rule5
+        all-fit h =
+            sym (then-ok _ modules-pass
+            ∙ then-ok _ modes-pass
+            ∙ at-end-upTo (rules.invocationKeeps (seen p)) (length (seen p .invocations)) 5 (rules.firstInvocation (seen p)) i invocation-place (rw ei at h))

@@ -1,0 +1,74 @@
+use borrow.Author.Needs.{needs}
+use native.Mathlib.Omega.{arith}
+use Rattle.planfits.proofs.LowestUnfit.{unfit-module, unfit-mode, unfit-invocation, all-fit}
+use Rattle.planfits.proofs.first_unfit.Statement.{statement}
+use Rattle.planfits.proofs.first_unfit.Tie as tie
+
+first-without-mode-requires : tie.Need-first-without-mode-requires
+first-without-mode-requires c κs = c .before .before .before .mode-count .ensures .1
+
+add-t12 : tie.Need-add-t12
+add-t12 c =
+    omega (arith, c .if1 .taken, c .before .before .before .before .before .before .module-count .ensures .1, c .before .before .before .before .before .mode-count .ensures .1, c .before .before .before .before .task-count .ensures .1, c .before .before .before .invocation-count .ensures .1)
+
+returns : tie.Need-returns
+returns c =
+    unfit-module (c .before .before .before .before .before .before .before .args .p) _ _ _ _ (c .before .before .before .before .before .before .module-count .ensures .0) (c .before .before .before .before .before .mode-count .ensures .0) (c .before .before .before .before .task-count .ensures .0) (c .before .before .before .invocation-count .ensures .0)
+    _ (c .before .first-without-mode .ensures) (c .if1 .taken)
+
+first-bad-switch-requires : tie.Need-first-bad-switch-requires
+first-bad-switch-requires c κs = c .before .before .before .before .before .mode-count .ensures .1
+
+add-t13 : tie.Need-add-t13
+add-t13 c =
+    omega (arith, c .before .before .before .before .before .before .before .before .module-count .ensures .1, c .before .before .before .before .before .before .before .mode-count .ensures .1, c .before .before .before .before .before .before .task-count .ensures .1, c .before .before .before .before .before .invocation-count .ensures .1)
+
+add-t14 : tie.Need-add-t14
+add-t14 c =
+    omega (arith, c .if2 .taken, c .before .before .before .before .before .before .before .before .module-count .ensures .1, c .before .before .before .before .before .before .before .mode-count .ensures .1, c .before .before .before .before .before .before .task-count .ensures .1, c .before .before .before .before .before .invocation-count .ensures .1)
+
+returns-2 : tie.Need-returns-2
+returns-2 c =
+    unfit-mode (c .before .before .before .before .before .before .before .before .before .args .p) _ _ _ _ (c .before .before .before .before .before .before .before .before .module-count .ensures .0) (c .before .before .before .before .before .before .before .mode-count .ensures .0) (c .before .before .before .before .before .before .task-count .ensures .0) (c .before .before .before .before .before .invocation-count .ensures .0)
+    _ (c .before .before .before .first-without-mode .ensures)
+    _ (c .before .before .if1 .left) (c .before .first-bad-switch .ensures) (c .if2 .taken)
+
+first-repeat-requires : tie.Need-first-repeat-requires
+first-repeat-requires c κs = c .before .before .before .before .before .before .before .invocation-count .ensures .1
+
+add-t17 : tie.Need-add-t17
+add-t17 c =
+    omega (arith, c .before .before .before .before .before .before .before .before .before .before .before .before .before .module-count .ensures .1, c .before .before .before .before .before .before .before .before .before .before .before .before .mode-count .ensures .1, c .before .before .before .before .before .before .before .before .before .before .before .task-count .ensures .1, c .before .before .before .before .before .before .before .before .before .before .invocation-count .ensures .1)
+
+add-t18 : tie.Need-add-t18
+add-t18 c =
+    omega (arith, c .before .before .before .before .before .before .before .before .before .before .before .before .before .module-count .ensures .1, c .before .before .before .before .before .before .before .before .before .before .before .before .mode-count .ensures .1, c .before .before .before .before .before .before .before .before .before .before .before .task-count .ensures .1, c .before .before .before .before .before .before .before .before .before .before .invocation-count .ensures .1)
+
+add-t19 : tie.Need-add-t19
+add-t19 c =
+    omega (arith, c .before .before .before .before .before .before .before .before .before .before .before .before .before .module-count .ensures .1, c .before .before .before .before .before .before .before .before .before .before .before .before .mode-count .ensures .1, c .before .before .before .before .before .before .before .before .before .before .before .task-count .ensures .1, c .before .before .before .before .before .before .before .before .before .before .invocation-count .ensures .1)
+
+add-t20 : tie.Need-add-t20
+add-t20 c =
+    omega (arith, c .if3 .taken, c .before .before .before .before .before .before .before .before .before .before .before .before .before .module-count .ensures .1, c .before .before .before .before .before .before .before .before .before .before .before .before .mode-count .ensures .1, c .before .before .before .before .before .before .before .before .before .before .before .task-count .ensures .1, c .before .before .before .before .before .before .before .before .before .before .invocation-count .ensures .1)
+
+returns-3 : tie.Need-returns-3
+returns-3 c =
+    unfit-invocation (c .before .before .before .before .before .before .before .before .before .before .before .before .before .before .args .p) _ _ _ _ (c .before .before .before .before .before .before .before .before .before .before .before .before .before .module-count .ensures .0) (c .before .before .before .before .before .before .before .before .before .before .before .before .mode-count .ensures .0) (c .before .before .before .before .before .before .before .before .before .before .before .task-count .ensures .0) (c .before .before .before .before .before .before .before .before .before .before .invocation-count .ensures .0)
+    _ (c .before .before .before .before .before .before .before .before .first-without-mode .ensures)
+    _ (c .before .before .before .before .before .before .before .if1 .left) (c .before .before .before .before .before .before .first-bad-switch .ensures)
+    _ _ _ (c .before .before .before .before .before .if2 .left) (c .before .lower .ensures) (c .before .before .before .first-misfit .ensures) (c .before .before .first-repeat .ensures) (c .if3 .taken)
+
+returns-4 : tie.Need-returns-4
+returns-4 c =
+    all-fit (c .before .before .before .before .before .before .before .before .before .before .before .before .before .before .args .p) _ _ _ _ (c .before .before .before .before .before .before .before .before .before .before .before .before .before .module-count .ensures .0) (c .before .before .before .before .before .before .before .before .before .before .before .before .mode-count .ensures .0) (c .before .before .before .before .before .before .before .before .before .before .before .task-count .ensures .0) (c .before .before .before .before .before .before .before .before .before .before .invocation-count .ensures .0)
+    _ (c .before .before .before .before .before .before .before .before .first-without-mode .ensures)
+    _ (c .before .before .before .before .before .before .before .if1 .left) (c .before .before .before .before .before .before .first-bad-switch .ensures)
+    _ _ _ (c .before .before .before .before .before .if2 .left) (c .before .lower .ensures) (c .before .before .before .first-misfit .ensures) (c .before .before .first-repeat .ensures) (c .if3 .left)
+
+pub first-unfit-spec : {M : Type 1} → statement M
+first-unfit-spec =
+    tie.close
+    (tie.spec (λ c κs. search needs) (λ c κs. search needs) (λ c κs. search needs) (λ c κs. search needs) first-without-mode-requires
+    add-t12 returns first-bad-switch-requires add-t13 add-t14 returns-2 (λ c κs. search needs) first-repeat-requires
+    (λ c κs. search needs) add-t17 add-t18 add-t19 add-t20 returns-3 returns-4)

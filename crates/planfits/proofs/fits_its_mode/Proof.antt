@@ -1,0 +1,16 @@
+use borrow.Author.Needs.{needs}
+use Rattle.plan.specs.Memory.{modeSeen, taskSeen}
+use Rattle.planfits.specs.Fits.{fitsThese}
+use Rattle.planfits.proofs.fits_its_mode.Statement.{statement}
+use Rattle.planfits.proofs.fits_its_mode.Tie as tie
+
+returns : tie.Need-returns
+unfolding fitsThese modeSeen taskSeen
+returns c =
+    rw (c .both3 .ensures, c .before .both2 .ensures, c .before .before .before .before .before .both .ensures, c .before .before .before .before .before .before .divides2 .ensures, c .before .before .before .before .before .before .before .divides .ensures, c .before .before .before .before .before .before .before .before .quotient .ensures)
+
+pub fits-its-mode-spec : {M : Type 1} → statement M
+fits-its-mode-spec =
+    tie.close
+    (tie.spec (λ c κs. search needs) (λ c κs. search needs) (λ c κs. search needs) (λ c κs. search needs) (λ c κs. search needs)
+    (λ c κs. search needs) returns)

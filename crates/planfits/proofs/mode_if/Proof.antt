@@ -1,0 +1,13 @@
+use Rattle.plan.specs.Memory.{modeLaid}
+use Rattle.planfits.proofs.mode_if.Statement.{statement}
+use Rattle.planfits.proofs.mode_if.Tie as tie
+
+returns : tie.Need-returns
+returns c = rw (c .if1 .taken)
+
+returns-2 : tie.Need-returns-2
+unfolding modeLaid
+returns-2 c = rw (c .if1 .left)
+
+pub mode-if-spec : {M : Type 1} → statement M
+mode-if-spec = tie.close (tie.spec returns returns-2)

@@ -1,0 +1,3 @@
+pub mod Gathering
+pub mod SoFar
+pub mod Stored
