@@ -6,7 +6,7 @@ ghost use Rattle.rules.proofs.PlanKept.{PlanKept};
 ghost use Rattle.plan.specs.Memory.{seen};
 ghost use Rattle.bus.specs.Senders.{byNumber};
 ghost use Rattle.beginning.specs.Keeping.{controlsOf, keptFrom, modesOf, modulesOf, runsOf, tasksOf};
-use bus::senders::Senders;
+use bus::Senders;
 use plan::Plan;
 use plan::look::invocation_at;
 use plan::look::invocation_count;

@@ -6,7 +6,7 @@ use Prim.Native.Nat.{ℕ}
 use Rattle.laws.specs.Lists.{keep, any, tab, upTo}
 use Rattle.rules.specs.Plan.{Plan, Invocation, Connection, theTask}
 use Rattle.rules.specs.Frames.{invokes, leaves, isBusTask, isSending, controlPayload, livesIn, standsOn}
-use Rattle.bus.specs.declared.senders.Senders.{Senders}
+use Rattle.bus.specs.declared.Senders.{Senders}
 
 unfoldable pub byNumber : {A : Type 0} → (ℕ → A) → List A
 byNumber f = tab f 0 256

@@ -1,4 +1,3 @@
-// The cycle of the bus: the runs of bus tasks, the bus period, the control rows, and refusals 6 to 8, 10 and 11.
-pub mod control;
+// The cycle of the bus: the runs of bus tasks, the bus period and the grid of mode changes.
 pub mod period;
 pub mod runs;

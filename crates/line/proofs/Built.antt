@@ -12,9 +12,9 @@ use Rattle.laws.proofs.Lists.{length-tab, getD-tab, length-padTo, getD-padTo}
 use Rattle.rules.specs.Plan.{Plan}
 use Rattle.rules.specs.Frames.{noControlRow, layoutOf, controlRows, controlEnd, busPeriod, gapTime}
 use Rattle.rules.specs.Frames as rules
-use Rattle.cycle.specs.declared.control.ControlRow.{ControlRow}
-use Rattle.cycle.specs.declared.control.Control.{Control}
-use Rattle.cycle.specs.Control.{rowLaid, rowsLaid, controlLaid}
+use Rattle.control.specs.declared.ControlRow.{ControlRow}
+use Rattle.control.specs.declared.Control.{Control}
+use Rattle.control.specs.Control.{rowLaid, rowsLaid, controlLaid}
 use Rattle.frames.specs.declared.laid.Frames.{Frames}
 use Rattle.frames.specs.Laid.{framesLaid, column}
 use Rattle.line.specs.declared.Line.{Line}

@@ -5,8 +5,8 @@ use lib.Dec.{leb}
 use lib.ListN.{getD}
 use Prim.Native.Nat.{ℕ}
 use Rattle.rules.specs.Plan.{Plan, theTask}
-use Rattle.cycle.specs.declared.control.Control.{Control}
-use Rattle.cycle.specs.Control.{rowLaid}
+use Rattle.control.specs.declared.Control.{Control}
+use Rattle.control.specs.Control.{rowLaid}
 use Rattle.rules.specs.Frames.{noControlRow}
 
 -- the mark of a number

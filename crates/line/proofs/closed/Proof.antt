@@ -4,7 +4,7 @@ use borrow.Author.Tests.{not-true, not-false}
 use Rattle.rules.specs.Frames.{layoutOf}
 use Rattle.plan.specs.Memory.{seen, countSeen, busSeen}
 use Rattle.answers.specs.declared.Refusal.the-variants.{PayloadTooLarge, ControlTooLong}
-use Rattle.bus.specs.declared.senders.Senders.{Senders}
+use Rattle.bus.specs.declared.Senders.{Senders}
 use Rattle.bus.specs.Senders.{sendersOf}
 use Rattle.line.specs.declared.Line.{Line}
 use Rattle.line.specs.declared.Answer.the-variants.{Sound}

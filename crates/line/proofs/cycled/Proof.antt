@@ -3,7 +3,7 @@ use borrow.Author.Tests.{not-true, not-false}
 use Rattle.laws.proofs.Divisors.{divides-true}
 use Rattle.plan.specs.Memory.{seen, busSeen}
 use Rattle.answers.specs.declared.Refusal.the-variants.{NoBusTask, PeriodDoesNotDivide, PeriodOffResolution}
-use Rattle.bus.specs.declared.senders.Senders.{Senders}
+use Rattle.bus.specs.declared.Senders.{Senders}
 use Rattle.bus.specs.Senders.{sendersOf}
 use Rattle.line.proofs.Ways.{lays-refused}
 use Rattle.line.proofs.Cycle.{some-is, grid-positive, period-is, divides-seven, divides-eight, six, seven, eight, past-eight}

@@ -1,0 +1,14 @@
+use borrow.Author.Needs.{needs}
+use Rattle.bus.specs.Senders.{sendersOf}
+use Rattle.bus.proofs.Senders.of.Statement.{statement}
+use Rattle.bus.proofs.Senders.of.Tie as tie
+
+returns : tie.Need-returns
+unfolding sendersOf
+returns c = rw (c .before .before .before .before .before .before .bus-tasks .ensures, c .before .before .before .sending-modules .ensures, c .control-payloads .ensures)
+
+pub of-spec : {M : Type 1} → statement M
+of-spec =
+    tie.close
+    (tie.spec (λ c κs. search needs) (λ c κs. search needs) (λ c κs. search needs) (λ c κs. search needs) (λ c κs. search needs)
+    (λ c κs. search needs) (λ c κs. search needs) returns)

@@ -1,0 +1,97 @@
+// The control frames: one for each sending node, in node order, from 0 on, a gap between them.
+ghost use mathlib.Core.Path.{_≡_};
+ghost use Prim.Native.Nat.{_≤_, _<_, _^_};
+ghost use Rattle.plan.specs.Memory.{seen};
+ghost use Rattle.rules.specs.Frames as rules;
+ghost use Rattle.bus.specs.Senders.{byNumber};
+ghost use Rattle.control.specs.Control.{rowLaid, controlLaid};
+use plan::Plan;
+use times::Span;
+use times::gap_time;
+use times::sending_time;
+use units::ByteCount;
+use units::NodeNo;
+use units::Ticks;
+
+pub struct ControlRow {
+    pub node: NodeNo,
+    pub start: Ticks,
+    pub stop: Ticks,
+}
+
+// As many rows as there are sending nodes, then zero rows.
+pub struct Control {
+    pub count: usize,
+    pub rows: [ControlRow; NodeNo::MOST],
+}
+
+// How long the control frame of a payload takes.
+fn control_time(p: Plan, payload: u8) -> u64
+    ensures { λ r. ⌜ (r ≡ rules.sendingTime (seen p .bus) payload) × (r < 2 ^ 47) ⌝ }
+{
+    let bus = p.bus;
+    let time = sending_time(bus, ByteCount(payload as u32));
+    time.0
+}
+
+// C, the last control stop plus gap.
+pub fn control_end(p: Plan, payloads: [u8; 256]) -> Span
+    requires { ⌜ seen p .nodes ≤ 8 ⌝ }
+    requires { ⌜ payloads ≡ byNumber (rules.controlPayload (seen p)) ⌝ }
+    ensures { λ r. ⌜ r .0 ≡ rules.controlEnd (seen p) ⌝ }
+{
+    let bus = p.bus;
+    let gap = gap_time(bus).0;
+    let nodes = p.counts[2];
+    let mut next: u64 = 0;
+    let mut stop: u64 = 0;
+    let mut n = 0;
+    while n < nodes {
+        if payloads[n] > 0 {
+            stop = next + control_time(p, payloads[n]);
+            next = stop + gap;
+        }
+        n += 1;
+    }
+    Span(stop + gap)
+}
+
+fn row(node: u8, start: u32, stop: u32) -> ControlRow
+    ensures { λ r. ⌜ r ≡ rowLaid (record { node = node; start = start; stop = stop }) ⌝ }
+{
+    ControlRow {
+        node: NodeNo(node),
+        start: Ticks(start),
+        stop: Ticks(stop),
+    }
+}
+
+// Where C fits, so does each stop.
+pub fn control_rows(p: Plan, payloads: [u8; 256]) -> Control
+    requires { ⌜ seen p .nodes ≤ 8 ⌝ }
+    requires { ⌜ payloads ≡ byNumber (rules.controlPayload (seen p)) ⌝ }
+    requires { ⌜ rules.controlEnd (seen p) < 2 ^ 32 ⌝ }
+    ensures { λ r. ⌜ r ≡ controlLaid (rules.controlRows (seen p)) ⌝ }
+{
+    let bus = p.bus;
+    let gap = gap_time(bus).0;
+    let nodes = p.counts[2];
+    let none = row(0, 0, 0);
+    let mut rows = [none; NodeNo::MOST];
+    let mut count = 0;
+    let mut next: u64 = 0;
+    let mut n = 0;
+    while n < nodes {
+        if payloads[n] > 0 {
+            let stop = next + control_time(p, payloads[n]);
+            rows[count] = row(n as u8, next as u32, stop as u32);
+            count += 1;
+            next = stop + gap;
+        }
+        n += 1;
+    }
+    Control {
+        count: count,
+        rows: rows,
+    }
+}
