@@ -15,8 +15,7 @@ use Rattle.rules.specs.Plan.{Plan}
 use Rattle.rules.specs.Frames.{ControlRow, noControlRow, sendingTime, gapTime, controlPayload, isSendingNode, sendingNodes, controlFrom, controlRows, controlEnd}
 use Rattle.bus.specs.Senders.{byNumber}
 use Rattle.bus.proofs.Tables.{at-number}
-use Rattle.control.specs.declared.ControlRow as Laid
-use Rattle.control.specs.Control.{rowLaid, rowsLaid}
+use Rattle.control.specs.Control.{nodeOf, startOf, stopOf, column}
 
 module _ (q : Plan) where
   -- how long a node's control frame takes
@@ -143,12 +142,11 @@ module _ (q : Plan) where
     unfolding timeOf
     time-is h = h ∙ ap (sendingTime (q .bus)) here
 
--- the rows laid out, one more
-pub rows-snoc : (rs : List ControlRow) (r : ControlRow) → rowsLaid (rs ++ (r ∷ [])) ≡ set (rowsLaid rs) (length rs) (rowLaid r)
-unfolding rowsLaid
-rows-snoc rs r =
-    ap (padTo 8 (rowLaid noControlRow)) (map-snoc rowLaid rs r) ∙ padTo-snoc 8 (rowLaid noControlRow) (map rowLaid rs) (rowLaid r)
-    ∙ ap (λ (n : ℕ). set (padTo 8 (rowLaid noControlRow) (map rowLaid rs)) n (rowLaid r)) (length-map rs rowLaid)
+-- one number of each row, of one row more
+column-snoc : (f : ControlRow → ℕ) (rs : List ControlRow) (r : ControlRow) → column f (rs ++ (r ∷ [])) ≡ set (column f rs) (length rs) (f r)
+column-snoc f rs r =
+    ap (padTo 8 0) (map-snoc f rs r) ∙ padTo-snoc 8 0 (map f rs) (f r)
+    ∙ ap (λ (n : ℕ). set (padTo 8 0 (map f rs)) n (f r)) (length-map rs f)
 
 module _ (q : Plan) where
   -- no more rows than nodes
@@ -161,12 +159,15 @@ module _ (q : Plan) where
   unfolding rowsTo nodesTo
   rows-few k = rw (from-length 0 (nodesTo q k)) (rw (length-upTo k) at (length-keep (isSendingNode q) (upTo k)))
 
-  pub record Shown (k count next : ℕ) (rows : List Laid.ControlRow) : Type 0 where
+  -- the rows of the nodes below k stand in the arrays
+  pub record Shown (k count next : ℕ) (nodes starts stops : List ℕ) : Type 0 where
     pub counted : count ≡ length (rowsTo q k)
     pub reached : next ≡ nextAt q k
-    pub shown : rows ≡ rowsLaid (rowsTo q k)
+    pub noded : nodes ≡ column nodeOf (rowsTo q k)
+    pub started : starts ≡ column startOf (rowsTo q k)
+    pub stopped : stops ≡ column stopOf (rowsTo q k)
 
-  module _ (k count next : ℕ) (rows : List Laid.ControlRow) (h : Shown k count next rows) where
+  module _ {k count next : ℕ} {nodes starts stops : List ℕ} (h : Shown k count next nodes starts stops) where
     pub shown-few : count ≤ k
     shown-few = omega (arith, h .counted, rows-few k)
 
@@ -174,23 +175,31 @@ module _ (q : Plan) where
     pub shown-fits : isSendingNode q k ≡ true → k < q .nodes → next + timeOf q k ≤ controlEnd q
     shown-fits y w = let b : nextAt q (k + 1) ≤ controlEnd q = next-below q (k + 1) (omega arith) in omega (arith, h .reached, next-yes q k y)
 
-    pub shown-more : {stop next′ : ℕ} → isSendingNode q k ≡ true → stop ≡ next + timeOf q k → next′ ≡ stop + gapTime (q .bus) → Shown (k + 1) (count + 1) next′ (set rows count (rowLaid (record { node = k; start = next; stop = stop })))
+    pub shown-more : {stop next′ : ℕ} → isSendingNode q k ≡ true → stop ≡ next + timeOf q k → next′ ≡ stop + gapTime (q .bus)
+        → Shown (k + 1) (count + 1) next′ (set nodes count k) (set starts count next) (set stops count stop)
     unfolding rowOf
     shown-more y s n =
         record {
           counted = rw (rows-yes q k y) (ap (λ (m : ℕ). m + 1) (h .counted) ∙ sym (length-snoc (rowsTo q k) (rowOf q (nextAt q k) k)));
           reached = n ∙ rw (s, h .reached) (sym (next-yes q k y));
-          shown = rw (rows-yes q k y, s, h .reached, h .counted, h .shown) (sym (rows-snoc (rowsTo q k) (rowOf q (nextAt q k) k)));
+          noded = rw (rows-yes q k y, h .counted, h .noded) (sym (column-snoc nodeOf (rowsTo q k) (rowOf q (nextAt q k) k)));
+          started =
+              rw (rows-yes q k y, h .reached, h .counted, h .started) (sym (column-snoc startOf (rowsTo q k) (rowOf q (nextAt q k) k)));
+          stopped =
+              rw (rows-yes q k y, s, h .reached, h .counted, h .stopped) (sym (column-snoc stopOf (rowsTo q k) (rowOf q (nextAt q k) k)));
         }
 
-    pub shown-kept : isSendingNode q k ≡ false → Shown (k + 1) count next rows
+    pub shown-kept : isSendingNode q k ≡ false → Shown (k + 1) count next nodes starts stops
     shown-kept y =
         record {
           counted = rw (rows-no q k y) (h .counted);
           reached = rw (next-no q k y) (h .reached);
-          shown = rw (rows-no q k y) (h .shown);
+          noded = rw (rows-no q k y) (h .noded);
+          started = rw (rows-no q k y) (h .started);
+          stopped = rw (rows-no q k y) (h .stopped);
         }
 
-  pub shown-none : {r : Laid.ControlRow} → r ≡ rowLaid noControlRow → Shown 0 0 0 (replicate 8 r)
-  unfolding rowsTo nextAt nextStart nodesTo controlFrom rowsLaid
-  shown-none e = record { counted = refl; reached = refl; shown = rw e (sym (padTo-none 8 (rowLaid noControlRow))) }
+  pub shown-none : Shown 0 0 0 (replicate 8 0) (replicate 8 0) (replicate 8 0)
+  unfolding rowsTo nextAt nextStart nodesTo controlFrom
+  shown-none =
+      record { counted = refl; reached = refl; noded = sym (padTo-none 8 0); started = sym (padTo-none 8 0); stopped = sym (padTo-none 8 0) }

@@ -1,17 +1,24 @@
--- The control rows in memory.
+-- The control rows in memory: an array for each number of a row.
 use mathlib.Core.List.{List, map}
 use lib.ListN.{length}
+use Prim.Native.Nat.{ℕ}
 use Rattle.laws.specs.Loops.{padTo}
-use Rattle.rules.specs.Frames as rules
-use Rattle.control.specs.declared.ControlRow.{ControlRow}
+use Rattle.rules.specs.Frames.{ControlRow}
 use Rattle.control.specs.declared.Control.{Control}
 
-unfoldable pub rowLaid : rules.ControlRow → ControlRow
-rowLaid r = record { node = record { 0 = r .node }; start = record { 0 = r .start }; stop = record { 0 = r .stop } }
+abbrev pub nodeOf : ControlRow → ℕ
+nodeOf r = r .node
 
--- as many rows as there are, zero rows behind
-unfoldable pub rowsLaid : List rules.ControlRow → List ControlRow
-rowsLaid rs = padTo 8 (rowLaid rules.noControlRow) (map rowLaid rs)
+abbrev pub startOf : ControlRow → ℕ
+startOf r = r .start
 
-unfoldable pub controlLaid : List rules.ControlRow → Control
-controlLaid rs = record { count = length rs; rows = rowsLaid rs }
+abbrev pub stopOf : ControlRow → ℕ
+stopOf r = r .stop
+
+-- one number of each row, zeros behind
+abbrev pub column : (ControlRow → ℕ) → List ControlRow → List ℕ
+column f rs = padTo 8 0 (map f rs)
+
+unfoldable pub controlLaid : List ControlRow → Control
+controlLaid rs =
+    record { count = length rs; nodes = column nodeOf rs; starts = column startOf rs; stops = column stopOf rs }

@@ -4,25 +4,20 @@ ghost use Prim.Native.Nat.{_≤_, _<_, _^_};
 ghost use Rattle.plan.specs.Memory.{seen};
 ghost use Rattle.rules.specs.Frames as rules;
 ghost use Rattle.bus.specs.Senders.{byNumber};
-ghost use Rattle.control.specs.Control.{rowLaid, controlLaid};
+ghost use Rattle.control.specs.Control.{controlLaid};
 use plan::Plan;
 use times::Span;
 use times::gap_time;
 use times::sending_time;
 use units::ByteCount;
 use units::NodeNo;
-use units::Ticks;
 
-pub struct ControlRow {
-    pub node: NodeNo,
-    pub start: Ticks,
-    pub stop: Ticks,
-}
-
-// As many rows as there are sending nodes, then zero rows.
+// As many rows as there are sending nodes, then zeros.
 pub struct Control {
     pub count: usize,
-    pub rows: [ControlRow; NodeNo::MOST],
+    pub nodes: [u8; NodeNo::MOST],
+    pub starts: [u32; NodeNo::MOST],
+    pub stops: [u32; NodeNo::MOST],
 }
 
 // How long the control frame of a payload takes.
@@ -56,16 +51,6 @@ pub fn control_end(p: Plan, payloads: [u8; 256]) -> Span
     Span(stop + gap)
 }
 
-fn row(node: u8, start: u32, stop: u32) -> ControlRow
-    ensures { λ r. ⌜ r ≡ rowLaid (record { node = node; start = start; stop = stop }) ⌝ }
-{
-    ControlRow {
-        node: NodeNo(node),
-        start: Ticks(start),
-        stop: Ticks(stop),
-    }
-}
-
 // Where C fits, so does each stop.
 pub fn control_rows(p: Plan, payloads: [u8; 256]) -> Control
     requires { ⌜ seen p .nodes ≤ 8 ⌝ }
@@ -75,16 +60,19 @@ pub fn control_rows(p: Plan, payloads: [u8; 256]) -> Control
 {
     let bus = p.bus;
     let gap = gap_time(bus).0;
-    let nodes = p.counts[2];
-    let none = row(0, 0, 0);
-    let mut rows = [none; NodeNo::MOST];
+    let most = p.counts[2];
+    let mut nodes = [0; NodeNo::MOST];
+    let mut starts = [0; NodeNo::MOST];
+    let mut stops = [0; NodeNo::MOST];
     let mut count = 0;
     let mut next: u64 = 0;
     let mut n = 0;
-    while n < nodes {
+    while n < most {
         if payloads[n] > 0 {
             let stop = next + control_time(p, payloads[n]);
-            rows[count] = row(n as u8, next as u32, stop as u32);
+            nodes[count] = n as u8;
+            starts[count] = next as u32;
+            stops[count] = stop as u32;
             count += 1;
             next = stop + gap;
         }
@@ -92,6 +80,8 @@ pub fn control_rows(p: Plan, payloads: [u8; 256]) -> Control
     }
     Control {
         count: count,
-        rows: rows,
+        nodes: nodes,
+        starts: starts,
+        stops: stops,
     }
 }

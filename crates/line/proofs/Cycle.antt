@@ -1,16 +1,15 @@
 -- Refusals 6 to 8.
-use mathlib.Core.Path.{_≡_, refl, sym, ap, _∙_, subst}
+use mathlib.Core.Path.{_≡_, refl, sym, ap, _∙_}
 use mathlib.Core.Bool.{Bool, true, false}
 use mathlib.Core.List.{List}
 use native.Mathlib.Nat.{zero-add, pos-of-dvd-of-pos}
 use native.Mathlib.Omega.{arith}
-use lib.ListN.{length, getD}
-use Prim.Native.Nat.{ℕ, zero, suc, _+_, _≤_, _<_, _∣_}
-use Rattle.laws.specs.Res.{Res, ok, refuse}
-use Rattle.laws.specs.Lists.{any, all, tab, upTo}
+use lib.ListN.{length}
+use Prim.Native.Nat.{ℕ, zero, suc, _+_, _≤_, _<_}
+use Rattle.laws.specs.Res.{refuse}
+use Rattle.laws.specs.Lists.{any, upTo}
 use Rattle.laws.specs.Numbers.{divides}
 use Rattle.laws.proofs.Lists.{any-upTo-more, getD-tab}
-use Rattle.laws.proofs.Divisors.{divides-true}
 use Rattle.laws.proofs.Members.{all-getD}
 use Rattle.rules.specs.Plan.{Plan, noMode, theMode}
 use Rattle.rules.specs.Frames.{isBusTask, someBusTask, busPeriod, busRuns, periodOfRuns, switchGrid, layout}

@@ -17,7 +17,8 @@ use Rattle.rules.specs.LatestRelease.{noFrame}
 use Rattle.rules.proofs.PlanKept.{PlanKept, readable-kept}
 use Rattle.rules.proofs.LaidOut.{LaidOut, laid-out, frames-kept, control-count}
 use Rattle.rules.proofs.FramesOf.{Before, plan-frames}
-use Rattle.line.specs.Line.{lineOf, taskTime, nodeOf, startOf, stopOf, taskOf, releaseOf, deadlineOf}
+use Rattle.control.specs.Control.{nodeOf, startOf, stopOf}
+use Rattle.line.specs.Line.{lineOf, taskTime, taskOf, releaseOf, deadlineOf}
 
 -- What holds of a layout that comes from a plan that was read.
 pub record Drawn (l : Layout) : Type 0 where

@@ -1,12 +1,11 @@
 -- The frames of a plan that passed refusals 6 to 8, and refusal 9.
-use mathlib.Core.Path.{_≡_, refl, sym, ap, _∙_, subst}
+use mathlib.Core.Path.{_≡_, ap, _∙_}
 use mathlib.Core.Bool.{true}
 use native.Mathlib.Omega.{arith}
-use lib.Dec.{leb}
 use lib.ListN.{length}
 use borrow.Author.Tests.{le-leb, lt-leb}
 use Prim.Native.Nat.{ℕ, _≤_, _<_, _∣_, min}
-use Rattle.laws.specs.Res.{Res, ok, refuse}
+use Rattle.laws.specs.Res.{refuse}
 use Rattle.laws.specs.Lists.{all}
 use Rattle.rules.specs.Plan.{Plan}
 use Rattle.rules.specs.Frames.{someBusTask, busPeriod, switchGrid, busRuns, framesOf, messages, frames, layout, mostFrames}

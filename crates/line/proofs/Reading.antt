@@ -1,14 +1,14 @@
 -- A plan that was read is laid out as the rules lay it out.
 -- Assumes nothing.
-use mathlib.Core.Path.{_≡_, refl, sym, ap, _∙_}
+use mathlib.Core.Path.{_≡_, refl, sym}
 use mathlib.Core.List.{List}
 use Prim.Native.Nat.{ℕ}
 use Rattle.laws.specs.Res.{Res, ok, refuse}
 use Rattle.laws.proofs.Res.{refuse≢ok, refuse-number, refuse-place}
 use Rattle.rules.specs.Plan.{Plan, readPlan}
-use Rattle.rules.specs.Frames.{Layout, layout}
+use Rattle.rules.specs.Frames.{layout}
 use Rattle.rules.proofs.PlanKept.{PlanKept, readable-kept}
-use Rattle.plan.specs.Memory.{layOut, seen}
+use Rattle.plan.specs.Memory.{seen}
 use Rattle.plan.proofs.Laid.{read-seen}
 use Rattle.answers.specs.declared.Refusal.{Refusal}
 use Rattle.answers.specs.Refusals.{said, numberOf, placeOf}

@@ -1,15 +1,13 @@
 -- Scans over numbers from 0 on, and arrays of eight places filled.
-use mathlib.Core.Path.{_≡_, refl, sym, ap, _∙_}
-use mathlib.Core.Bool.{Bool, true, false, cond, _&&_, _||_}
+use mathlib.Core.Path.{_≡_, sym, ap, _∙_}
+use mathlib.Core.Bool.{Bool, true, false, cond}
 use mathlib.Core.List.{List}
 use native.Mathlib.Omega.{arith}
 use lib.Dec.{leb}
-use lib.ListN.{length, getD, replicate}
+use lib.ListN.{getD}
 use borrow.Author.Tests.{le-leb, lt-leb}
 use Prim.Native.Nat.{ℕ, _+_, _≤_, _<_}
-use Rattle.laws.specs.Lists.{any, all, tab, upTo}
-use Rattle.laws.specs.Loops.{stores}
-use Rattle.laws.proofs.Loops.{stores-all}
+use Rattle.laws.specs.Lists.{any, all, upTo}
 use Rattle.laws.proofs.Lists.{any-upTo-more, any-upTo-hit, all-upTo-more, all-upTo-failed}
 use Rattle.line.specs.Tests.{flagAt, messageKeeps, payloadKeeps}
 use Rattle.rules.specs.Plan.{Plan, theTask}
@@ -41,11 +39,6 @@ module _ (payloads : List ℕ) (most n wide : ℕ) (e : wide ≡ getD payloads n
   pub payload-fits : wide ≤ most → payloadKeeps payloads most n ≡ true
   unfolding payloadKeeps
   payload-fits h = let q : getD payloads n 0 ≤ most = omega arith in le-leb _ _ q
-
-pub eight-stored : (a : List ℕ) (f : ℕ → ℕ) (k : ℕ) → a ≡ stores (replicate 8 0) f k → k ≤ 8 → 8 ≤ k → a ≡ tab f 0 8
-eight-stored a f k e h w =
-    let q : k ≡ 8 = omega arith in
-    e ∙ ap (stores (replicate 8 0) f) q ∙ stores-all (replicate 8 0) f
 
 pub message-test : (tasks : List Bool) (p : Plan) (t size : ℕ) (r : Bool) → size ≡ theTask p t .size → r ≡ cond (getD tasks t false) (leb size (p .bus .most)) true
     → messageKeeps tasks p t ≡ r

@@ -1,7 +1,7 @@
 -- The times of a plan that was read are small.
-use mathlib.Core.Path.{_≡_, refl, sym, ap, _∙_}
+use mathlib.Core.Path.{_≡_, sym, ap, _∙_}
 use mathlib.Core.List.{List}
-use native.Mathlib.Nat.{max-le, le-trans, le-mul-of-pos-right}
+use native.Mathlib.Nat.{max-le, le-mul-of-pos-right}
 use native.Mathlib.Omega.{arith}
 use lib.Dec.{lit≤}
 use lib.ListN.{length, getD, replicate, List·getD-eq-default}
@@ -14,7 +14,7 @@ use Rattle.laws.proofs.Divisors.{ceil-least, up-tight}
 use Rattle.laws.proofs.Members.{all-getD-or, all-weaker}
 use Rattle.rules.specs.Plan.{Bus, Plan, Task, noTask, theTask}
 use Rattle.rules.specs.Frames.{ticksOfBits, sendingTime, gapTime}
-use Rattle.rules.proofs.PlanKept.{PlanKept, BusKept, TaskKept}
+use Rattle.rules.proofs.PlanKept.{PlanKept, BusKept}
 use Rattle.plan.specs.declared.Plan as plan
 use Rattle.plan.specs.Memory.{seen, taskSeen, taskLaid}
 use Rattle.bus.proofs.Things.{task-here}

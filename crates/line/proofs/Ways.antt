@@ -4,23 +4,23 @@ use mathlib.Core.Bool.{Bool, true, false, cond, _&&_}
 use mathlib.Core.List.{List}
 use native.Mathlib.Nat.{zero-add}
 use native.Mathlib.Omega.{arith}
-use lib.Dec.{leb, ltb, leb·zero}
-use lib.ListN.{length, getD}
+use lib.Dec.{leb, ltb}
+use lib.ListN.{length}
 use borrow.Author.Tests.{le-leb, lt-leb, ltb-false}
 use Prim.Native.Nat.{ℕ, zero, suc, _+_, _≤_, _<_}
 use Rattle.laws.specs.Res.{Res, ok, refuse}
-use Rattle.laws.specs.Lists.{keep, all, tab, upTo}
+use Rattle.laws.specs.Lists.{all, upTo}
 use Rattle.laws.proofs.Lists.{all-keep, all-upTo-more, getD-tab}
-use Rattle.rules.specs.Plan.{Plan, theTask}
+use Rattle.rules.specs.Plan.{Plan}
 use Rattle.rules.specs.Frames.{Layout, layout, layoutOf, isBusTask, busTasks, messageFits, controlFits, controlPayload, isSendingNode, sendingNodes, payloadsFit, controlEnd, busPeriod}
 use Rattle.answers.specs.declared.Refusal.{Refusal}
 use Rattle.answers.specs.Refusals.{said}
 use Rattle.bus.specs.Senders.{byNumber}
 use Rattle.line.specs.declared.Answer.the-variants.{Sound, Refused}
 use Rattle.line.specs.declared.Laid.{Laid}
-use Rattle.line.specs.Line.{noLine, lineOf, lineFor}
+use Rattle.line.specs.Line.{noLine, lineOf}
 use Rattle.line.specs.Tests.{flagAt, messageKeeps, payloadKeeps}
-use Rattle.line.specs.Laying.{Lays, heard, verdict, closing}
+use Rattle.line.specs.Laying.{Lays, closing}
 
 pub lays-refused : (x : Refusal) (r : Laid) (rule : Res Layout) → r ≡ record { answer = Refused x; line = noLine } → rule ≡ said x → Lays r rule
 lays-refused x r rule e q = record { answered = rw (e, q); left = rw (e, q) }

@@ -1,26 +1,18 @@
 -- How a layout stands in arrays.
-use mathlib.Core.List.{List, [], _∷_, map}
+use mathlib.Core.List.{map}
 use lib.ListN.{length, replicate}
 use Prim.Native.Nat.{ℕ}
 use Rattle.laws.specs.Res.{Res, ok, refuse}
 use Rattle.laws.specs.Lists.{tab}
 use Rattle.laws.specs.Loops.{padTo}
 use Rattle.rules.specs.Plan.{Plan, theTask}
-use Rattle.rules.specs.Frames.{Frame, ControlRow, Layout, sendingTime, gapTime}
+use Rattle.rules.specs.Frames.{Frame, Layout, sendingTime, gapTime}
+use Rattle.control.specs.Control.{nodeOf, startOf, stopOf, column}
 use Rattle.line.specs.declared.Line.{Line}
 
 -- the sending time of a task's message
 unfoldable pub taskTime : Plan → ℕ → ℕ
 taskTime p t = sendingTime (p .bus) (theTask p t .size)
-
-abbrev pub nodeOf : ControlRow → ℕ
-nodeOf r = r .node
-
-abbrev pub startOf : ControlRow → ℕ
-startOf r = r .start
-
-abbrev pub stopOf : ControlRow → ℕ
-stopOf r = r .stop
 
 abbrev pub taskOf : Frame → ℕ
 taskOf f = f .task
@@ -41,9 +33,9 @@ lineOf l =
       floor = record { 0 = l .afterControl };
       time = tab (taskTime (l .plan)) 0 32;
       controls = length (l .control);
-      nodes = padTo 8 0 (map nodeOf (l .control));
-      starts = padTo 8 0 (map startOf (l .control));
-      stops = padTo 8 0 (map stopOf (l .control));
+      nodes = column nodeOf (l .control);
+      starts = column startOf (l .control);
+      stops = column stopOf (l .control);
       frames = length (l .frames);
       task = padTo 256 0 (map taskOf (l .frames));
       release = padTo 256 0 (map releaseOf (l .frames));

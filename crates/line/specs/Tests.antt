@@ -1,13 +1,10 @@
--- The tests of refusals 6 and 10 on tables by number, and a control row's numbers.
+-- The tests of refusals 6 and 10 on tables by number.
 use mathlib.Core.Bool.{Bool, true, false, cond}
 use mathlib.Core.List.{List}
 use lib.Dec.{leb}
 use lib.ListN.{getD}
 use Prim.Native.Nat.{ℕ}
 use Rattle.rules.specs.Plan.{Plan, theTask}
-use Rattle.control.specs.declared.Control.{Control}
-use Rattle.control.specs.Control.{rowLaid}
-use Rattle.rules.specs.Frames.{noControlRow}
 
 -- the mark of a number
 unfoldable pub flagAt : List Bool → ℕ → Bool
@@ -20,13 +17,3 @@ messageKeeps flags p t = cond (flagAt flags t) (leb (theTask p t .size) (p .bus 
 -- the control payload of a node fits
 unfoldable pub payloadKeeps : List ℕ → ℕ → ℕ → Bool
 payloadKeeps payloads most n = leb (getD payloads n 0) most
-
--- the numbers of control row k
-unfoldable pub nodeIn : Control → ℕ → ℕ
-nodeIn c k = getD (c .rows) k (rowLaid noControlRow) .node .0
-
-unfoldable pub startIn : Control → ℕ → ℕ
-startIn c k = getD (c .rows) k (rowLaid noControlRow) .start .0
-
-unfoldable pub stopIn : Control → ℕ → ℕ
-stopIn c k = getD (c .rows) k (rowLaid noControlRow) .stop .0

@@ -17,7 +17,7 @@ ghost use Rattle.frames.specs.Laid.{framesLaid};
 ghost use Rattle.line.specs.Line.{noLine, taskTime, lineOf};
 ghost use Rattle.line.specs.Laying.{Lays, framing, closing, fileLaid};
 ghost use Rattle.line.specs.declared.Answer.the-variants.{Refused};
-ghost use Rattle.line.specs.Tests.{flagAt, messageKeeps, payloadKeeps, nodeIn, startIn, stopIn};
+ghost use Rattle.line.specs.Tests.{flagAt, messageKeeps, payloadKeeps};
 use answers::Refusal;
 use bus::Senders;
 use control::Control;
@@ -132,43 +132,6 @@ fn controls_fit(payloads: [u8; 256], nodes: usize, most: u32) -> bool
     true
 }
 
-// The control rows, a number each.
-fn control_nodes(control: Control) -> [u8; 8]
-    ensures { λ r. ⌜ r ≡ tab (nodeIn control) 0 8 ⌝ }
-{
-    let mut nodes = [0; 8];
-    let mut k = 0;
-    while k < 8 {
-        nodes[k] = control.rows[k].node.0;
-        k += 1;
-    }
-    nodes
-}
-
-fn control_starts(control: Control) -> [u32; 8]
-    ensures { λ r. ⌜ r ≡ tab (startIn control) 0 8 ⌝ }
-{
-    let mut starts = [0; 8];
-    let mut k = 0;
-    while k < 8 {
-        starts[k] = control.rows[k].start.0;
-        k += 1;
-    }
-    starts
-}
-
-fn control_stops(control: Control) -> [u32; 8]
-    ensures { λ r. ⌜ r ≡ tab (stopIn control) 0 8 ⌝ }
-{
-    let mut stops = [0; 8];
-    let mut k = 0;
-    while k < 8 {
-        stops[k] = control.rows[k].stop.0;
-        k += 1;
-    }
-    stops
-}
-
 // The sending time of each task's message, by task; a task that the plan does not have would send no bytes.
 fn times(p: Plan) -> [u32; 32]
     requires { ⌜ PlanKept (seen p) ⌝ }
@@ -227,9 +190,9 @@ fn line_of<'a>(
     let bus = p.bus;
     let gap = gap_time(bus).0 as u32;
     let time = times(p);
-    let nodes = control_nodes(control);
-    let starts = control_starts(control);
-    let stops = control_stops(control);
+    let nodes = control.nodes;
+    let starts = control.starts;
+    let stops = control.stops;
     let task = *tasks;
     let release = *releases;
     let deadline = *deadlines;
