@@ -24,7 +24,8 @@ use Rattle.judging.specs.declared.Bounds.{Bounds}
 use Rattle.judging.specs.declared.Judgement.{Judgement}
 use Rattle.datarows.specs.Places.{lookIn, keyAt, Numbered}
 use Rattle.tableread.specs.Memory.{nodeOf, beginOf, endOf, taskOf, deadlineOf, startOf, stopOf, layOut, controlIn, rowSeen, seen}
-use Rattle.line.specs.Line.{taskTime, lineOf}
+use Rattle.line.specs.Line.{lineOf}
+use Rattle.payloads.specs.Tests.{taskTime}
 use Rattle.line.proofs.Drawn.{Drawn, frameOf, controlOf, frame-drawn, frames-drawn, controls-drawn, time-drawn}
 use Rattle.judging.specs.Judged.{headerFits, controlFits, namesNew, timeFits, releaseFits, gapFits, timesJudged, rowsJudged, judgedFor, frameIn, framesIn, timeIn, controlsOn, framesOn, boundsOn, lineJudged, Right}
 use Rattle.laws.proofs.Turns.{same-bad}

@@ -14,7 +14,8 @@ use Rattle.frames.specs.declared.laid.Frames.{Frames}
 use Rattle.frames.specs.Laid as frames
 use Rattle.frames.specs.Laid.{framesLaid}
 use Rattle.line.specs.declared.Line.{Line}
-use Rattle.line.specs.Line.{lineOf, taskTime}
+use Rattle.line.specs.Line.{lineOf}
+use Rattle.payloads.specs.Tests.{taskTime}
 
 pub line-is : (p : Plan) {period gap floor : ℕ} {time : List ℕ} {control : Control} {f : Frames}
     → period ≡ busPeriod p → gap ≡ gapTime (p .bus) → floor ≡ controlEnd p → time ≡ tab (taskTime p) 0 32

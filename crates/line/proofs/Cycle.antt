@@ -21,7 +21,7 @@ use Rattle.cycle.specs.declared.runs.Runs.{Runs}
 use Rattle.cycle.specs.Runs.{runsLaid, runsSeen}
 use Rattle.cycle.proofs.Columns.{laid-seen}
 use Rattle.frames.proofs.FairRuns.{few-runs}
-use Rattle.line.specs.Tests.{flagAt}
+use Rattle.payloads.specs.Tests.{flagAt}
 use Rattle.line.specs.Laying.{framing, closing}
 
 any-same : (p q : ℕ → Bool) (n : ℕ) → ((k : ℕ) → k < n → p k ≡ q k) → any p (upTo n) ≡ any q (upTo n)

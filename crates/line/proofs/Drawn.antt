@@ -18,7 +18,8 @@ use Rattle.rules.proofs.PlanKept.{PlanKept, readable-kept}
 use Rattle.rules.proofs.LaidOut.{LaidOut, laid-out, frames-kept, control-count}
 use Rattle.rules.proofs.FramesOf.{Before, plan-frames}
 use Rattle.control.specs.Control.{nodeOf, startOf, stopOf}
-use Rattle.line.specs.Line.{lineOf, taskTime, taskOf, releaseOf, deadlineOf}
+use Rattle.line.specs.Line.{lineOf, taskOf, releaseOf, deadlineOf}
+use Rattle.payloads.specs.Tests.{taskTime}
 
 -- What holds of a layout that comes from a plan that was read.
 pub record Drawn (l : Layout) : Type 0 where

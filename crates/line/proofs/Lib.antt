@@ -1,5 +1,3 @@
-pub mod Scans
-pub mod Small
 pub mod Built
 pub mod Ways
 pub mod Framing

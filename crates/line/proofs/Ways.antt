@@ -19,7 +19,7 @@ use Rattle.bus.specs.Senders.{byNumber}
 use Rattle.line.specs.declared.Answer.the-variants.{Sound, Refused}
 use Rattle.line.specs.declared.Laid.{Laid}
 use Rattle.line.specs.Line.{noLine, lineOf}
-use Rattle.line.specs.Tests.{flagAt, messageKeeps, payloadKeeps}
+use Rattle.payloads.specs.Tests.{flagAt, messageKeeps, payloadKeeps}
 use Rattle.line.specs.Laying.{Lays, closing}
 
 pub lays-refused : (x : Refusal) (r : Laid) (rule : Res Layout) → r ≡ record { answer = Refused x; line = noLine } → rule ≡ said x → Lays r rule

@@ -5,14 +5,10 @@ use Prim.Native.Nat.{ℕ}
 use Rattle.laws.specs.Res.{Res, ok, refuse}
 use Rattle.laws.specs.Lists.{tab}
 use Rattle.laws.specs.Loops.{padTo}
-use Rattle.rules.specs.Plan.{Plan, theTask}
-use Rattle.rules.specs.Frames.{Frame, Layout, sendingTime, gapTime}
+use Rattle.rules.specs.Frames.{Frame, Layout, gapTime}
 use Rattle.control.specs.Control.{nodeOf, startOf, stopOf, column}
+use Rattle.payloads.specs.Tests.{taskTime}
 use Rattle.line.specs.declared.Line.{Line}
-
--- the sending time of a task's message
-unfoldable pub taskTime : Plan → ℕ → ℕ
-taskTime p t = sendingTime (p .bus) (theTask p t .size)
 
 abbrev pub taskOf : Frame → ℕ
 taskOf f = f .task

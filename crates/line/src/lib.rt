@@ -1,10 +1,8 @@
 // What a plan asks of the bus, in arrays that can be lent: the cycle, the sending times by task, the control rows, the frames by number.
 ghost use mathlib.Core.Path.{_≡_};
-ghost use mathlib.Core.Bool.{true, cond};
-ghost use lib.Dec.{leb};
+ghost use mathlib.Core.Bool.{true};
 ghost use lib.ListN.{length};
 ghost use Prim.Native.Nat.{_≤_, _<_, _^_};
-ghost use Rattle.laws.specs.Lists.{any, all, tab, upTo};
 ghost use Rattle.rules.proofs.PlanKept.{PlanKept};
 ghost use Rattle.plan.specs.Memory.{seen};
 ghost use Rattle.rules.specs.Frames.{someBusTask, busPeriod, switchGrid, busRuns, controlEnd, controlRows, layout, layoutOf};
@@ -14,10 +12,9 @@ ghost use Rattle.rules.specs.Frames as rules;
 ghost use Rattle.bus.specs.Senders.{sendersOf};
 ghost use Rattle.control.specs.Control.{controlLaid};
 ghost use Rattle.frames.specs.Laid.{framesLaid};
-ghost use Rattle.line.specs.Line.{noLine, taskTime, lineOf};
+ghost use Rattle.line.specs.Line.{noLine, lineOf};
 ghost use Rattle.line.specs.Laying.{Lays, framing, closing, fileLaid};
 ghost use Rattle.line.specs.declared.Answer.the-variants.{Refused};
-ghost use Rattle.line.specs.Tests.{flagAt, messageKeeps, payloadKeeps};
 use answers::Refusal;
 use bus::Senders;
 use control::Control;
@@ -28,8 +25,11 @@ use cycle::period::period_divides;
 use cycle::period::switch_grid;
 use cycle::runs::Runs;
 use figures::divides;
-use figures::wide;
 use frames::laid::Frames;
+use payloads::controls_fit;
+use payloads::message_times;
+use payloads::messages_fit;
+use payloads::some_bus_task;
 use plan::Plan;
 use plan::look::task_count;
 use times::Span;
@@ -78,78 +78,6 @@ impl Line {
     }
 }
 
-// Whether one of the first tasks is a bus task.
-fn some_bus_task(tasks: [bool; 256], count: usize) -> bool
-    requires { ⌜ count ≤ 256 ⌝ }
-    ensures { λ r. ⌜ r ≡ any (flagAt tasks) (upTo count) ⌝ }
-{
-    let mut t = 0;
-    while t < count {
-        if tasks[t] {
-            return true;
-        }
-        t += 1;
-    }
-    false
-}
-
-// Whether the message of a bus task fits the largest payload; other tasks send none.
-fn message_keeps(sends: bool, size: u32, most: u32) -> bool
-    ensures { λ r. ⌜ r ≡ cond sends (leb size most) true ⌝ }
-{
-    if sends {
-        return size <= most;
-    }
-    true
-}
-
-fn messages_fit(p: Plan, tasks: [bool; 256]) -> bool
-    ensures { λ r. ⌜ r ≡ all (messageKeeps tasks (seen p)) (upTo (length (seen p .tasks))) ⌝ }
-{
-    let count = task_count(p);
-    let mut t = 0;
-    while t < count {
-        if !message_keeps(tasks[t], p.tasks[t].size.0, p.bus.most.0) {
-            return false;
-        }
-        t += 1;
-    }
-    true
-}
-
-// Whether the control payloads of the first nodes fit the largest payload.
-fn controls_fit(payloads: [u8; 256], nodes: usize, most: u32) -> bool
-    requires { ⌜ nodes ≤ 256 ⌝ }
-    ensures { λ r. ⌜ r ≡ all (payloadKeeps payloads most) (upTo nodes) ⌝ }
-{
-    let mut n = 0;
-    while n < nodes {
-        if most < wide(payloads[n]) {
-            return false;
-        }
-        n += 1;
-    }
-    true
-}
-
-// The sending time of each task's message, by task; a task that the plan does not have would send no bytes.
-fn times(p: Plan) -> [u32; 32]
-    requires { ⌜ PlanKept (seen p) ⌝ }
-    ensures { λ r. ⌜ r ≡ tab (taskTime (seen p)) 0 32 ⌝ }
-{
-    let bus = p.bus;
-    let count = task_count(p);
-    let none = sending_time(bus, ByteCount(0)).0 as u32;
-    let mut time = [none; 32];
-    let mut t = 0;
-    while t < count {
-        let task = p.tasks[t];
-        time[t] = sending_time(bus, task.size).0 as u32;
-        t += 1;
-    }
-    time
-}
-
 pub enum Answer {
     Sound,
     Refused(Refusal),
@@ -189,7 +117,7 @@ fn line_of<'a>(
 {
     let bus = p.bus;
     let gap = gap_time(bus).0 as u32;
-    let time = times(p);
+    let time = message_times(p);
     let nodes = control.nodes;
     let starts = control.starts;
     let stops = control.stops;

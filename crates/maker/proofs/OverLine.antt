@@ -17,7 +17,7 @@ use Rattle.rules.proofs.FramesOf.{before-case}
 use Rattle.placing.specs.Placing.{frameAt, timeOf}
 use Rattle.tablebytes.specs.Rows.{controlIn}
 use Rattle.line.specs.Line as line
-use Rattle.line.specs.Line.{taskTime}
+use Rattle.payloads.specs.Tests.{taskTime}
 use Rattle.line.proofs.Drawn.{Drawn, frameOf, controlOf, frame-drawn, frames-drawn, controls-drawn, time-drawn}
 
 -- ---- the rule over the arrays is the rule over the layout

@@ -25,7 +25,8 @@ use Rattle.answers.specs.Refusals.{said}
 use Rattle.line.specs.declared.Laid.{Laid}
 use Rattle.line.specs.declared.Line.{Line}
 use Rattle.line.specs.declared.Answer.the-variants.{Sound, Refused as LineRefused}
-use Rattle.line.specs.Line.{lineOf, lineFor, taskTime, taskOf, deadlineOf}
+use Rattle.line.specs.Line.{lineOf, lineFor, taskOf, deadlineOf}
+use Rattle.payloads.specs.Tests.{taskTime}
 use Rattle.line.specs.Laying.{Lays, fileLaid, verdict}
 use Rattle.line.specs.Laying as laying
 use Rattle.placing.specs.declared.Placing.{Placing}

@@ -1,6 +1,6 @@
 -- Each part is the layout's by what is required, and the line that is built of them is the layout's line (`line-is`).
 use Rattle.plan.specs.Memory.{seen, busSeen}
-use Rattle.line.proofs.Small.{gap-small}
+use Rattle.payloads.proofs.Small.{gap-small}
 use Rattle.line.proofs.Built.{line-is}
 use mathlib.Core.Path.{sym}
 use borrow.Author.Needs.{needs}
@@ -19,7 +19,7 @@ returns c =
     let b = c .before .before .before .before .before .before .before in
     let g = b .before .before in
     let s = g .before .before in
-    line-is (seen (s .args .p)) (s .pre .1 .0 .0) (g .gap-time .ensures .0) (s .pre .1 .0 .1) (b .times .ensures) (s .pre .1 .1 .0)
+    line-is (seen (s .args .p)) (s .pre .1 .0 .0) (g .gap-time .ensures .0) (s .pre .1 .0 .1) (b .message-times .ensures) (s .pre .1 .1 .0)
     (sym (s .pre .1 .1 .1 .0)) (s .pre .1 .1 .1 .1)
 
 pub line-of-spec : {M : Type 1} → statement M

@@ -5,11 +5,11 @@ use Prim.Native.Nat.{_-_, _≤_, _<_}
 use Rattle.laws.specs.Loops.{stores}
 use Rattle.laws.proofs.Loops.{stores-none, stores-turn}
 use Rattle.plan.specs.Memory.{seen, taskLaid}
-use Rattle.line.specs.Line.{taskTime}
-use Rattle.line.proofs.Small.{size-of, no-time-small, time-small, time-of, times-stored}
+use Rattle.payloads.specs.Tests.{taskTime}
+use Rattle.payloads.proofs.Small.{size-of, no-time-small, time-small, time-of, times-stored}
 use borrow.Author.Needs.{needs}
-use Rattle.line.proofs.times.Statement.{statement}
-use Rattle.line.proofs.times.Tie as tie
+use Rattle.payloads.proofs.message_times.Statement.{statement}
+use Rattle.payloads.proofs.message_times.Tie as tie
 
 abbrev Inv-loop : tie.InvT-loop
 Inv-loop p bus count none time₀ t₀ time t = (t ≤ count) × (time ≡ stores (replicate 32 none) (taskTime (seen p)) t)
@@ -42,8 +42,8 @@ returns : tie.Need-returns Inv-loop μ-loop
 unfolding seen taskLaid
 returns c = times-stored (seen (c .before .before .before .before .before .before .args .t1)) _ _ _ _ (c .before .before .before .sending-time .ensures .0) (c .before .before .before .before .task-count .ensures .0) (c .before .before .before .before .task-count .ensures .1) (c .before .loop .inv .1) (c .before .loop .inv .0) (c .loop-test .left)
 
-pub times-spec : {M : Type 1} → statement M
-times-spec =
+pub message-times-spec : {M : Type 1} → statement M
+message-times-spec =
     tie.close
     (tie.spec Inv-loop μ-loop (λ c κs. search needs) (λ c κs. search needs) cast-none loop-holds (λ c. search needs)
     (λ c. search needs) (λ c κs. search needs) cast-time (λ c. search needs) (λ c. search needs) (λ c. search needs)

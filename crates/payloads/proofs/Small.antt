@@ -18,7 +18,7 @@ use Rattle.rules.proofs.PlanKept.{PlanKept, BusKept}
 use Rattle.plan.specs.declared.Plan as plan
 use Rattle.plan.specs.Memory.{seen, taskSeen, taskLaid}
 use Rattle.bus.proofs.Things.{task-here}
-use Rattle.line.specs.Line.{taskTime}
+use Rattle.payloads.specs.Tests.{taskTime}
 
 module _ (b : Bus) (k : BusKept b) where
   ticks-small : (bits : ℕ) → bits ≤ 4000 → ticksOfBits b bits < 4294967296

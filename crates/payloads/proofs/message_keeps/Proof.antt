@@ -1,5 +1,5 @@
-use Rattle.line.proofs.message_keeps.Statement.{statement}
-use Rattle.line.proofs.message_keeps.Tie as tie
+use Rattle.payloads.proofs.message_keeps.Statement.{statement}
+use Rattle.payloads.proofs.message_keeps.Tie as tie
 
 returns : tie.Need-returns
 returns c = rw (c .if1 .taken)

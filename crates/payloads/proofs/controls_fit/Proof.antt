@@ -2,11 +2,11 @@ use mathlib.Core.Path.{_≡_, refl}
 use mathlib.Core.Bool.{true}
 use Prim.Native.Nat.{_-_, _≤_}
 use Rattle.laws.specs.Lists.{all, upTo}
-use Rattle.line.specs.Tests.{payloadKeeps}
-use Rattle.line.proofs.Scans.{all-on, all-here, all-end, payload-too-large, payload-fits}
+use Rattle.payloads.specs.Tests.{payloadKeeps}
+use Rattle.payloads.proofs.Scans.{all-on, all-here, all-end, payload-too-large, payload-fits}
 use borrow.Author.Needs.{needs}
-use Rattle.line.proofs.controls_fit.Statement.{statement}
-use Rattle.line.proofs.controls_fit.Tie as tie
+use Rattle.payloads.proofs.controls_fit.Statement.{statement}
+use Rattle.payloads.proofs.controls_fit.Tie as tie
 
 abbrev Inv-loop : tie.InvT-loop
 Inv-loop nodes most payloads n₀ n = (n ≤ nodes) × (all (payloadKeeps payloads most) (upTo n) ≡ true)

@@ -6,12 +6,12 @@ use lib.ListN.{length}
 use Prim.Native.Nat.{_-_, _≤_, _<_}
 use Rattle.laws.specs.Lists.{all, upTo}
 use Rattle.plan.specs.Memory.{seen, busSeen, taskLaid}
-use Rattle.line.specs.Tests.{messageKeeps}
-use Rattle.line.proofs.Scans.{all-on, all-here, all-end, message-test}
-use Rattle.line.proofs.Small.{size-of}
+use Rattle.payloads.specs.Tests.{messageKeeps}
+use Rattle.payloads.proofs.Scans.{all-on, all-here, all-end, message-test}
+use Rattle.payloads.proofs.Small.{size-of}
 use borrow.Author.Needs.{needs}
-use Rattle.line.proofs.messages_fit.Statement.{statement}
-use Rattle.line.proofs.messages_fit.Tie as tie
+use Rattle.payloads.proofs.messages_fit.Statement.{statement}
+use Rattle.payloads.proofs.messages_fit.Tie as tie
 
 abbrev Inv-loop : tie.InvT-loop
 Inv-loop p tasks count t₀ t = (t ≤ count) × (all (messageKeeps tasks (seen p)) (upTo t) ≡ true)

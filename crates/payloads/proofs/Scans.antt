@@ -9,7 +9,7 @@ use borrow.Author.Tests.{le-leb, lt-leb}
 use Prim.Native.Nat.{ℕ, _+_, _≤_, _<_}
 use Rattle.laws.specs.Lists.{any, all, upTo}
 use Rattle.laws.proofs.Lists.{any-upTo-more, any-upTo-hit, all-upTo-more, all-upTo-failed}
-use Rattle.line.specs.Tests.{flagAt, messageKeeps, payloadKeeps}
+use Rattle.payloads.specs.Tests.{flagAt, messageKeeps, payloadKeeps}
 use Rattle.rules.specs.Plan.{Plan, theTask}
 
 module _ (p : ℕ → Bool) where

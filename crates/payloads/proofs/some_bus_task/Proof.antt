@@ -2,11 +2,11 @@ use mathlib.Core.Path.{_≡_, refl}
 use mathlib.Core.Bool.{false}
 use Prim.Native.Nat.{_-_, _≤_}
 use Rattle.laws.specs.Lists.{any, upTo}
-use Rattle.line.specs.Tests.{flagAt}
-use Rattle.line.proofs.Scans.{any-on, any-here, any-end}
+use Rattle.payloads.specs.Tests.{flagAt}
+use Rattle.payloads.proofs.Scans.{any-on, any-here, any-end}
 use borrow.Author.Needs.{needs}
-use Rattle.line.proofs.some_bus_task.Statement.{statement}
-use Rattle.line.proofs.some_bus_task.Tie as tie
+use Rattle.payloads.proofs.some_bus_task.Statement.{statement}
+use Rattle.payloads.proofs.some_bus_task.Tie as tie
 
 abbrev Inv-loop : tie.InvT-loop
 Inv-loop count tasks t₀ t = (t ≤ count) × (any (flagAt tasks) (upTo t) ≡ false)
