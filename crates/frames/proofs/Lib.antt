@@ -1,4 +1,3 @@
-pub mod Trees
 pub mod Meeting
 pub mod Storing
 pub mod Walking

@@ -18,9 +18,9 @@ use Rattle.laws.proofs.Orders.{le-or-lt}
 use Rattle.laws.proofs.Divisors.{divides-is}
 use Rattle.rules.specs.Frames.{Run}
 use Rattle.rules.proofs.Grid.{ends, latest, next-divides}
-use Rattle.frames.specs.Tree.{Grown, Raised}
+use Rattle.tree.specs.Tree.{Grown, Raised}
 use Rattle.frames.specs.Walk.{runAt, runsIn, isFair, Ready, codeOf, keyOf, limitOf, Planted, Waits, Waiting, CellMet}
-use Rattle.frames.proofs.Trees.{AtLeaf, root-under, root-leaf}
+use Rattle.tree.proofs.Trees.{AtLeaf, root-under, root-leaf}
 
 -- ---- fair runs
 

@@ -11,9 +11,9 @@ use Rattle.laws.specs.Lists.{all}
 use Rattle.laws.proofs.Lists.{both-left, both-right}
 use Rattle.rules.specs.Frames.{Run, Frame, messages, framesOf}
 use Rattle.rules.proofs.Grid.{cell, row, grid, latest, below, frames-grid}
-use Rattle.frames.specs.Tree.{Grown}
+use Rattle.tree.specs.Tree.{Grown}
 use Rattle.frames.specs.Walk.{most, runsIn, isFair, Ready, codeOf, keyOf, limitOf, Planted, Waits, Waiting, CellMet, frameAt, Stored, Derived}
-use Rattle.frames.proofs.Trees.{root-under}
+use Rattle.tree.proofs.Trees.{root-under}
 use Rattle.frames.proofs.Meeting.{fair-run, at-root, waiting-start, nothing-before}
 use Rattle.frames.proofs.Storing.{stored-nothing, stored-then, stored-stop, derived}
 

@@ -1,3 +1,2 @@
-pub mod Tree
 pub mod Walk
 pub mod Laid

@@ -9,7 +9,7 @@ use Prim.Native.Nat.{ℕ, suc, _+_, _*_, _-_, _≤_, _<_, _∣_, min}
 use Rattle.laws.specs.Lists.{all, tab}
 use Rattle.rules.specs.Frames.{Run, Frame}
 use Rattle.rules.proofs.Grid.{cell, latest}
-use Rattle.frames.specs.Tree.{Tree}
+use Rattle.tree.specs.Tree.{Tree}
 
 -- the run whose numbers stand at place i, and the runs at the places below n
 unfoldable pub runAt : List ℕ → List ℕ → List ℕ → ℕ → Run

@@ -9,7 +9,6 @@ ghost use Rattle.rules.specs.Frames.{messages, framesOf};
 ghost use Rattle.frames.specs.Walk.{most, runsIn, isFair, keyOf, Ready, Planted, Waiting, CellMet, frameAt, Stored, Derived};
 
 pub mod laid;
-mod tree;
 
 use figures::larger;
 use laid::Frames;

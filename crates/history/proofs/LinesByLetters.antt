@@ -1,19 +1,14 @@
 -- Lines by their letters: what each says.
 -- Assumes nothing.
 use mathlib.Core.Path.{_≡_, refl}
-use mathlib.Core.List.{List, [], _∷_}
-use lib.ListN.{replicate, set}
-use Prim.Native.Nat.{ℕ}
-use Rattle.text.specs.Text.{readDecimal, decimal, digits}
-use Rattle.stationsteps.specs.Nodes.{zeroNode}
+use mathlib.Core.List.{[], _∷_}
+use Rattle.text.specs.Text.{readDecimal}
 use Rattle.history.specs.Reading.{behindWord, pairAt, isFree, goesOn, pairsAt, listAt, plain, noPlaces, withValue, readLine, lineEnd, givenOf, changesOf}
-use Rattle.history.specs.Writing.{texts, shownAt, nodeShown, shownLine, numberedLine, afterLine, unreadableLine}
-use Rattle.history.specs.declared.Line.{Line}
 use Rattle.history.specs.declared.What.the-variants.{Begin, Tick, Quiet, Unreadable}
 
 -- everything that the examples open
 everything : Unit {0}
-unfolding readDecimal decimal digits behindWord pairAt isFree goesOn pairsAt listAt readLine lineEnd givenOf changesOf texts shownAt nodeShown shownLine numberedLine afterLine unreadableLine
+unfolding readDecimal behindWord pairAt isFree goesOn pairsAt listAt readLine lineEnd givenOf changesOf
 everything = tt
 
 -- the examples
@@ -86,23 +81,3 @@ no-modes = refl
 empty-line : readLine ([]) ≡ plain Unreadable
 unfolding everything
 empty-line = refl
-
--- `shown -`
-none-shown : shownLine (replicate 8 zeroNode) ≡ 115 ∷ 104 ∷ 111 ∷ 119 ∷ 110 ∷ 32 ∷ 45 ∷ 10 ∷ []
-unfolding everything
-none-shown = refl
-
--- `shown 1/0=5 1/31=70`
-two-shown : shownLine (set (replicate 8 zeroNode) 1 (record { landed = []; shown = set (set (replicate 32 0) 31 70) 0 5 })) ≡ 115 ∷ 104 ∷ 111 ∷ 119 ∷ 110 ∷ 32 ∷ 49 ∷ 47 ∷ 48 ∷ 61 ∷ 53 ∷ 32 ∷ 49 ∷ 47 ∷ 51 ∷ 49 ∷ 61 ∷ 55 ∷ 48 ∷ 10 ∷ []
-unfolding everything
-two-shown = refl
-
--- `after 29499`
-after-some : afterLine 29499 ≡ 97 ∷ 102 ∷ 116 ∷ 101 ∷ 114 ∷ 32 ∷ 50 ∷ 57 ∷ 52 ∷ 57 ∷ 57 ∷ 10 ∷ []
-unfolding everything
-after-some = refl
-
--- `unreadable line 3`
-unreadable-third : unreadableLine 3 ≡ 117 ∷ 110 ∷ 114 ∷ 101 ∷ 97 ∷ 100 ∷ 97 ∷ 98 ∷ 108 ∷ 101 ∷ 32 ∷ 108 ∷ 105 ∷ 110 ∷ 101 ∷ 32 ∷ 51 ∷ 10 ∷ []
-unfolding everything
-unreadable-third = refl

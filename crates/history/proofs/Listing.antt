@@ -1,6 +1,6 @@
 -- A list of pairs read pair by pair.
 -- Assumes nothing.
-use mathlib.Core.Path.{_≡_, refl, sym, ap, _∙_}
+use mathlib.Core.Path.{_≡_, refl, sym, _∙_}
 use mathlib.Core.Bool.{Bool, true, false, cond, _&&_}
 use mathlib.Core.List.{List, [], _∷_}
 use native.Mathlib.Omega.{arith}
@@ -11,7 +11,7 @@ use Rattle.text.specs.Text.{isDigit, digitRun, valueFrom, within64, numberAt, r
 use Rattle.text.specs.declared.Number.{Number}
 use Rattle.text.specs.declared.Number.the-variants as number
 use Rattle.text.proofs.Reading.{digit-within}
-use Rattle.history.specs.Reading.{startsWith, behindWord, equalsSign, space, secondOf, behindEquals, behindFirst, pairAt, isFree, fits, withValue, digitAt, goesOn, wrongList, restOf, behindPair, pairsWithin, pairsAt, noPlaces}
+use Rattle.history.specs.Reading.{startsWith, behindWord, equalsSign, space, secondOf, behindEquals, behindFirst, pairAt, isFree, fits, withValue, digitAt, goesOn, wrongList, pairsWithin, pairsAt, noPlaces}
 use Rattle.history.specs.declared.Pair.{Pair}
 use Rattle.history.specs.declared.Pair.the-variants as pair
 use Rattle.history.specs.declared.End.{End}

@@ -1,7 +1,7 @@
 -- A word compared byte by byte, and a line's end sought byte by byte.
 -- Assumes nothing.
 use mathlib.Core.Path.{_≡_, refl, sym, ap, _∙_}
-use mathlib.Core.Bool.{Bool, true, false, cond, not, _&&_}
+use mathlib.Core.Bool.{Bool, true, false, cond}
 use mathlib.Core.List.{List, [], _∷_}
 use native.Mathlib.Nat.{add-zero, le-antisymm}
 use native.Mathlib.Numerals.{add-one}
@@ -11,8 +11,7 @@ use lib.Dec.{eqb}
 use lib.ListN.{length, drop, getD}
 use lib.Seq.{drop-cons}
 use Prim.Native.Nat.{ℕ, zero, suc, _+_, _≤_, _<_}
-use Rattle.history.specs.Reading.{startsWith, behindWord, oneLine, lineEnd}
-use Rattle.history.specs.declared.End.{End}
+use Rattle.history.specs.Reading.{startsWith, behindWord, lineEnd}
 use Rattle.history.specs.declared.End.the-variants.{At, Wrong}
 
 drop-all : (i : ℕ) (l : List ℕ) → length l ≤ i → drop i l ≡ []

@@ -1,11 +1,8 @@
-// A history's lines as they are read (docs/HISTORY.md); the answers are written by `writing`.
+// A history's lines as they are read (docs/HISTORY.md); the answers are written by `answerlines`.
 ghost use mathlib.Core.Path.{_≡_};
 ghost use Prim.Native.Nat.{_≤_};
 ghost use lib.ListN.{length};
-ghost use Rattle.history.specs.Reading.{behindWord, beginLine, changeFrom, changesOf, endedBy, fits, givenOf, goesOn, isEnd, isFree, isNothing, lineEnd, listAt, modesAt, noPlace, noPlaces, pairAt, pairsAt, plain, quietLine, readLine, resultsAt, tickLine, withValue, wrongList};
-
-pub mod writing;
-
+ghost use Rattle.history.specs.Reading.{behindWord, beginLine, changeFrom, changesOf, endedBy, fits, givenOf, goesOn, isEnd, isFree, isNothing, lineEnd, listAt, modesAt, noPlace, pairAt, pairsAt, plain, quietLine, readLine, resultsAt, tickLine, withValue, wrongList};
 use figures::both;
 use places::byte_at;
 use stationjudge::Change;

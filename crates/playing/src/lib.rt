@@ -1,22 +1,22 @@
 // A history played on a station: each line is read, what it says is done, and its answer is written to standard output
-// (docs/HISTORY.md). No contract can say what a write writes; the lines themselves are made by `history::writing`.
+// (docs/HISTORY.md). No contract can say what a write writes; the lines themselves are made by `answerlines`.
 ghost use mathlib.Core.Path.{_≡_};
 ghost use Prim.Native.Nat.{_≤_};
 ghost use lib.ListN.{drop};
 ghost use Rattle.station.specs.Answers.{isRefused};
 ghost use Rattle.playing.specs.Played.{afterLines, afterQuiet, afterTick, behindEnd, heardLine, linesOf, played};
+use answerlines::put_after;
+use answerlines::put_begun;
+use answerlines::put_refusal;
+use answerlines::put_ticked;
+use answerlines::put_unreadable;
+use answerlines::same_shown;
 use answers::Refusal;
 use history::What;
 use history::changes_of;
 use history::given_of;
 use history::line_end;
 use history::read_line;
-use history::writing::put_after;
-use history::writing::put_begun;
-use history::writing::put_refusal;
-use history::writing::put_ticked;
-use history::writing::put_unreadable;
-use history::writing::same_shown;
 use libc::STDOUT_FILENO;
 use station::Said;
 use station::Station;

@@ -1,5 +1,3 @@
-use mathlib.Core.Bool.{_&&_}
-use mathlib.Core.Path.{sym, ap, _∙_}
 use borrow.Author.Needs.{needs}
 use Rattle.history.proofs.fitting.Statement.{statement}
 use Rattle.history.proofs.fitting.Tie as tie

@@ -1,5 +1,4 @@
-use Rattle.text.specs.Text.{readDecimal}
-use mathlib.Core.Path.{_≡_, sym, ap, _∙_}
+use mathlib.Core.Path.{_∙_}
 use borrow.Author.Tests.{eq-eqb, ne-eqb}
 use borrow.Author.Needs.{needs}
 use Rattle.history.proofs.quiet_line.Statement.{statement}

@@ -1,4 +1,4 @@
-use Rattle.history.specs.Writing.{begunLine}
+use Rattle.answerlines.specs.Writing.{begunLine}
 use native.Mathlib.Omega.{arith}
 use lib.Seq.{length-take-le}
 use mathlib.Core.Path.{sym}

@@ -1,0 +1,23 @@
+use native.Mathlib.Omega.{arith}
+use borrow.Author.Needs.{needs}
+use Rattle.answerlines.proofs.put_ticked.Statement.{statement}
+use Rattle.answerlines.proofs.put_ticked.Tie as tie
+
+returns : tie.Need-returns
+returns c = (rw (c .before .before .before .before .enum-told .given .1) (c .before .before .put-shown .ensures .0), c .before .before .put-shown .ensures .1)
+
+returns-2 : tie.Need-returns-2
+returns-2 c = (rw (c .before .before .before .before .enum-told2 .given .1) (c .before .before .put-shown2 .ensures .0), c .before .before .put-shown2 .ensures .1)
+
+returns-3 : tie.Need-returns-3
+returns-3 c = (rw (c .before .before .before .before .enum-told3 .given .1) (c .before .before .put-shown3 .ensures .0), c .before .before .put-shown3 .ensures .1)
+
+returns-4 : tie.Need-returns-4
+returns-4 c = (rw (c .before .before .before .before .before .said .given .1) (c .before .before .put-refusal .ensures .0), omega (arith, c .before .before .put-refusal .ensures .1))
+
+pub put-ticked-spec : {M : Type 1} → statement M
+put-ticked-spec =
+    tie.close
+    (tie.spec (λ c. search needs) (λ c κs. search needs) (λ c. search needs) (λ c κs. search needs) (λ c. search needs)
+    (λ c κs. search needs) (λ c. search needs) (λ c κs. search needs) (λ c. search needs) returns (λ c. search needs) returns-2
+    (λ c. search needs) returns-3 (λ c. search needs) returns-4)
