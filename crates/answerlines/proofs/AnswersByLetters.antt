@@ -4,7 +4,7 @@ use mathlib.Core.Path.{_≡_, refl}
 use mathlib.Core.List.{[], _∷_}
 use lib.ListN.{replicate, set}
 use Rattle.text.specs.Text.{decimal, digits}
-use Rattle.stationsteps.specs.Nodes.{zeroNode}
+use Rattle.stationnodes.specs.Nodes.{zeroNode}
 use Rattle.answerlines.specs.Writing.{texts, shownAt, nodeShown, shownLine, numberedLine, afterLine, unreadableLine}
 
 -- everything that the examples open

@@ -12,7 +12,7 @@ use Prim.Native.Nat.{ℕ, zero, _+_, _≤_, _<_}
 use Rattle.text.specs.Text.{decimal, lineFeed}
 use Rattle.text.proofs.Decimals.{decimal-most}
 use Rattle.text.proofs.Putting.{Put, both-put}
-use Rattle.stationsteps.specs.declared.nodes.Node.{Node}
+use Rattle.stationnodes.specs.declared.Node.{Node}
 use Rattle.answerlines.specs.Writing.{texts, marked, placeShown, shownWord, orDash, shownLine, numberedLine, nodeShown}
 
 pub marked-few : (mark : List ℕ) (x : ℕ) → x < 18446744073709551616 → length (marked mark x) ≤ length mark + 20

@@ -10,8 +10,8 @@ use Rattle.answers.specs.Refusals.{numberOf, placeOf}
 use Rattle.answers.specs.declared.Refusal.{Refusal}
 use Rattle.station.specs.declared.Said.{Said}
 use Rattle.station.specs.declared.Said.the-variants.{Control, Data, Quiet, Refused}
-use Rattle.stationsteps.specs.Nodes.{noNode}
-use Rattle.stationsteps.specs.declared.nodes.Node.{Node}
+use Rattle.stationnodes.specs.Nodes.{noNode}
+use Rattle.stationnodes.specs.declared.Node.{Node}
 
 -- the texts f 0, .., f (n - 1), one behind the other
 unfoldable pub texts : (ℕ → List ℕ) → ℕ → List ℕ

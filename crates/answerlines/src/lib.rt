@@ -8,7 +8,7 @@ ghost use Rattle.answerlines.specs.Writing.{afterLine, begunLine, marked
 use answers::Refusal;
 use figures::both;
 use station::Said;
-use stationsteps::nodes::Node;
+use stationnodes::Node;
 use text::put_bytes;
 use text::put_decimal;
 use text::put_refused;

@@ -51,7 +51,7 @@ use Rattle.station.specs.declared.Modules.{Modules}
 use Rattle.station.specs.declared.Play.{Play}
 use Rattle.station.specs.declared.Station.{Station}
 use Rattle.station.specs.declared.Tasks.{Tasks}
-use Rattle.stationsteps.specs.declared.nodes.Node.{Node}
+use Rattle.stationnodes.specs.declared.Node.{Node}
 use Rattle.beginning.specs.declared.Answer.the-variants.{Refused}
 use Rattle.beginning.specs.declared.Begun.{Begun}
 use Rattle.beginning.specs.Keeping as keeping

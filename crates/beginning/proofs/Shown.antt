@@ -22,7 +22,7 @@ use Rattle.rules.proofs.StationKept.{SameKept, follows-kept}
 use Rattle.rules.proofs.StationPlaces.{Agree, Follows, transparent-follows, transparent-follows-own}
 use Rattle.stationjudge.specs.Inputs.{changeAt}
 use Rattle.stationjudge.specs.declared.Change.{Change}
-use Rattle.stationsteps.specs.Nodes.{noNode, zeroNode}
+use Rattle.stationnodes.specs.Nodes.{noNode, zeroNode}
 use Rattle.station.specs.Memory.{keptBy, keptOf, laid, notBegun, stateOf}
 use Rattle.station.specs.declared.Station.{Station}
 use Rattle.station.proofs.Plays.{Plays, plays-follows}

@@ -11,9 +11,9 @@ use denote.RattleType.{RattleType}
 use denote.Laws.{Is}
 use denote.Array.{Array, each}
 use denote.Struct.Laws as LL
-use Rattle.stationsteps.specs.declared.nodes.Node.{Node}
-use Rattle.stationsteps.proofs.nodes.Node as N
-use Rattle.stationsteps.proofs.nodes.Node.Laws as N′
+use Rattle.stationnodes.specs.declared.Node.{Node}
+use Rattle.stationnodes.proofs.Node as N
+use Rattle.stationnodes.proofs.Node.Laws as N′
 use Rattle.station.specs.declared.Play.{Play}
 use Rattle.station.specs.declared.Station.{Station}
 use Rattle.station.specs.Turns.{moved}

@@ -7,7 +7,7 @@ ghost use Rattle.rules.specs.StationRange.{ticked};
 ghost use Rattle.stationjudge.specs.Inputs.{changeAt, inputOf};
 ghost use Rattle.station.specs.Memory.{keptOf, stateOf};
 ghost use Rattle.station.specs.Turns.{Valued, stationBy};
-ghost use Rattle.stationsteps.specs.declared.nodes.Node.{Node};
+ghost use Rattle.stationnodes.specs.declared.Node.{Node};
 ghost use Rattle.beginning.specs.Begins.{heard};
 ghost use Rattle.olbiothar.specs.Playing.{answerSaid, begunBy, changeFor, changesFor, givenFor, givensFor, TurnsFor, rowFor, rowSaid, stationAfter, tickedBy};
 ghost use Rattle.olbiothar.specs.Answers.{answerOf};

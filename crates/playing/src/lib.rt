@@ -22,7 +22,7 @@ use station::Said;
 use station::Station;
 use stationjudge::Change;
 use stationjudge::Given;
-use stationsteps::nodes::Node;
+use stationnodes::Node;
 
 // What comes of a line: the station after it, and whether the next one is read.
 pub struct Heard {

@@ -35,11 +35,11 @@ use Rattle.rules.specs.Playing.{Input}
 use Rattle.stationjudge.specs.Inputs.{inputOf}
 use Rattle.stationjudge.specs.declared.Given.{Given}
 use Rattle.stationjudge.specs.declared.Change.{Change}
-use Rattle.stationsteps.specs.Steps.{numberAt}
-use Rattle.stationsteps.specs.Nodes.{noNode, landingOf, landedRule, shownRule, nodeAt, nodeRule}
-use Rattle.stationsteps.specs.declared.nodes.Node.{Node}
-use Rattle.stationsteps.specs.declared.nodes.Landing.{Landing}
-use Rattle.stationsteps.specs.declared.nodes.Landing.the-variants.{Nothing, Value}
+use Rattle.stationbus.specs.Bus.{numberAt}
+use Rattle.stationnodes.specs.Nodes.{noNode, landingOf, landedRule, shownRule, nodeAt, nodeRule}
+use Rattle.stationnodes.specs.declared.Node.{Node}
+use Rattle.stationnodes.specs.declared.Landing.{Landing}
+use Rattle.stationnodes.specs.declared.Landing.the-variants.{Nothing, Value}
 use Rattle.station.specs.Memory.{keptBy, keptOf, stateBy, stateOf, nodeLaid}
 use Rattle.station.specs.Parts.{Reads, landingBy, nodesBy}
 use Rattle.station.specs.declared.Play.{Play}

@@ -13,9 +13,9 @@ use Rattle.laws.proofs.Stores.{stores-within}
 use Rattle.rules.specs.Playing.{nodePlaces, modulePlaces, taskPlaces}
 use Rattle.rules.specs.Station.{State}
 use Rattle.rules.proofs.StationPlaces.{Agree}
-use Rattle.stationsteps.specs.Steps.{numberAt}
-use Rattle.stationsteps.specs.Nodes.{noNode}
-use Rattle.stationsteps.specs.declared.nodes.Node.{Node}
+use Rattle.stationbus.specs.Bus.{numberAt}
+use Rattle.stationnodes.specs.Nodes.{noNode}
+use Rattle.stationnodes.specs.declared.Node.{Node}
 use Rattle.station.specs.Memory.{flagAt, stateBy, stateOf, heldLaid, playLaid, nodeLaid, laid}
 use Rattle.station.specs.declared.Station.{Station}
 use Rattle.station.proofs.Nodes.{place-node, place-module, place-within}

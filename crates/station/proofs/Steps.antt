@@ -39,7 +39,8 @@ use Rattle.rules.specs.Playing.{Input}
 use Rattle.stationjudge.specs.Inputs.{inputOf}
 use Rattle.stationjudge.specs.declared.Given.{Given}
 use Rattle.stationjudge.specs.declared.Change.{Change}
-use Rattle.stationsteps.specs.Steps.{outRule, heldRule, modeRule, ageRule, givenRule, modeByteRule, fullRule, loadRule}
+use Rattle.stationsteps.specs.Steps.{outRule, modeRule, ageRule, givenRule}
+use Rattle.stationbus.specs.Bus.{heldRule, modeByteRule, fullRule, loadRule}
 use Rattle.station.specs.Memory.{keptBy, keptOf, stateBy, stateOf, heldLaid, playLaid}
 use Rattle.station.specs.Parts.{saidBy, playBy}
 use Rattle.station.specs.Answers.{rowSaid}

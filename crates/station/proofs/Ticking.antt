@@ -35,10 +35,10 @@ use Rattle.stationjudge.specs.Inputs.{inputOf}
 use Rattle.stationjudge.specs.declared.Given.{Given}
 use Rattle.stationjudge.specs.declared.Change.{Change}
 use Rattle.stationsteps.specs.Steps.{endsRule}
-use Rattle.stationsteps.specs.Nodes.{isLanding, quietAt}
-use Rattle.stationsteps.specs.declared.nodes.Node.{Node}
-use Rattle.stationsteps.specs.declared.nodes.Landing.{Landing}
-use Rattle.stationsteps.specs.declared.nodes.Landing.the-variants.{Nothing, Value}
+use Rattle.stationnodes.specs.Nodes.{isLanding, quietAt}
+use Rattle.stationnodes.specs.declared.Node.{Node}
+use Rattle.stationnodes.specs.declared.Landing.{Landing}
+use Rattle.stationnodes.specs.declared.Landing.the-variants.{Nothing, Value}
 use Rattle.station.specs.Memory.{keptBy, keptOf, stateBy, stateOf, playLaid, nodeLaid, laid}
 use Rattle.station.specs.Parts.{Reads, refusedBy, movedBy, landingBy, nodesBy}
 use Rattle.station.specs.Answers.{Answers, outcome, isRefused, rowSaid}

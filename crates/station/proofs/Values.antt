@@ -14,8 +14,8 @@ use denote.Struct.Field.{u64-field}
 use denote.Struct.Laws as LL
 use Rattle.rules.specs.StationRange.{isValue}
 use Rattle.stationrange.specs.Ranges.{placeTest}
-use Rattle.stationsteps.specs.declared.nodes.Node.{Node}
-use Rattle.stationsteps.proofs.nodes.Node as N
+use Rattle.stationnodes.specs.declared.Node.{Node}
+use Rattle.stationnodes.proofs.Node as N
 use Rattle.station.specs.Turns.{Valued}
 use Rattle.station.specs.declared.Station.{Station}
 use Rattle.station.proofs.Station as T

@@ -8,7 +8,7 @@ use lib.ListN.{getD}
 use Prim.Native.Nat.{ℕ}
 use Rattle.laws.specs.Loops.{stores}
 use Rattle.laws.proofs.Stores.{stores-same}
-use Rattle.stationsteps.specs.Steps.{modeByteRule, fullRule, loadRule}
+use Rattle.stationbus.specs.Bus.{modeByteRule, fullRule, loadRule}
 use Rattle.laws.specs.Res.{Res, refuse, _>>_, unless}
 use Rattle.station.specs.declared.Play.{Play}
 use Rattle.station.specs.declared.Moved.{Moved}

@@ -7,9 +7,9 @@ use Prim.Native.Nat.{ℕ, _+_, _*_, _/_, _%_}
 use Rattle.laws.specs.Loops.{stores}
 use Rattle.rules.specs.Station.{Kept, State}
 use Rattle.stationjudge.specs.Judging.{periodAt}
-use Rattle.stationsteps.specs.Steps.{numberAt}
-use Rattle.stationsteps.specs.Nodes.{noNode, zeroNode}
-use Rattle.stationsteps.specs.declared.nodes.Node.{Node}
+use Rattle.stationbus.specs.Bus.{numberAt}
+use Rattle.stationnodes.specs.Nodes.{noNode, zeroNode}
+use Rattle.stationnodes.specs.declared.Node.{Node}
 use Rattle.units.specs.declared.Ticks.{Ticks}
 use Rattle.station.specs.declared.Modules.{Modules}
 use Rattle.station.specs.declared.Modes.{Modes}

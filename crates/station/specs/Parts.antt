@@ -15,11 +15,12 @@ use Rattle.stationrange.specs.Ranges.{countsTest, moduleTest, modeTest, taskTes
 use Rattle.stationjudge.specs.Judging.{resultsJudged, changesJudged}
 use Rattle.stationjudge.specs.declared.Given.{Given}
 use Rattle.stationjudge.specs.declared.Change.{Change}
-use Rattle.stationsteps.specs.Steps.{numberAt, outRule, heldRule, modeRule, ageRule, givenRule, modeByteRule, fullRule, loadRule}
-use Rattle.stationsteps.specs.Nodes.{landingOf, nodeRule}
-use Rattle.stationsteps.specs.declared.nodes.Node.{Node}
-use Rattle.stationsteps.specs.declared.nodes.Landing.{Landing}
-use Rattle.stationsteps.specs.declared.nodes.Landing.the-variants.{Nothing}
+use Rattle.stationsteps.specs.Steps.{outRule, modeRule, ageRule, givenRule}
+use Rattle.stationbus.specs.Bus.{numberAt, heldRule, modeByteRule, fullRule, loadRule}
+use Rattle.stationnodes.specs.Nodes.{landingOf, nodeRule}
+use Rattle.stationnodes.specs.declared.Node.{Node}
+use Rattle.stationnodes.specs.declared.Landing.{Landing}
+use Rattle.stationnodes.specs.declared.Landing.the-variants.{Nothing}
 use Rattle.units.specs.declared.Ticks.{Ticks}
 use Rattle.station.specs.declared.Modules.{Modules}
 use Rattle.station.specs.declared.Modes.{Modes}

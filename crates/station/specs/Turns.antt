@@ -9,8 +9,8 @@ use Rattle.stationrange.specs.Ranges.{placeTest}
 use Rattle.stationjudge.specs.Inputs.{inputOf}
 use Rattle.stationjudge.specs.declared.Given.{Given}
 use Rattle.stationjudge.specs.declared.Change.{Change}
-use Rattle.stationsteps.specs.Nodes.{noNode}
-use Rattle.stationsteps.specs.declared.nodes.Node.{Node}
+use Rattle.stationnodes.specs.Nodes.{noNode}
+use Rattle.stationnodes.specs.declared.Node.{Node}
 use Rattle.units.specs.declared.Ticks.{Ticks}
 use Rattle.station.specs.declared.Modules.{Modules}
 use Rattle.station.specs.declared.Modes.{Modes}

@@ -2,7 +2,7 @@
 -- Assumes nothing.
 use mathlib.Core.Path.{ap, _∙_}
 use Rattle.laws.specs.Loops.{stores}
-use Rattle.stationsteps.specs.Steps.{heldRule}
+use Rattle.stationbus.specs.Bus.{heldRule}
 use borrow.Author.Needs.{needs}
 use Rattle.station.proofs.held_by.Statement.{statement}
 use Rattle.station.proofs.held_by.Tie as tie

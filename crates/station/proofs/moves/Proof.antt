@@ -1,7 +1,7 @@
 use mathlib.Core.Path.{ap, _∙_}
 use denote.Ref.{now}
 use Rattle.rules.specs.Station.{rowWith}
-use Rattle.stationsteps.specs.Steps.{numberAt}
+use Rattle.stationbus.specs.Bus.{numberAt}
 use Rattle.station.specs.Parts.{saidBy, playBy, movedBy}
 use Rattle.station.proofs.Ways.{moved-made}
 use borrow.Author.Needs.{needs}

@@ -1,6 +1,6 @@
 use mathlib.Core.Path.{_∙_}
 use Prim.Native.Nat.{_≤_, _-_}
-use Rattle.laws.proofs.Turns.{Filled, filled-none, filled-turn, filled-next, filled-end}
+use Rattle.laws.proofs.Turns.{Filled, filled-none, filled-turn, filled-end}
 use Rattle.stationsteps.specs.Steps.{endsRule}
 use mathlib.Core.Bool.{false}
 use lib.ListN.{replicate}

@@ -19,8 +19,8 @@ use denote.Struct.At.{spelled}
 use denote.Struct.Laws as LL
 use Rattle.units.proofs.Ticks as Ti
 use Rattle.units.proofs.Ticks.Laws as Ti′
-use Rattle.stationsteps.specs.declared.nodes.Node.{Node}
-use Rattle.stationsteps.proofs.nodes.Node.Laws as N′
+use Rattle.stationnodes.specs.declared.Node.{Node}
+use Rattle.stationnodes.proofs.Node.Laws as N′
 use Rattle.station.specs.Turns.{moved}
 use Rattle.station.specs.declared.Play.{Play}
 use Rattle.station.specs.declared.Station.{Station}

@@ -17,7 +17,7 @@ use types.Part.{look-in}
 use types.Run.{look, init, forget, stop, fld, from, load, of-opd, assigns, returns, free1, free0}
 use denote.Memory.{pointee}
 use Rattle.units.proofs.Ticks.Laws as Ti′
-use Rattle.stationsteps.proofs.nodes.Node.Laws as N′
+use Rattle.stationnodes.proofs.Node.Laws as N′
 use Rattle.station.proofs.Modules.Laws as Mo′
 use Rattle.station.proofs.Modes.Laws as Md′
 use Rattle.station.proofs.Tasks.Laws as Ta′

@@ -1,0 +1,37 @@
+-- What a function returns on each of its ways, over plain variables: the test x of the code is that of the definition.
+-- Assumes nothing.
+use mathlib.Core.Path.{_≡_, refl, sym, _∙_}
+use mathlib.Core.Bool.{Bool, true, false, _&&_}
+use mathlib.Core.List.{List}
+use mathlib.Core.Option.{none}
+use lib.Dec.{leb}
+use lib.ListN.{length}
+use Prim.Native.Nat.{ℕ}
+use Rattle.laws.specs.Lists.{all, upTo}
+use Rattle.laws.proofs.Lists.{both-left, both-right, all-upTo-true}
+use Rattle.laws.proofs.Loops.{firstBad-upTo-none}
+use Rattle.rules.specs.Station.{hasOther, rowWith}
+use Rattle.stationjudge.specs.declared.Given.{Given}
+use Rattle.stationjudge.specs.declared.Change.{Change}
+use Rattle.stationbus.specs.Bus.{numberAt}
+
+-- no row has this time
+pub none-with : (times : List ℕ) (count time : ℕ) {x : Bool}
+    → x ≡ (leb count (length times) && all (hasOther (numberAt times) time) (upTo count)) → x ≡ true → none ≡ rowWith (numberAt times) count time
+unfolding rowWith
+none-with times count time e t =
+    let p = hasOther (numberAt times) time in
+    let each = both-right (leb count (length times)) (all p (upTo count)) (sym e ∙ t) in
+    sym (firstBad-upTo-none p count (λ k w. all-upTo-true p count k each w))
+
+-- a message: a bus task, with a period that divides the deadline
+module _ (f z d : Bool) where
+  pub message-yes : {x r : Bool} → x ≡ (f && z) → x ≡ true → r ≡ d → r ≡ (f && (z && d))
+  message-yes e t h = rw (both-left f z (sym e ∙ t), both-right f z (sym e ∙ t)) h
+
+  pub message-no : {x : Bool} → x ≡ (f && z) → x ≡ false → false ≡ (f && (z && d))
+  message-no e t = shut f z (sym e ∙ t)
+    where
+      shut : (f z : Bool) → (f && z) ≡ false → false ≡ (f && (z && d))
+      shut true z q = rw q
+      shut false z q = refl

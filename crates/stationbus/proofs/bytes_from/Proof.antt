@@ -1,0 +1,28 @@
+use mathlib.Core.Path.{_∙_}
+use Prim.Native.Nat.{_≤_, _-_}
+use Rattle.laws.proofs.Turns.{Filled, filled-none, filled-turn, filled-next, filled-end}
+use Rattle.stationbus.specs.Bus.{byteFromRule, numberAt}
+use borrow.Author.Needs.{needs}
+use Rattle.stationbus.proofs.bytes_from.Statement.{statement}
+use Rattle.stationbus.proofs.bytes_from.Tie as tie
+
+abbrev Inv-loop : tie.InvT-loop
+Inv-loop sender sends nodes modes bytes₀ m₀ bytes m = (m ≤ 16) × Filled bytes₀ (byteFromRule sends nodes (numberAt modes) sender bytes₀) m bytes
+
+abbrev μ-loop : tie.MeasureT-loop
+μ-loop sender sends nodes modes bytes₀ m₀ bytes m = 16 - m
+
+loop-holds : tie.Need-loop-holds Inv-loop μ-loop
+loop-holds c = (search needs, filled-none)
+
+loop-again : tie.Need-loop-again Inv-loop μ-loop
+loop-again c = (search needs, filled-turn (c .before .before .before .loop .inv .1) (c .byte-from .ensures ∙ rw (filled-next (c .before .before .before .loop .inv .1) 0)))
+
+returns : tie.Need-returns Inv-loop μ-loop
+returns c = filled-end (c .before .loop .inv .1) (c .before .loop .inv .0) (c .loop-test .left)
+
+pub bytes-from-spec : {M : Type 1} → statement M
+bytes-from-spec =
+    tie.close
+    (tie.spec Inv-loop μ-loop loop-holds (λ c. search needs) (λ c. search needs) (λ c κs. search needs) (λ c. search needs)
+    (λ c. search needs) (λ c. search needs) loop-again returns)

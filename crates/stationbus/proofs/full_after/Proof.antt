@@ -1,0 +1,16 @@
+use mathlib.Core.Path.{_∙_}
+use borrow.Author.Needs.{needs}
+use Rattle.stationbus.proofs.full_after.Statement.{statement}
+use Rattle.stationbus.proofs.full_after.Tie as tie
+
+returns : tie.Need-returns
+returns c = rw (c .enum-told .given .1)
+
+returns-2 : tie.Need-returns-2
+returns-2 c = rw (c .before .before .before .before .before .before .before .before .before .before .row .given .1) (c .has-message .ensures ∙ rw (c .before .number-at .ensures, c .before .before .before .byte-at3 .ensures .0, c .before .before .before .before .byte-at2 .ensures .0, c .before .before .before .before .before .before .before .byte-at .ensures .0))
+
+pub full-after-spec : {M : Type 1} → statement M
+full-after-spec =
+    tie.close
+    (tie.spec (λ c. search needs) (λ c. search needs) (λ c κs. search needs) (λ c κs. search needs) (λ c κs. search needs)
+    (λ c κs. search needs) (λ c κs. search needs) returns returns-2)

@@ -1,0 +1,22 @@
+use mathlib.Core.Path.{_∙_}
+use mathlib.Core.Bool.{false}
+use lib.Dec.{ltb}
+use lib.ListN.{getD}
+use denote.Ref.{now}
+use Rattle.laws.specs.Numbers.{divides}
+use Rattle.stationjudge.specs.Judging.{periodAt}
+use Rattle.stationbus.proofs.Ways.{message-yes, message-no}
+use borrow.Author.Needs.{needs}
+use Rattle.stationbus.proofs.has_message.Statement.{statement}
+use Rattle.stationbus.proofs.has_message.Tie as tie
+
+returns : tie.Need-returns
+returns c = let a = c .before .before .before .before .before .before .args in message-yes (getD (now (a .bus)) (a .task) false) (ltb 0 (periodAt (now (a .runs)) (a .mode) (a .task))) (divides (periodAt (now (a .runs)) (a .mode) (a .task)) (a .deadline)) (c .before .before .both .ensures ∙ rw (c .before .before .before .flag-at .ensures, c .before .before .before .before .before .period-at .ensures)) (c .before .if1 .taken) (c .divides .ensures ∙ rw (c .before .before .before .before .before .period-at .ensures))
+
+returns-2 : tie.Need-returns-2
+returns-2 c = let a = c .before .before .before .before .before .args in message-no (getD (now (a .bus)) (a .task) false) (ltb 0 (periodAt (now (a .runs)) (a .mode) (a .task))) (divides (periodAt (now (a .runs)) (a .mode) (a .task)) (a .deadline)) (c .before .both .ensures ∙ rw (c .before .before .flag-at .ensures, c .before .before .before .before .period-at .ensures)) (c .if1 .left)
+
+pub has-message-spec : {M : Type 1} → statement M
+has-message-spec =
+    tie.close
+    (tie.spec (λ c κs. search needs) (λ c κs. search needs) (λ c κs. search needs) (λ c κs. search needs) returns returns-2)

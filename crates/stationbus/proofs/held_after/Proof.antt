@@ -1,0 +1,27 @@
+use mathlib.Core.Path.{_≡_, sym, ap, _∙_}
+use lib.ListN.{length}
+use denote.Ref.{now}
+use Rattle.laws.specs.Loops.{stores}
+use Rattle.laws.proofs.Stores.{stores-idle, stores-within}
+use Rattle.stationjudge.specs.Inputs.{foundOf}
+use Rattle.stationbus.specs.Bus.{heldAt, heldRule}
+use borrow.Author.Needs.{needs}
+use Rattle.stationbus.proofs.held_after.Statement.{statement}
+use Rattle.stationbus.proofs.held_after.Tie as tie
+
+returns : tie.Need-returns
+returns c = let a = c .before .before .args in
+    let size : length (a .held) ≡ 128 = search needs in
+    let e : a .held ≡ stores (a .held) (heldRule (now (a .sends)) (now (a .nodes)) (now (a .bytes)) (now (a .senders)) (a .held) (foundOf (a .row))) 128 = stores-idle (a .held) (heldRule (now (a .sends)) (now (a .nodes)) (now (a .bytes)) (now (a .senders)) (a .held) (foundOf (a .row))) 128 0 (λ k w. rw (c .enum-told .given .1)) in
+    (e, stores-within (a .held) (heldRule (now (a .sends)) (now (a .nodes)) (now (a .bytes)) (now (a .senders)) (a .held) (foundOf (a .row))) 128 0 size e)
+
+returns-2 : tie.Need-returns-2
+returns-2 c = let a = c .before .before .before .before .before .before .args in
+    let size : length (a .held) ≡ 128 = search needs in
+    let e : c .held-from .result ≡ stores (a .held) (heldRule (now (a .sends)) (now (a .nodes)) (now (a .bytes)) (now (a .senders)) (a .held) (foundOf (a .row))) 128 = c .held-from .ensures ∙ ap (λ s. stores (a .held) (heldAt (now (a .sends)) (now (a .nodes)) (now (a .bytes)) s (a .held)) 128) (c .before .byte-at .ensures .0) ∙ ap (λ o. stores (a .held) (heldRule (now (a .sends)) (now (a .nodes)) (now (a .bytes)) (now (a .senders)) (a .held) o) 128) (sym (ap foundOf (c .before .before .before .before .row .given .1))) in
+    (e, stores-within (a .held) (heldRule (now (a .sends)) (now (a .nodes)) (now (a .bytes)) (now (a .senders)) (a .held) (foundOf (a .row))) 128 0 size e)
+
+pub held-after-spec : {M : Type 1} → statement M
+held-after-spec =
+    tie.close
+    (tie.spec (λ c. search needs) (λ c. search needs) (λ c κs. search needs) (λ c κs. search needs) returns returns-2)

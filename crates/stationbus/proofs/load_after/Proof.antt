@@ -1,0 +1,12 @@
+use mathlib.Core.Path.{_∙_}
+use borrow.Author.Needs.{needs}
+use Rattle.stationbus.proofs.load_after.Statement.{statement}
+use Rattle.stationbus.proofs.load_after.Tie as tie
+
+returns-2 : tie.Need-returns-2
+returns-2 c = rw (c .before .before .before .before .before .row .given .1) (c .value-at .ensures ∙ rw (c .before .byte-at .ensures .0))
+
+pub load-after-spec : {M : Type 1} → statement M
+load-after-spec =
+    tie.close
+    (tie.spec (λ c. search needs) (λ c. search needs) (λ c κs. search needs) (λ c κs. search needs) (λ c. search needs) returns-2)

@@ -1,0 +1,29 @@
+use mathlib.Core.Path.{_∙_}
+use Prim.Native.Nat.{_≤_, _-_}
+use Rattle.laws.proofs.Turns.{Filled, filled-none, filled-turn, filled-next, filled-end}
+use Rattle.stationnodes.specs.Nodes.{nodeRule, noNode}
+use borrow.Author.Needs.{needs}
+use Rattle.stationnodes.proofs.nodes_after.Statement.{statement}
+use Rattle.stationnodes.proofs.nodes_after.Tie as tie
+
+abbrev Inv-loop : tie.InvT-loop
+Inv-loop landing ends homes nodes out held bus runs clock old₀ n₀ old n = (n ≤ 8) × Filled old₀ (nodeRule ends homes nodes out held bus runs clock landing old₀) n old
+
+abbrev μ-loop : tie.MeasureT-loop
+μ-loop landing ends homes nodes out held bus runs clock old₀ n₀ old n = 8 - n
+
+loop-holds : tie.Need-loop-holds Inv-loop μ-loop
+loop-holds c = (search needs, filled-none)
+
+loop-again : tie.Need-loop-again Inv-loop μ-loop
+unfolding nodeRule
+loop-again c = (search needs, filled-turn (c .before .before .before .loop .inv .1) (c .node-after .ensures ∙ rw (filled-next (c .before .before .before .loop .inv .1) noNode)))
+
+returns : tie.Need-returns Inv-loop μ-loop
+returns c = filled-end (c .before .loop .inv .1) (c .before .loop .inv .0) (c .loop-test .left)
+
+pub nodes-after-spec : {M : Type 1} → statement M
+nodes-after-spec =
+    tie.close
+    (tie.spec Inv-loop μ-loop loop-holds (λ c. search needs) (λ c. search needs) (λ c κs. search needs) (λ c. search needs)
+    (λ c. search needs) (λ c. search needs) (λ c. search needs) loop-again returns)

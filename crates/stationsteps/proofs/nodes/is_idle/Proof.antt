@@ -1,9 +1,0 @@
-use borrow.Author.Needs.{needs}
-use Rattle.stationsteps.proofs.nodes.is_idle.Statement.{statement}
-use Rattle.stationsteps.proofs.nodes.is_idle.Tie as tie
-
-returns : tie.Need-returns
-returns c = rw (c .before .enum-told .given .1) (c .is-quiet .ensures)
-
-pub is-idle-spec : {M : Type 1} → statement M
-is-idle-spec = tie.close (tie.spec (λ c. search needs) (λ c κs. search needs) (λ c. search needs) returns (λ c. search needs))
