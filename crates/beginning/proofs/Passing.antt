@@ -42,8 +42,8 @@ use Rattle.checker.specs.declared.Answer.the-variants as checker
 use Rattle.checker.specs.declared.Checked.{Checked}
 use Rattle.tableread.specs.declared.Reading as tables
 use Rattle.tableread.specs.Memory.{nodeOf, beginOf, endOf, taskOf, deadlineOf, startOf, stopOf, layOut, readingOf}
-use Rattle.stationjudge.specs.Inputs.{changeAt}
-use Rattle.stationjudge.specs.declared.Change.{Change}
+use Rattle.stationruns.specs.Inputs.{changeAt}
+use Rattle.stationruns.specs.declared.Change.{Change}
 use Rattle.station.specs.Memory.{heldLaid, laid, nodeLaid, notBegun, playLaid}
 use Rattle.station.specs.declared.Controls.{Controls}
 use Rattle.station.specs.declared.Modes.{Modes}

@@ -20,8 +20,8 @@ use Rattle.rules.specs.Station as rules
 use Rattle.rules.specs.Station.{Kept}
 use Rattle.rules.proofs.StationKept.{SameKept, follows-kept}
 use Rattle.rules.proofs.StationPlaces.{Agree, Follows, transparent-follows, transparent-follows-own}
-use Rattle.stationjudge.specs.Inputs.{changeAt}
-use Rattle.stationjudge.specs.declared.Change.{Change}
+use Rattle.stationruns.specs.Inputs.{changeAt}
+use Rattle.stationruns.specs.declared.Change.{Change}
 use Rattle.stationnodes.specs.Nodes.{noNode, zeroNode}
 use Rattle.station.specs.Memory.{keptBy, keptOf, laid, notBegun, stateOf}
 use Rattle.station.specs.declared.Station.{Station}

@@ -8,9 +8,9 @@ use Rattle.answers.specs.declared.Refusal.{Refusal}
 use Rattle.rules.specs.Playing.{Input}
 use Rattle.rules.specs.Station as rules
 use Rattle.rules.specs.StationRange.{countsInRange, inRange, isBetween, keptInRange, ticked}
-use Rattle.stationjudge.specs.Inputs.{inputOf}
-use Rattle.stationjudge.specs.declared.Change.{Change}
-use Rattle.stationjudge.specs.declared.Given.{Given}
+use Rattle.stationruns.specs.Inputs.{inputOf}
+use Rattle.stationruns.specs.declared.Change.{Change}
+use Rattle.stationruns.specs.declared.Given.{Given}
 use Rattle.station.specs.Answers.{Answers, answerOf}
 use Rattle.station.specs.Memory.{keptBy, keptOf, notBegun, stateOf}
 use Rattle.station.specs.declared.Ticked.{Ticked}

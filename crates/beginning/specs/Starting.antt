@@ -8,8 +8,8 @@ use Prim.Native.Nat.{ℕ}
 use Rattle.laws.specs.Lists.{firstBad, upTo}
 use Rattle.laws.specs.Loops.{stores}
 use Rattle.answers.specs.declared.Refusal.the-variants.{NotBegun}
-use Rattle.stationjudge.specs.Inputs.{changeAt}
-use Rattle.stationjudge.specs.declared.Change.{Change}
+use Rattle.stationruns.specs.Inputs.{changeAt}
+use Rattle.stationruns.specs.declared.Change.{Change}
 use Rattle.stationsteps.specs.Steps.{modeRule}
 use Rattle.station.specs.Memory.{notBegun}
 use Rattle.station.specs.declared.Play.{Play}

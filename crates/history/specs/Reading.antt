@@ -8,10 +8,10 @@ use Rattle.laws.specs.Loops.{stores}
 use Rattle.text.specs.Text.{isDigit, readDecimal, runOn}
 use Rattle.text.specs.declared.Number.{Number}
 use Rattle.text.specs.declared.Number.the-variants as number
-use Rattle.stationjudge.specs.declared.Given.{Given}
-use Rattle.stationjudge.specs.declared.Given.the-variants as given
-use Rattle.stationjudge.specs.declared.Change.{Change}
-use Rattle.stationjudge.specs.declared.Change.the-variants as change
+use Rattle.stationruns.specs.declared.Given.{Given}
+use Rattle.stationruns.specs.declared.Given.the-variants as given
+use Rattle.stationruns.specs.declared.Change.{Change}
+use Rattle.stationruns.specs.declared.Change.the-variants as change
 use Rattle.history.specs.declared.Pair.{Pair}
 use Rattle.history.specs.declared.Pair.the-variants as pair
 use Rattle.history.specs.declared.End.{End}

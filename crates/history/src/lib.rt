@@ -5,8 +5,8 @@ ghost use lib.ListN.{length};
 ghost use Rattle.history.specs.Reading.{behindWord, beginLine, changeFrom, changesOf, endedBy, fits, givenOf, goesOn, isEnd, isFree, isNothing, lineEnd, listAt, modesAt, noPlace, pairAt, pairsAt, plain, quietLine, readLine, resultsAt, tickLine, withValue, wrongList};
 use figures::both;
 use places::byte_at;
-use stationjudge::Change;
-use stationjudge::Given;
+use stationruns::Change;
+use stationruns::Given;
 use text::Number;
 use units::ModeNo;
 

@@ -4,8 +4,8 @@ use mathlib.Core.List.{List}
 use Prim.Native.Nat.{ℕ}
 use Rattle.laws.specs.Res.{Res}
 use Rattle.rules.specs.Station as rules
-use Rattle.stationjudge.specs.declared.Change.{Change}
-use Rattle.stationjudge.specs.Inputs.{changeAt}
+use Rattle.stationruns.specs.declared.Change.{Change}
+use Rattle.stationruns.specs.Inputs.{changeAt}
 use Rattle.beginning.specs.declared.Begun as beginning
 use Rattle.beginning.specs.Begins.{Begins, heard, verdict, stationFor}
 use Rattle.olbiothar.specs.declared.playing.Begun.{Begun}

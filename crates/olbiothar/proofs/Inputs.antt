@@ -2,10 +2,10 @@
 use mathlib.Core.Path.{_≡_}
 use borrow.Author.Tests.{eq-eqb, ne-eqb}
 use Prim.Native.Nat.{ℕ}
-use Rattle.stationjudge.specs.declared.Given.{Given}
-use Rattle.stationjudge.specs.declared.Given.the-variants as given
-use Rattle.stationjudge.specs.declared.Change.{Change}
-use Rattle.stationjudge.specs.declared.Change.the-variants as change
+use Rattle.stationruns.specs.declared.Given.{Given}
+use Rattle.stationruns.specs.declared.Given.the-variants as given
+use Rattle.stationruns.specs.declared.Change.{Change}
+use Rattle.stationruns.specs.declared.Change.the-variants as change
 use Rattle.olbiothar.specs.Playing.{givenFor, changeFor}
 
 pub given-none : (flag result : ℕ) → flag ≡ 0 → given.Nothing ≡ givenFor flag result

@@ -16,9 +16,9 @@ use Rattle.rules.specs.StationRange.{ticked}
 use Rattle.station.specs.Memory.{keptOf, stateOf}
 use Rattle.station.specs.Turns.{Turns}
 use Rattle.station.specs.declared.Turn.{Turn}
-use Rattle.stationjudge.specs.declared.Given.{Given}
-use Rattle.stationjudge.specs.declared.Change.{Change}
-use Rattle.stationjudge.specs.Inputs.{inputOf}
+use Rattle.stationruns.specs.declared.Given.{Given}
+use Rattle.stationruns.specs.declared.Change.{Change}
+use Rattle.stationruns.specs.Inputs.{inputOf}
 use Rattle.olbiothar.specs.declared.Answer.{Answer}
 use Rattle.olbiothar.specs.declared.playing.Row.{Row}
 use Rattle.olbiothar.specs.declared.playing.Ticked.{Ticked}

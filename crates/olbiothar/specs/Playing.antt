@@ -9,10 +9,10 @@ use Rattle.laws.specs.Res.{Res, ok, refuse}
 use Rattle.laws.specs.Loops.{stores}
 use Rattle.rules.specs.Station as rules
 use Rattle.answers.specs.Refusals.{said}
-use Rattle.stationjudge.specs.declared.Given.{Given}
-use Rattle.stationjudge.specs.declared.Given.the-variants as given
-use Rattle.stationjudge.specs.declared.Change.{Change}
-use Rattle.stationjudge.specs.declared.Change.the-variants as change
+use Rattle.stationruns.specs.declared.Given.{Given}
+use Rattle.stationruns.specs.declared.Given.the-variants as given
+use Rattle.stationruns.specs.declared.Change.{Change}
+use Rattle.stationruns.specs.declared.Change.the-variants as change
 use Rattle.station.specs.declared.Said.{Said}
 use Rattle.station.specs.declared.Said.the-variants.{Control, Data, Quiet, Refused}
 use Rattle.station.specs.declared.Station.{Station}

@@ -9,9 +9,9 @@ use Rattle.laws.specs.Res.{Res, ok, refuse}
 use Rattle.laws.proofs.Res.{refuse≢ok, ok-injective}
 use Rattle.rules.specs.Station as rules
 use Rattle.rules.specs.StationRange.{ticked}
-use Rattle.stationjudge.specs.Inputs.{inputOf}
-use Rattle.stationjudge.specs.declared.Given.the-variants as given
-use Rattle.stationjudge.specs.declared.Change.the-variants as change
+use Rattle.stationruns.specs.Inputs.{inputOf}
+use Rattle.stationruns.specs.declared.Given.the-variants as given
+use Rattle.stationruns.specs.declared.Change.the-variants as change
 use Rattle.station.specs.Memory.{keptOf, stateOf, laid}
 use Rattle.station.specs.Answers.{Answers, outcome, isRefused, answerLaid}
 use Rattle.station.specs.declared.Said.{Said}

@@ -7,8 +7,8 @@ use native.Mathlib.Omega.{arith}
 use lib.ListN.{length, drop, take}
 use Prim.Native.Nat.{ℕ, zero, suc, _-_, _≤_, _<_}
 use Rattle.rules.specs.Station as rules
-use Rattle.stationjudge.specs.Inputs.{changeAt}
-use Rattle.stationjudge.specs.declared.Change.{Change}
+use Rattle.stationruns.specs.Inputs.{changeAt}
+use Rattle.stationruns.specs.declared.Change.{Change}
 use Rattle.station.specs.Memory.{notBegun}
 use Rattle.station.specs.declared.Station.{Station}
 use Rattle.beginning.specs.Begins.{stationFor}

@@ -7,11 +7,11 @@ use Prim.Native.Nat.{ℕ, zero, suc}
 use Rattle.laws.specs.Res.{Res, ok, refuse}
 use Rattle.rules.specs.Station as rules
 use Rattle.rules.specs.StationRange.{ticked}
-use Rattle.stationjudge.specs.Inputs.{changeAt, inputOf}
-use Rattle.stationjudge.specs.declared.Given.{Given}
-use Rattle.stationjudge.specs.declared.Given.the-variants as given
-use Rattle.stationjudge.specs.declared.Change.{Change}
-use Rattle.stationjudge.specs.declared.Change.the-variants as change
+use Rattle.stationruns.specs.Inputs.{changeAt, inputOf}
+use Rattle.stationruns.specs.declared.Given.{Given}
+use Rattle.stationruns.specs.declared.Given.the-variants as given
+use Rattle.stationruns.specs.declared.Change.{Change}
+use Rattle.stationruns.specs.declared.Change.the-variants as change
 use Rattle.station.specs.Memory.{keptOf, stateOf, laid, notBegun}
 use Rattle.station.specs.declared.Station.{Station}
 use Rattle.beginning.specs.Begins.{stationFor}

@@ -20,9 +20,9 @@ use history::read_line;
 use libc::STDOUT_FILENO;
 use station::Said;
 use station::Station;
-use stationjudge::Change;
-use stationjudge::Given;
 use stationnodes::Node;
+use stationruns::Change;
+use stationruns::Given;
 
 // What comes of a line: the station after it, and whether the next one is read.
 pub struct Heard {

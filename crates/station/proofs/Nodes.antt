@@ -32,9 +32,9 @@ use Rattle.rules.specs.Station.{
 use Rattle.rules.specs.StationRange.{inRange}
 use Rattle.rules.proofs.StationStays.{range-tests}
 use Rattle.rules.specs.Playing.{Input}
-use Rattle.stationjudge.specs.Inputs.{inputOf}
-use Rattle.stationjudge.specs.declared.Given.{Given}
-use Rattle.stationjudge.specs.declared.Change.{Change}
+use Rattle.stationruns.specs.Inputs.{inputOf}
+use Rattle.stationruns.specs.declared.Given.{Given}
+use Rattle.stationruns.specs.declared.Change.{Change}
 use Rattle.stationbus.specs.Bus.{numberAt}
 use Rattle.stationnodes.specs.Nodes.{noNode, landingOf, landedRule, shownRule, nodeAt, nodeRule}
 use Rattle.stationnodes.specs.declared.Node.{Node}

@@ -10,9 +10,9 @@ use Rattle.rules.specs.Playing.{Input}
 use Rattle.rules.specs.Station as rules
 use Rattle.rules.specs.StationRange.{ticked}
 use Rattle.rules.proofs.StationPlaces.{Agree, Follows, begun, next}
-use Rattle.stationjudge.specs.Inputs.{inputOf}
-use Rattle.stationjudge.specs.declared.Given.{Given}
-use Rattle.stationjudge.specs.declared.Change.{Change}
+use Rattle.stationruns.specs.Inputs.{inputOf}
+use Rattle.stationruns.specs.declared.Given.{Given}
+use Rattle.stationruns.specs.declared.Change.{Change}
 use Rattle.station.specs.Memory.{keptOf, stateOf, laid}
 use Rattle.station.specs.Answers.{Answers, answerOf, answerLaid, outcome, isRefused, rowSaid}
 use Rattle.station.specs.declared.Said.{Said}

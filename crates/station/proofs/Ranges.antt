@@ -47,10 +47,10 @@ use Rattle.rules.specs.StationRange.{
   stateInRange,
 }
 use Rattle.stationrange.specs.Ranges.{runsTest}
-use Rattle.stationjudge.specs.Inputs.{inputOf, changeAt}
+use Rattle.stationruns.specs.Inputs.{inputOf, changeAt}
 use Rattle.stationjudge.specs.Judging.{awaitedTest, fitsTest, inTimeTest, allows, allowedTest}
-use Rattle.stationjudge.specs.declared.Given.{Given}
-use Rattle.stationjudge.specs.declared.Change.{Change}
+use Rattle.stationruns.specs.declared.Given.{Given}
+use Rattle.stationruns.specs.declared.Change.{Change}
 use Rattle.station.specs.Memory.{keptBy, keptOf, stateBy, stateOf}
 use Rattle.station.specs.Parts.{keptTest, heldTest, stateTest, judgedBy}
 use Rattle.station.specs.Turns.{Valued}

@@ -36,9 +36,9 @@ use Rattle.rules.specs.Station.{
   loadAfter,
 }
 use Rattle.rules.specs.Playing.{Input}
-use Rattle.stationjudge.specs.Inputs.{inputOf}
-use Rattle.stationjudge.specs.declared.Given.{Given}
-use Rattle.stationjudge.specs.declared.Change.{Change}
+use Rattle.stationruns.specs.Inputs.{inputOf}
+use Rattle.stationruns.specs.declared.Given.{Given}
+use Rattle.stationruns.specs.declared.Change.{Change}
 use Rattle.stationsteps.specs.Steps.{outRule, modeRule, ageRule, givenRule}
 use Rattle.stationbus.specs.Bus.{heldRule, modeByteRule, fullRule, loadRule}
 use Rattle.station.specs.Memory.{keptBy, keptOf, stateBy, stateOf, heldLaid, playLaid}

@@ -31,9 +31,9 @@ use Rattle.rules.specs.Station.{
 }
 use Rattle.rules.specs.StationRange.{inRange, ticked}
 use Rattle.rules.specs.Playing.{Input}
-use Rattle.stationjudge.specs.Inputs.{inputOf}
-use Rattle.stationjudge.specs.declared.Given.{Given}
-use Rattle.stationjudge.specs.declared.Change.{Change}
+use Rattle.stationruns.specs.Inputs.{inputOf}
+use Rattle.stationruns.specs.declared.Given.{Given}
+use Rattle.stationruns.specs.declared.Change.{Change}
 use Rattle.stationsteps.specs.Steps.{endsRule}
 use Rattle.stationnodes.specs.Nodes.{isLanding, quietAt}
 use Rattle.stationnodes.specs.declared.Node.{Node}

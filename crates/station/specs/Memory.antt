@@ -6,7 +6,7 @@ use lib.ListN.{getD, replicate}
 use Prim.Native.Nat.{ℕ, _+_, _*_, _/_, _%_}
 use Rattle.laws.specs.Loops.{stores}
 use Rattle.rules.specs.Station.{Kept, State}
-use Rattle.stationjudge.specs.Judging.{periodAt}
+use Rattle.stationruns.specs.Runs.{periodAt}
 use Rattle.stationbus.specs.Bus.{numberAt}
 use Rattle.stationnodes.specs.Nodes.{noNode, zeroNode}
 use Rattle.stationnodes.specs.declared.Node.{Node}

@@ -13,8 +13,8 @@ use Rattle.rules.specs.Station.{oneOn, rowWith}
 use Rattle.rules.specs.StationRange.{isValue}
 use Rattle.stationrange.specs.Ranges.{countsTest, moduleTest, modeTest, taskTest, runsTest, controlTest, dataTest, playTest, boxTest, byteTest}
 use Rattle.stationjudge.specs.Judging.{resultsJudged, changesJudged}
-use Rattle.stationjudge.specs.declared.Given.{Given}
-use Rattle.stationjudge.specs.declared.Change.{Change}
+use Rattle.stationruns.specs.declared.Given.{Given}
+use Rattle.stationruns.specs.declared.Change.{Change}
 use Rattle.stationsteps.specs.Steps.{outRule, modeRule, ageRule, givenRule}
 use Rattle.stationbus.specs.Bus.{numberAt, heldRule, modeByteRule, fullRule, loadRule}
 use Rattle.stationnodes.specs.Nodes.{landingOf, nodeRule}

@@ -6,9 +6,9 @@ use lib.ListN.{getD}
 use Prim.Native.Nat.{ℕ}
 use Rattle.rules.specs.StationRange.{ticked}
 use Rattle.stationrange.specs.Ranges.{placeTest}
-use Rattle.stationjudge.specs.Inputs.{inputOf}
-use Rattle.stationjudge.specs.declared.Given.{Given}
-use Rattle.stationjudge.specs.declared.Change.{Change}
+use Rattle.stationruns.specs.Inputs.{inputOf}
+use Rattle.stationruns.specs.declared.Given.{Given}
+use Rattle.stationruns.specs.declared.Change.{Change}
 use Rattle.stationnodes.specs.Nodes.{noNode}
 use Rattle.stationnodes.specs.declared.Node.{Node}
 use Rattle.units.specs.declared.Ticks.{Ticks}

@@ -11,8 +11,8 @@ use Rattle.laws.specs.Lists.{all, upTo}
 use Rattle.laws.proofs.Lists.{both-left, both-right, all-upTo-true}
 use Rattle.laws.proofs.Loops.{firstBad-upTo-none}
 use Rattle.rules.specs.Station.{hasOther, rowWith}
-use Rattle.stationjudge.specs.declared.Given.{Given}
-use Rattle.stationjudge.specs.declared.Change.{Change}
+use Rattle.stationruns.specs.declared.Given.{Given}
+use Rattle.stationruns.specs.declared.Change.{Change}
 use Rattle.stationbus.specs.Bus.{numberAt}
 
 -- no row has this time

@@ -7,7 +7,7 @@ use lib.Dec.{eqb, ltb}
 use lib.ListN.{getD}
 use Prim.Native.Nat.{ℕ, _/_, _%_}
 use Rattle.laws.specs.Numbers.{divides}
-use Rattle.stationjudge.specs.Judging.{periodAt}
+use Rattle.stationruns.specs.Runs.{periodAt}
 
 abbrev pub numberAt : List ℕ → ℕ → ℕ
 numberAt l k = getD l k 0

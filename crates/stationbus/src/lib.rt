@@ -8,7 +8,7 @@ ghost use Prim.Native.Nat.{ℕ, _<_};
 ghost use Rattle.laws.specs.Lists.{all, upTo};
 ghost use Rattle.laws.specs.Loops.{stores};
 ghost use Rattle.rules.specs.Station.{hasOther, rowWith};
-ghost use Rattle.stationjudge.specs.Inputs.{foundOf};
+ghost use Rattle.stationruns.specs.Inputs.{foundOf};
 ghost use Rattle.stationbus.specs.Bus.{byteFromRule, fullRule, heldAt, heldBy, heldRule, isByteAt, loadRule, messageIn, modeByteRule, numberAt};
 use figures::both;
 use figures::divides;
@@ -16,8 +16,8 @@ use places::byte_at;
 use places::flag_at;
 use places::number_at;
 use places::value_at;
-use stationjudge::Found;
-use stationjudge::period_at;
+use stationruns::Found;
+use stationruns::period_at;
 
 // Whether so many rows are there and none has this time. The scan does not end early, so that it is one straight pass.
 fn lacks<'a>(times: &'a [u32], count: usize, time: u32) -> bool

@@ -3,48 +3,21 @@
 use mathlib.Core.Bool.{Bool, true, false, not, _&&_, _||_}
 use mathlib.Core.List.{List}
 use mathlib.Core.Option.{Option, none, some}
-use lib.Dec.{eqb, leb, ltb}
+use lib.Dec.{eqb, ltb}
 use lib.ListN.{getD}
-use Prim.Native.Nat.{ℕ, _+_, _-_, _*_, _%_}
+use Prim.Native.Nat.{ℕ}
 use Rattle.laws.specs.Numbers.{divides}
 use Rattle.laws.specs.Lists.{firstBad, upTo}
 use Rattle.laws.specs.Res.{Res, ok, _>>_, at}
 use Rattle.rules.specs.Playing.{isGiven}
 use Rattle.rules.specs.Station.{fitsIn}
 use Rattle.answers.specs.Refusals.{said}
-use Rattle.stationjudge.specs.Inputs.{resultAt, changeAt}
-use Rattle.stationjudge.specs.declared.Given.{Given}
-use Rattle.stationjudge.specs.declared.Change.{Change}
-use Rattle.stationjudge.specs.declared.Run.{Run}
+use Rattle.stationruns.specs.Inputs.{resultAt, changeAt}
+use Rattle.stationruns.specs.Runs.{runAt, awaits, lastChance}
+use Rattle.stationruns.specs.declared.Given.{Given}
+use Rattle.stationruns.specs.declared.Change.{Change}
 use Rattle.stationjudge.specs.declared.Judged.{Judged}
 use Rattle.stationjudge.specs.declared.Judged.the-variants as judged
-
--- the period of a task in a mode: 32 places for each mode
-abbrev pub periodAt : List ℕ → ℕ → ℕ → ℕ
-periodAt runs μ t = getD runs (μ * 32 + t) 0
-
--- the period of the task's invocation in the mode that runs, and the time since that mode began
-abbrev pub runAt : List ℕ → List ℕ → List ℕ → List ℕ → ℕ → Run
-runAt runs modes ages homes t =
-    record {
-      period = record { 0 = periodAt runs (getD modes (getD homes t 0) 0) t };
-      age = record { 0 = getD ages (getD homes t 0) 0 };
-    }
-
-abbrev pub underWay : Run → Bool
-underWay run = ltb 0 (run .period .0) && ltb 0 (run .age .0)
-
-abbrev pub sinceRelease : Run → ℕ
-sinceRelease run = (run .age .0 - 1) % run .period .0 + 1
-
-abbrev pub awaits : Run → Bool → Bool → ℕ → Bool
-awaits run inPlan given worst = (inPlan && underWay run) && (not given && leb (sinceRelease run) worst)
-
-abbrev pub lastChance : Run → Bool → ℕ → Bool
-lastChance run inPlan worst = (inPlan && underWay run) && eqb (sinceRelease run) worst
-
-abbrev pub endsRun : Run → Bool
-endsRun run = underWay run && divides (run .period .0) (run .age .0)
 
 -- 41
 abbrev pub awaitedTest : List Given → ℕ → List ℕ → List ℕ → List ℕ → List ℕ → List Bool → List ℕ → ℕ → Bool

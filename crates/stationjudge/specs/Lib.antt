@@ -1,2 +1,1 @@
-pub mod Inputs
 pub mod Judging

@@ -11,8 +11,8 @@ use native.Mathlib.Omega.{arith}
 use Rattle.laws.specs.Loops.{stores}
 use Rattle.laws.proofs.Loops.{stores-at}
 use Rattle.laws.proofs.Stores.{stores-same}
-use Rattle.stationjudge.specs.declared.Given.{Given}
-use Rattle.stationjudge.specs.declared.Change.{Change}
+use Rattle.stationruns.specs.declared.Given.{Given}
+use Rattle.stationruns.specs.declared.Change.{Change}
 use Rattle.stationbus.specs.Bus.{numberAt}
 use Rattle.stationnodes.specs.Nodes.{landedRule, shownRule}
 use Rattle.stationnodes.specs.declared.Node.{Node}

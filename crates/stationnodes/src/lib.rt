@@ -5,7 +5,7 @@ ghost use lib.ListN.{getD, set};
 ghost use Prim.Native.Nat.{_<_};
 ghost use Rattle.laws.specs.Loops.{stores};
 ghost use Rattle.laws.specs.Lists.{all, upTo};
-ghost use Rattle.stationjudge.specs.Inputs.{foundOf};
+ghost use Rattle.stationruns.specs.Inputs.{foundOf};
 ghost use Rattle.stationbus.specs.Bus.{numberAt};
 ghost use Rattle.stationnodes.specs.Nodes.{isLanding, landedRule, landingOf, noNode, nodeAt, nodeRule, quietAt, shownAt, shownRule, zeroNode};
 use figures::both;
@@ -13,7 +13,7 @@ use places::byte_at;
 use places::flag_at;
 use places::value_at;
 use stationbus::has_message;
-use stationjudge::Found;
+use stationruns::Found;
 
 #[repr(C)]
 pub struct Node {

@@ -7,10 +7,10 @@ use Prim.Native.Nat.{ℕ, _≤_}
 use native.Mathlib.Omega.{arith}
 use Rattle.laws.specs.Loops.{stores}
 use Rattle.laws.proofs.Stores.{stores-read}
-use Rattle.stationjudge.specs.declared.Given.{Given}
-use Rattle.stationjudge.specs.declared.Given.the-variants as given
-use Rattle.stationjudge.specs.declared.Change.{Change}
-use Rattle.stationjudge.specs.declared.Change.the-variants as change
+use Rattle.stationruns.specs.declared.Given.{Given}
+use Rattle.stationruns.specs.declared.Given.the-variants as given
+use Rattle.stationruns.specs.declared.Change.{Change}
+use Rattle.stationruns.specs.declared.Change.the-variants as change
 use Rattle.stationsteps.specs.Steps.{outRule, modeRule}
 
 -- An array that was just filled, read at any place: behind it nothing is given.

@@ -7,10 +7,10 @@ use lib.ListN.{getD}
 use Prim.Native.Nat.{ℕ}
 use Rattle.rules.specs.Playing.{isGiven}
 use Rattle.rules.specs.Station.{oneOn}
-use Rattle.stationjudge.specs.Inputs.{resultAt, changeAt}
-use Rattle.stationjudge.specs.Judging.{runAt, endsRun}
-use Rattle.stationjudge.specs.declared.Given.{Given}
-use Rattle.stationjudge.specs.declared.Change.{Change}
+use Rattle.stationruns.specs.Inputs.{resultAt, changeAt}
+use Rattle.stationruns.specs.Runs.{runAt, endsRun}
+use Rattle.stationruns.specs.declared.Given.{Given}
+use Rattle.stationruns.specs.declared.Change.{Change}
 
 -- (a)
 abbrev pub outRule : List Given → List ℕ → ℕ → ℕ

@@ -7,15 +7,15 @@ ghost use Prim.Native.Nat.{ℕ, _<_};
 ghost use Rattle.laws.specs.Loops.{stores};
 ghost use Rattle.rules.specs.Playing.{isGiven};
 ghost use Rattle.rules.specs.Station.{oneOn};
-ghost use Rattle.stationjudge.specs.Inputs.{changeAt, changeOf, resultOf};
+ghost use Rattle.stationruns.specs.Inputs.{changeAt, changeOf, resultOf};
 ghost use Rattle.stationsteps.specs.Steps.{ageRule, endsRule, givenRule, modeRule, outRule};
 use places::byte_at;
 use places::number_at;
-use stationjudge::Change;
-use stationjudge::Given;
-use stationjudge::is_change;
-use stationjudge::is_result;
-use stationjudge::run_at;
+use stationruns::Change;
+use stationruns::Given;
+use stationruns::is_change;
+use stationruns::is_result;
+use stationruns::run_at;
 
 fn out_at(given: Given, old: u64) -> u64
     ensures { λ r. ⌜ r ≡ Option·getD (resultOf given) old ⌝ }

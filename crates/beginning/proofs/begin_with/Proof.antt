@@ -2,7 +2,7 @@ use mathlib.Core.Path.{sym, ap, _∙_}
 use native.Mathlib.Omega.{arith}
 use Prim.Native.Nat.{_<_}
 use Rattle.laws.proofs.Loops.{firstBad-upTo-within}
-use Rattle.stationjudge.specs.Inputs.{foundOf}
+use Rattle.stationruns.specs.Inputs.{foundOf}
 use Rattle.beginning.specs.Starting.{startTest, wrongStart, begunAt, begunBy}
 use borrow.Author.Needs.{needs}
 use Rattle.beginning.proofs.begin_with.Statement.{statement}

@@ -2,7 +2,7 @@
 -- Assumes nothing.
 use mathlib.Core.Path.{_∙_}
 use denote.Ref.{now}
-use Rattle.stationjudge.specs.Inputs.{foundOf}
+use Rattle.stationruns.specs.Inputs.{foundOf}
 use Rattle.stationsteps.specs.Steps.{modeRule, outRule}
 use Rattle.station.specs.Parts.{playBy}
 use Rattle.station.proofs.Ways.{bytes-same, full-same, load-same, play-made}

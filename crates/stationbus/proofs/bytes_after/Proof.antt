@@ -1,7 +1,7 @@
 use mathlib.Core.Path.{_∙_}
 use denote.Ref.{now}
 use Rattle.laws.proofs.Stores.{stores-idle}
-use Rattle.stationjudge.specs.Inputs.{foundOf}
+use Rattle.stationruns.specs.Inputs.{foundOf}
 use Rattle.stationbus.specs.Bus.{modeByteRule, numberAt}
 use borrow.Author.Needs.{needs}
 use Rattle.stationbus.proofs.bytes_after.Statement.{statement}

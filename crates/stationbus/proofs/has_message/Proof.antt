@@ -4,7 +4,7 @@ use lib.Dec.{ltb}
 use lib.ListN.{getD}
 use denote.Ref.{now}
 use Rattle.laws.specs.Numbers.{divides}
-use Rattle.stationjudge.specs.Judging.{periodAt}
+use Rattle.stationruns.specs.Runs.{periodAt}
 use Rattle.stationbus.proofs.Ways.{message-yes, message-no}
 use borrow.Author.Needs.{needs}
 use Rattle.stationbus.proofs.has_message.Statement.{statement}

@@ -3,7 +3,7 @@ use lib.ListN.{length}
 use denote.Ref.{now}
 use Rattle.laws.specs.Loops.{stores}
 use Rattle.laws.proofs.Stores.{stores-idle, stores-within}
-use Rattle.stationjudge.specs.Inputs.{foundOf}
+use Rattle.stationruns.specs.Inputs.{foundOf}
 use Rattle.stationbus.specs.Bus.{heldAt, heldRule}
 use borrow.Author.Needs.{needs}
 use Rattle.stationbus.proofs.held_after.Statement.{statement}

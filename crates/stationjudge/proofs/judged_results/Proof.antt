@@ -4,7 +4,7 @@ use native.Mathlib.Nat.{zero-add}
 use denote.Ref.{now}
 use Prim.Native.Nat.{_<_}
 use Rattle.laws.proofs.Loops.{firstBad-upTo-within}
-use Rattle.stationjudge.specs.Inputs.{foundOf}
+use Rattle.stationruns.specs.Inputs.{foundOf}
 use Rattle.stationjudge.specs.Judging.{awaitedTest, fitsTest, inTimeTest}
 use borrow.Author.Needs.{needs}
 use Rattle.stationjudge.proofs.judged_results.Statement.{statement}

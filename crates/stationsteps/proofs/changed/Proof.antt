@@ -3,7 +3,7 @@ use Prim.Native.Nat.{_≤_}
 use lib.ListN.{length}
 use native.Mathlib.Omega.{arith}
 use lib.ListN.{List·getD-eq-default}
-use Rattle.stationjudge.specs.declared.Change.the-variants.{Nothing}
+use Rattle.stationruns.specs.declared.Change.the-variants.{Nothing}
 use borrow.Author.Needs.{needs}
 use Rattle.stationsteps.proofs.changed.Statement.{statement}
 use Rattle.stationsteps.proofs.changed.Tie as tie

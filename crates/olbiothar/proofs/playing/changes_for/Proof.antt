@@ -1,5 +1,5 @@
 use Rattle.olbiothar.specs.Playing.{changeFor, changeAt, changesFor}
-use Rattle.stationjudge.specs.declared.Change.the-variants as change
+use Rattle.stationruns.specs.declared.Change.the-variants as change
 use Rattle.laws.proofs.Turns.{Filled, filled-none, filled-turn, filled-end}
 use lib.ListN.{replicate}
 use Prim.Native.Nat.{_≤_, _-_}

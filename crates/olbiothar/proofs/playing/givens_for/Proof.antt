@@ -1,5 +1,5 @@
 use Rattle.olbiothar.specs.Playing.{givenFor, givenAt, givensFor}
-use Rattle.stationjudge.specs.declared.Given.the-variants as giving
+use Rattle.stationruns.specs.declared.Given.the-variants as giving
 use Rattle.laws.proofs.Turns.{Filled, filled-none, filled-turn, filled-end}
 use lib.ListN.{replicate}
 use Prim.Native.Nat.{_≤_, _-_}

@@ -47,7 +47,7 @@ use denote.Exit.{yes as kept}
 use Rattle.rules.specs.StationRange.{ticked}
 use Rattle.rules.specs.Station as rules
 use Rattle.laws.specs.Res.{Res}
-use Rattle.stationjudge.specs.Inputs.{inputOf}
+use Rattle.stationruns.specs.Inputs.{inputOf}
 use Rattle.units.proofs.Ticks as Ti
 use Rattle.units.proofs.Ticks.Laws as Ti′
 use Rattle.stationnodes.specs.declared.Node.{Node}

@@ -32,7 +32,7 @@ use denote.Triple.Spec.{tripleOf}
 use denote.Triple.Statement.{Contract}
 use denote.Triple.Clauses.{ensured, lasts}
 use Rattle.rules.specs.StationRange.{ticked}
-use Rattle.stationjudge.specs.Inputs.{inputOf}
+use Rattle.stationruns.specs.Inputs.{inputOf}
 use Rattle.units.proofs.Ticks as Ti
 use Rattle.units.proofs.Ticks.Laws as Ti′
 use Rattle.stationnodes.specs.declared.Node.{Node}

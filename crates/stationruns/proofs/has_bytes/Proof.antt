@@ -1,5 +1,5 @@
 use mathlib.Core.Path.{_≡_, refl, sym}
-use mathlib.Core.Bool.{Bool, true}
+use mathlib.Core.Bool.{Bool}
 use mathlib.Core.List.{List, [], _∷_}
 use native.Mathlib.Omega.{arith}
 use native.Mathlib.Nat.{lt-of-lt-of-le, pow-le-pow-right}
@@ -9,8 +9,8 @@ use borrow.Author.Tests.{eqb-true, lt-ltb}
 use Prim.Native.Nat.{ℕ, _≤_, _<_, _^_}
 use Rattle.laws.proofs.Table.{below}
 use borrow.Author.Needs.{needs}
-use Rattle.stationjudge.proofs.has_bytes.Statement.{statement}
-use Rattle.stationjudge.proofs.has_bytes.Tie as tie
+use Rattle.stationruns.proofs.has_bytes.Statement.{statement}
+use Rattle.stationruns.proofs.has_bytes.Tie as tie
 
 -- the table of the source
 limits : List ℕ

@@ -4,12 +4,12 @@ use mathlib.Core.Option.{Option, none, some}
 use lib.ListN.{getD}
 use Prim.Native.Nat.{ℕ}
 use Rattle.rules.specs.Playing.{Input}
-use Rattle.stationjudge.specs.declared.Given.{Given}
-use Rattle.stationjudge.specs.declared.Given.the-variants as given
-use Rattle.stationjudge.specs.declared.Change.{Change}
-use Rattle.stationjudge.specs.declared.Change.the-variants as change
-use Rattle.stationjudge.specs.declared.Found.{Found}
-use Rattle.stationjudge.specs.declared.Found.the-variants as found
+use Rattle.stationruns.specs.declared.Given.{Given}
+use Rattle.stationruns.specs.declared.Given.the-variants as given
+use Rattle.stationruns.specs.declared.Change.{Change}
+use Rattle.stationruns.specs.declared.Change.the-variants as change
+use Rattle.stationruns.specs.declared.Found.{Found}
+use Rattle.stationruns.specs.declared.Found.the-variants as found
 
 -- "nothing or one 64-bit unsigned result"
 abbrev pub resultOf : Given → Option ℕ

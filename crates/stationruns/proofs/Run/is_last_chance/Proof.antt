@@ -1,6 +1,6 @@
 use borrow.Author.Needs.{needs}
-use Rattle.stationjudge.proofs.Run.is_last_chance.Statement.{statement}
-use Rattle.stationjudge.proofs.Run.is_last_chance.Tie as tie
+use Rattle.stationruns.proofs.Run.is_last_chance.Statement.{statement}
+use Rattle.stationruns.proofs.Run.is_last_chance.Tie as tie
 
 returns : tie.Need-returns
 returns c = rw (← c .before .before .before .is-under-way .ensures, ← c .before .before .both .ensures, c .before .if1 .taken, c .since-release .ensures)

@@ -1,6 +1,6 @@
 use borrow.Author.Needs.{needs}
-use Rattle.stationjudge.proofs.fits.Statement.{statement}
-use Rattle.stationjudge.proofs.fits.Tie as tie
+use Rattle.stationruns.proofs.fits.Statement.{statement}
+use Rattle.stationruns.proofs.fits.Tie as tie
 
 returns-2 : tie.Need-returns-2
 returns-2 c = rw (c .before .before .given .given .1) (c .has-bytes .ensures)

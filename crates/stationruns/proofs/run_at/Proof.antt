@@ -1,6 +1,6 @@
 use borrow.Author.Needs.{needs}
-use Rattle.stationjudge.proofs.run_at.Statement.{statement}
-use Rattle.stationjudge.proofs.run_at.Tie as tie
+use Rattle.stationruns.proofs.run_at.Statement.{statement}
+use Rattle.stationruns.proofs.run_at.Tie as tie
 
 returns : tie.Need-returns
 returns c = rw (c .number-at .ensures, c .before .before .period-at .ensures, c .before .before .before .byte-at2 .ensures .0, c .before .before .before .before .before .byte-at .ensures .0)

@@ -1,8 +1,8 @@
 use native.Mathlib.Omega.{arith}
 use native.Mathlib.Nat.{mod-le}
 use borrow.Author.Needs.{needs}
-use Rattle.stationjudge.proofs.Run.since_release.Statement.{statement}
-use Rattle.stationjudge.proofs.Run.since_release.Tie as tie
+use Rattle.stationruns.proofs.Run.since_release.Statement.{statement}
+use Rattle.stationruns.proofs.Run.since_release.Tie as tie
 
 add-result : tie.Need-add-result
 add-result c = omega (arith, mod-le (c .before .less-one .result) (c .before .before .args .self .period .0))

@@ -1,9 +1,9 @@
 use mathlib.Core.Path.{_≡_, refl, sym, _∙_}
 use mathlib.Core.Bool.{Bool, true, false, not, _||_}
-use Rattle.stationjudge.specs.Judging.{lastChance}
+use Rattle.stationruns.specs.Runs.{lastChance}
 use borrow.Author.Needs.{needs}
-use Rattle.stationjudge.proofs.is_in_time.Statement.{statement}
-use Rattle.stationjudge.proofs.is_in_time.Tie as tie
+use Rattle.stationruns.proofs.is_in_time.Statement.{statement}
+use Rattle.stationruns.proofs.is_in_time.Tie as tie
 
 -- it came, before or now; or the last chance decides
 came : (l h g : Bool) → (h || g) ≡ true → true ≡ (not l || (h || g))

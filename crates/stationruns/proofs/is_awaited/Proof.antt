@@ -1,6 +1,6 @@
 use borrow.Author.Needs.{needs}
-use Rattle.stationjudge.proofs.is_awaited.Statement.{statement}
-use Rattle.stationjudge.proofs.is_awaited.Tie as tie
+use Rattle.stationruns.proofs.is_awaited.Statement.{statement}
+use Rattle.stationruns.proofs.is_awaited.Tie as tie
 
 returns : tie.Need-returns
 returns c = rw (← c .before .before .is-result .ensures, c .before .if1 .taken) (c .is-awaited .ensures)

@@ -1,6 +1,6 @@
 use borrow.Author.Needs.{needs}
-use Rattle.stationjudge.proofs.Run.ends.Statement.{statement}
-use Rattle.stationjudge.proofs.Run.ends.Tie as tie
+use Rattle.stationruns.proofs.Run.ends.Statement.{statement}
+use Rattle.stationruns.proofs.Run.ends.Tie as tie
 
 returns : tie.Need-returns
 returns c = rw (← c .before .before .is-under-way .ensures, c .before .if1 .taken) (c .divides .ensures)
