@@ -8,8 +8,8 @@ use Rattle.laws.specs.Lists.{all, upTo}
 use Rattle.text.specs.Text.{decimal, lineFeed, refusedLine}
 use Rattle.answers.specs.Refusals.{numberOf, placeOf}
 use Rattle.answers.specs.declared.Refusal.{Refusal}
-use Rattle.station.specs.declared.Said.{Said}
-use Rattle.station.specs.declared.Said.the-variants.{Control, Data, Quiet, Refused}
+use Rattle.stationmoves.specs.declared.Said.{Said}
+use Rattle.stationmoves.specs.declared.Said.the-variants.{Control, Data, Quiet, Refused}
 use Rattle.stationnodes.specs.Nodes.{noNode}
 use Rattle.stationnodes.specs.declared.Node.{Node}
 

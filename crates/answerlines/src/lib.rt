@@ -7,7 +7,7 @@ ghost use Rattle.laws.specs.Lists.{all, upTo};
 ghost use Rattle.answerlines.specs.Writing.{afterLine, begunLine, marked, nodeShown, numberedLine, placeShown, refusalLine, sameOn, samePlace, shownAt, shownLine, texts, tickedLine, unreadableLine};
 use answers::Refusal;
 use figures::both;
-use station::Said;
+use stationmoves::Said;
 use stationnodes::Node;
 use text::put_bytes;
 use text::put_decimal;

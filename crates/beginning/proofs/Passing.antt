@@ -45,12 +45,12 @@ use Rattle.tableread.specs.Memory.{nodeOf, beginOf, endOf, taskOf, deadlineOf, 
 use Rattle.stationruns.specs.Inputs.{changeAt}
 use Rattle.stationruns.specs.declared.Change.{Change}
 use Rattle.station.specs.Memory.{heldLaid, laid, nodeLaid, notBegun, playLaid}
-use Rattle.station.specs.declared.Controls.{Controls}
-use Rattle.station.specs.declared.Modes.{Modes}
-use Rattle.station.specs.declared.Modules.{Modules}
-use Rattle.station.specs.declared.Play.{Play}
+use Rattle.stationrefusals.specs.declared.Controls.{Controls}
+use Rattle.stationrefusals.specs.declared.Modes.{Modes}
+use Rattle.stationrefusals.specs.declared.Modules.{Modules}
+use Rattle.stationrefusals.specs.declared.Play.{Play}
 use Rattle.station.specs.declared.Station.{Station}
-use Rattle.station.specs.declared.Tasks.{Tasks}
+use Rattle.stationrefusals.specs.declared.Tasks.{Tasks}
 use Rattle.stationnodes.specs.declared.Node.{Node}
 use Rattle.beginning.specs.declared.Answer.the-variants.{Refused}
 use Rattle.beginning.specs.declared.Begun.{Begun}

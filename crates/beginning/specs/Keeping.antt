@@ -8,10 +8,10 @@ use Rattle.rules.specs.Frames.{moduleNode, isBusTask, isSending}
 use Rattle.rules.specs.Playing.{periodAmong}
 use Rattle.tableread.specs.declared.Table.{Table}
 use Rattle.station.specs.Memory.{notBegun}
-use Rattle.station.specs.declared.Modules.{Modules}
-use Rattle.station.specs.declared.Modes.{Modes}
-use Rattle.station.specs.declared.Tasks.{Tasks}
-use Rattle.station.specs.declared.Controls.{Controls}
+use Rattle.stationrefusals.specs.declared.Modules.{Modules}
+use Rattle.stationrefusals.specs.declared.Modes.{Modes}
+use Rattle.stationrefusals.specs.declared.Tasks.{Tasks}
+use Rattle.stationrefusals.specs.declared.Controls.{Controls}
 use Rattle.station.specs.declared.Station.{Station}
 
 -- by number of module, mode and task

@@ -12,7 +12,7 @@ use Rattle.stationruns.specs.Inputs.{changeAt}
 use Rattle.stationruns.specs.declared.Change.{Change}
 use Rattle.stationsteps.specs.Steps.{modeRule}
 use Rattle.station.specs.Memory.{notBegun}
-use Rattle.station.specs.declared.Play.{Play}
+use Rattle.stationrefusals.specs.declared.Play.{Play}
 use Rattle.station.specs.declared.Station.{Station}
 use Rattle.beginning.specs.declared.Answer.the-variants.{Started, Refused}
 use Rattle.beginning.specs.declared.Begun.{Begun}

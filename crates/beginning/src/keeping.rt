@@ -16,11 +16,11 @@ use plan::look::module_at;
 use plan::look::module_count;
 use plan::look::task_at;
 use plan::look::task_count;
-use station::Controls;
-use station::Modes;
-use station::Modules;
 use station::Station;
-use station::Tasks;
+use stationrefusals::Controls;
+use stationrefusals::Modes;
+use stationrefusals::Modules;
+use stationrefusals::Tasks;
 use tableread::Table;
 use units::Ticks;
 

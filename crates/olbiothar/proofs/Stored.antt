@@ -14,12 +14,12 @@ use denote.Struct.Laws as LL
 use Rattle.stationnodes.specs.declared.Node.{Node}
 use Rattle.stationnodes.proofs.Node as N
 use Rattle.stationnodes.proofs.Node.Laws as N′
-use Rattle.station.specs.declared.Play.{Play}
+use Rattle.stationrefusals.specs.declared.Play.{Play}
 use Rattle.station.specs.declared.Station.{Station}
 use Rattle.station.specs.Turns.{moved}
 use Rattle.station.proofs.Lent.{mach, Known}
-use Rattle.station.proofs.Play as P
-use Rattle.station.proofs.Play.Laws as P′
+use Rattle.stationrefusals.proofs.Play as P
+use Rattle.stationrefusals.proofs.Play.Laws as P′
 use Rattle.station.proofs.Station as T
 use Rattle.station.proofs.Station.Laws as T′
 

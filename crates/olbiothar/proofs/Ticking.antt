@@ -6,8 +6,8 @@ use Prim.Native.Nat.{ℕ}
 use Rattle.laws.specs.Res.{Res, ok, refuse}
 use Rattle.laws.proofs.Res.{refuse≢ok, ok-injective, refuse-number, refuse-place}
 use Rattle.rules.specs.Station as rules
-use Rattle.station.specs.declared.Said.{Said}
-use Rattle.station.specs.declared.Said.the-variants.{Control, Data, Quiet, Refused}
+use Rattle.stationmoves.specs.declared.Said.{Said}
+use Rattle.stationmoves.specs.declared.Said.the-variants.{Control, Data, Quiet, Refused}
 use Rattle.station.specs.declared.Station.{Station}
 use Rattle.station.specs.declared.Ticked as station
 use Rattle.station.specs.Answers as said

@@ -13,8 +13,8 @@ use Rattle.stationruns.specs.declared.Given.{Given}
 use Rattle.stationruns.specs.declared.Given.the-variants as given
 use Rattle.stationruns.specs.declared.Change.{Change}
 use Rattle.stationruns.specs.declared.Change.the-variants as change
-use Rattle.station.specs.declared.Said.{Said}
-use Rattle.station.specs.declared.Said.the-variants.{Control, Data, Quiet, Refused}
+use Rattle.stationmoves.specs.declared.Said.{Said}
+use Rattle.stationmoves.specs.declared.Said.the-variants.{Control, Data, Quiet, Refused}
 use Rattle.station.specs.declared.Station.{Station}
 use Rattle.station.specs.Memory.{laid}
 use Rattle.station.specs.Parts.{nodesBy}

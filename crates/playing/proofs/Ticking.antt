@@ -14,8 +14,8 @@ use Rattle.stationruns.specs.declared.Given.the-variants as given
 use Rattle.stationruns.specs.declared.Change.the-variants as change
 use Rattle.station.specs.Memory.{keptOf, stateOf, laid}
 use Rattle.station.specs.Answers.{Answers, outcome, isRefused, answerLaid}
-use Rattle.station.specs.declared.Said.{Said}
-use Rattle.station.specs.declared.Said.the-variants.{Control, Data, Quiet, Refused}
+use Rattle.stationmoves.specs.declared.Said.{Said}
+use Rattle.stationmoves.specs.declared.Said.the-variants.{Control, Data, Quiet, Refused}
 use Rattle.station.specs.declared.Station.{Station}
 use Rattle.station.specs.declared.Ticked.{Ticked}
 use Rattle.playing.specs.Played.{afterRule, afterTick, afterNothing, afterQuiet}

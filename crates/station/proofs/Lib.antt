@@ -1,4 +1,3 @@
-pub mod Ways
 pub mod Ranges
 pub mod Steps
 pub mod Nodes

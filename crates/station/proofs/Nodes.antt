@@ -41,8 +41,9 @@ use Rattle.stationnodes.specs.declared.Node.{Node}
 use Rattle.stationnodes.specs.declared.Landing.{Landing}
 use Rattle.stationnodes.specs.declared.Landing.the-variants.{Nothing, Value}
 use Rattle.station.specs.Memory.{keptBy, keptOf, stateBy, stateOf, nodeLaid}
-use Rattle.station.specs.Parts.{Reads, landingBy, nodesBy}
-use Rattle.station.specs.declared.Play.{Play}
+use Rattle.station.specs.Parts.{nodesBy}
+use Rattle.stationmoves.specs.Moving.{Reads, landingBy}
+use Rattle.stationrefusals.specs.declared.Play.{Play}
 use Rattle.station.specs.declared.Station.{Station}
 use Rattle.station.proofs.Steps.{held-rule, held-by}
 

@@ -1,7 +1,7 @@
 -- Stations one after the other, by the contract of `tick` alone: what is seen of them follows the rules' play.
 -- Assumes nothing.
 use mathlib.Core.Path.{_≡_, refl, sym, ap, _∙_, subst}
-use mathlib.Core.Bool.{Bool, true, false}
+use mathlib.Core.Bool.{false}
 use mathlib.Core.List.{List, [], _∷_}
 use Rattle.laws.specs.Res.{Res, ok, refuse}
 use Rattle.laws.proofs.Lists.{true-false}
@@ -9,14 +9,14 @@ use Rattle.laws.proofs.Res.{refuse≢ok, ok-injective}
 use Rattle.rules.specs.Playing.{Input}
 use Rattle.rules.specs.Station as rules
 use Rattle.rules.specs.StationRange.{ticked}
-use Rattle.rules.proofs.StationPlaces.{Agree, Follows, begun, next}
+use Rattle.rules.proofs.StationPlaces.{Follows, begun, next}
 use Rattle.stationruns.specs.Inputs.{inputOf}
 use Rattle.stationruns.specs.declared.Given.{Given}
 use Rattle.stationruns.specs.declared.Change.{Change}
 use Rattle.station.specs.Memory.{keptOf, stateOf, laid}
-use Rattle.station.specs.Answers.{Answers, answerOf, answerLaid, outcome, isRefused, rowSaid}
-use Rattle.station.specs.declared.Said.{Said}
-use Rattle.station.specs.declared.Said.the-variants.{Control, Data, Quiet, Refused}
+use Rattle.station.specs.Answers.{Answers, outcome, isRefused, rowSaid}
+use Rattle.stationmoves.specs.declared.Said.{Said}
+use Rattle.stationmoves.specs.declared.Said.the-variants.{Control, Data, Quiet, Refused}
 use Rattle.station.specs.declared.Station.{Station}
 use Rattle.station.specs.declared.Ticked.{Ticked}
 use Rattle.station.proofs.Sized.{Sized, sized-laid, laid-agrees}

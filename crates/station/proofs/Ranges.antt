@@ -52,7 +52,7 @@ use Rattle.stationjudge.specs.Judging.{awaitedTest, fitsTest, inTimeTest, allow
 use Rattle.stationruns.specs.declared.Given.{Given}
 use Rattle.stationruns.specs.declared.Change.{Change}
 use Rattle.station.specs.Memory.{keptBy, keptOf, stateBy, stateOf}
-use Rattle.station.specs.Parts.{keptTest, heldTest, stateTest, judgedBy}
+use Rattle.stationrefusals.specs.Refusing.{keptTest, heldTest, stateTest, judgedBy}
 use Rattle.station.specs.Turns.{Valued}
 use Rattle.station.specs.declared.Station.{Station}
 

@@ -1,22 +1,17 @@
 -- The arrays of a station have their lengths, from the beginning on and behind every tick; so the state that is laid into them is
 -- read off them again, at every place of a station.
 -- Assumes nothing.
-use mathlib.Core.Path.{_≡_, refl, sym, ap, ap₂, _∙_}
+use mathlib.Core.Path.{_≡_, refl, ap, ap₂, _∙_}
 use mathlib.Core.Bool.{false}
-use mathlib.Core.List.{List}
-use native.Mathlib.Omega.{arith}
 use lib.ListN.{length, getD}
-use Prim.Native.Nat.{ℕ, _+_, _*_, _/_, _%_, _<_}
-use Rattle.laws.specs.Loops.{stores}
+use Prim.Native.Nat.{ℕ, _+_, _*_, _<_}
 use Rattle.laws.proofs.Loops.{length-stores}
 use Rattle.laws.proofs.Stores.{stores-within}
-use Rattle.rules.specs.Playing.{nodePlaces, modulePlaces, taskPlaces}
 use Rattle.rules.specs.Station.{State}
 use Rattle.rules.proofs.StationPlaces.{Agree}
-use Rattle.stationbus.specs.Bus.{numberAt}
 use Rattle.stationnodes.specs.Nodes.{noNode}
 use Rattle.stationnodes.specs.declared.Node.{Node}
-use Rattle.station.specs.Memory.{flagAt, stateBy, stateOf, heldLaid, playLaid, nodeLaid, laid}
+use Rattle.station.specs.Memory.{stateBy, stateOf, heldLaid, playLaid, nodeLaid, laid}
 use Rattle.station.specs.declared.Station.{Station}
 use Rattle.station.proofs.Nodes.{place-node, place-module, place-within}
 

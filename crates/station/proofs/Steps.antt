@@ -42,10 +42,10 @@ use Rattle.stationruns.specs.declared.Change.{Change}
 use Rattle.stationsteps.specs.Steps.{outRule, modeRule, ageRule, givenRule}
 use Rattle.stationbus.specs.Bus.{heldRule, modeByteRule, fullRule, loadRule}
 use Rattle.station.specs.Memory.{keptBy, keptOf, stateBy, stateOf, heldLaid, playLaid}
-use Rattle.station.specs.Parts.{saidBy, playBy}
+use Rattle.stationmoves.specs.Moving.{saidBy, playBy}
 use Rattle.station.specs.Answers.{rowSaid}
 use Rattle.station.specs.declared.Station.{Station}
-use Rattle.station.proofs.Ways.{play-made}
+use Rattle.stationmoves.proofs.Ways.{play-made}
 
 module _ (st : Station) where
   -- the row that starts

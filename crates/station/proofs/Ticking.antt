@@ -40,13 +40,15 @@ use Rattle.stationnodes.specs.declared.Node.{Node}
 use Rattle.stationnodes.specs.declared.Landing.{Landing}
 use Rattle.stationnodes.specs.declared.Landing.the-variants.{Nothing, Value}
 use Rattle.station.specs.Memory.{keptBy, keptOf, stateBy, stateOf, playLaid, nodeLaid, laid}
-use Rattle.station.specs.Parts.{Reads, refusedBy, movedBy, landingBy, nodesBy}
+use Rattle.station.specs.Parts.{nodesBy}
+use Rattle.stationmoves.specs.Moving.{Reads, movedBy, landingBy}
+use Rattle.stationrefusals.specs.Refusing.{refusedBy}
 use Rattle.station.specs.Answers.{Answers, outcome, isRefused, rowSaid}
 use Rattle.station.specs.Turns.{Turns, Valued, moved}
-use Rattle.station.specs.declared.Moved.{Moved}
-use Rattle.station.specs.declared.Play.{Play}
-use Rattle.station.specs.declared.Said.{Said}
-use Rattle.station.specs.declared.Said.the-variants.{Refused}
+use Rattle.stationmoves.specs.declared.Moved.{Moved}
+use Rattle.stationrefusals.specs.declared.Play.{Play}
+use Rattle.stationmoves.specs.declared.Said.{Said}
+use Rattle.stationmoves.specs.declared.Said.the-variants.{Refused}
 use Rattle.station.specs.declared.Station.{Station}
 use Rattle.station.specs.declared.Ticked.{Ticked}
 use Rattle.station.specs.declared.Turn.{Turn}

@@ -8,8 +8,8 @@ use Rattle.answers.specs.declared.Refusal.{Refusal}
 use Rattle.answers.proofs.Said.{said-once}
 use Rattle.rules.specs.Station as rules
 use Rattle.station.specs.Answers.{Answers, outcome, isRefused}
-use Rattle.station.specs.declared.Said.{Said}
-use Rattle.station.specs.declared.Said.the-variants.{Control, Data, Quiet, Refused}
+use Rattle.stationmoves.specs.declared.Said.{Said}
+use Rattle.stationmoves.specs.declared.Said.the-variants.{Control, Data, Quiet, Refused}
 use Rattle.station.specs.declared.Station.{Station}
 use Rattle.station.specs.declared.Ticked.{Ticked}
 

@@ -7,10 +7,10 @@ use Rattle.rules.specs.Frames as frames
 use Rattle.rules.specs.Table as tables
 use Rattle.rules.specs.Station as rules
 use Rattle.station.specs.Memory.{laid}
-use Rattle.station.specs.declared.ControlRow.{ControlRow}
-use Rattle.station.specs.declared.DataRow.{DataRow}
-use Rattle.station.specs.declared.Said.{Said}
-use Rattle.station.specs.declared.Said.the-variants.{Control, Data, Quiet, Refused}
+use Rattle.stationmoves.specs.declared.ControlRow.{ControlRow}
+use Rattle.stationmoves.specs.declared.DataRow.{DataRow}
+use Rattle.stationmoves.specs.declared.Said.{Said}
+use Rattle.stationmoves.specs.declared.Said.the-variants.{Control, Data, Quiet, Refused}
 use Rattle.station.specs.declared.Station.{Station}
 use Rattle.station.specs.declared.Ticked.{Ticked}
 

@@ -11,11 +11,11 @@ use Rattle.stationbus.specs.Bus.{numberAt}
 use Rattle.stationnodes.specs.Nodes.{noNode, zeroNode}
 use Rattle.stationnodes.specs.declared.Node.{Node}
 use Rattle.units.specs.declared.Ticks.{Ticks}
-use Rattle.station.specs.declared.Modules.{Modules}
-use Rattle.station.specs.declared.Modes.{Modes}
-use Rattle.station.specs.declared.Tasks.{Tasks}
-use Rattle.station.specs.declared.Controls.{Controls}
-use Rattle.station.specs.declared.Play.{Play}
+use Rattle.stationrefusals.specs.declared.Modules.{Modules}
+use Rattle.stationrefusals.specs.declared.Modes.{Modes}
+use Rattle.stationrefusals.specs.declared.Tasks.{Tasks}
+use Rattle.stationrefusals.specs.declared.Controls.{Controls}
+use Rattle.stationrefusals.specs.declared.Play.{Play}
 use Rattle.station.specs.declared.Station.{Station}
 
 abbrev pub flagAt : List Bool → ℕ → Bool

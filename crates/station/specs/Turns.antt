@@ -12,12 +12,12 @@ use Rattle.stationruns.specs.declared.Change.{Change}
 use Rattle.stationnodes.specs.Nodes.{noNode}
 use Rattle.stationnodes.specs.declared.Node.{Node}
 use Rattle.units.specs.declared.Ticks.{Ticks}
-use Rattle.station.specs.declared.Modules.{Modules}
-use Rattle.station.specs.declared.Modes.{Modes}
-use Rattle.station.specs.declared.Tasks.{Tasks}
-use Rattle.station.specs.declared.Controls.{Controls}
-use Rattle.station.specs.declared.Play.{Play}
-use Rattle.station.specs.declared.Said.{Said}
+use Rattle.stationrefusals.specs.declared.Modules.{Modules}
+use Rattle.stationrefusals.specs.declared.Modes.{Modes}
+use Rattle.stationrefusals.specs.declared.Tasks.{Tasks}
+use Rattle.stationrefusals.specs.declared.Controls.{Controls}
+use Rattle.stationrefusals.specs.declared.Play.{Play}
+use Rattle.stationmoves.specs.declared.Said.{Said}
 use Rattle.station.specs.declared.Station.{Station}
 use Rattle.station.specs.declared.Turn.{Turn}
 use Rattle.station.specs.Memory.{keptOf, stateOf}

@@ -18,11 +18,11 @@ use types.Run.{look, init, forget, stop, fld, from, load, of-opd, assigns, retur
 use denote.Memory.{pointee}
 use Rattle.units.proofs.Ticks.Laws as Ti′
 use Rattle.stationnodes.proofs.Node.Laws as N′
-use Rattle.station.proofs.Modules.Laws as Mo′
-use Rattle.station.proofs.Modes.Laws as Md′
-use Rattle.station.proofs.Tasks.Laws as Ta′
-use Rattle.station.proofs.Controls.Laws as Co′
-use Rattle.station.proofs.Play.Laws as Pl′
+use Rattle.stationrefusals.proofs.Modules.Laws as Mo′
+use Rattle.stationrefusals.proofs.Modes.Laws as Md′
+use Rattle.stationrefusals.proofs.Tasks.Laws as Ta′
+use Rattle.stationrefusals.proofs.Controls.Laws as Co′
+use Rattle.stationrefusals.proofs.Play.Laws as Pl′
 use Rattle.station.proofs.Station as T
 use Rattle.olbiothar.specs.declared.playing.Answered.{Answered}
 use Rattle.olbiothar.proofs.playing.Ticked.Laws as K′

@@ -1,0 +1,11 @@
+use borrow.Author.Needs.{needs}
+use Rattle.stationmoves.proofs.control_row.Statement.{statement}
+use Rattle.stationmoves.proofs.control_row.Tie as tie
+
+returns : tie.Need-returns
+returns c = rw (c .number-at2 .ensures, c .before .before .before .before .number-at .ensures, c .before .before .before .before .before .before .before .before .byte-at .ensures .0)
+
+pub control-row-spec : {M : Type 1} → statement M
+control-row-spec =
+    tie.close
+    (tie.spec (λ c κs. search needs) (λ c. search needs) (λ c κs. search needs) (λ c κs. search needs) returns)

@@ -1,0 +1,261 @@
+// What a tick makes of a station but for its nodes: the row that starts, (a), (b) of the mode bytes, (d) and (f), and what lands.
+ghost use mathlib.Core.Path.{_≡_};
+ghost use Prim.Native.Nat.{ℕ, _<_};
+ghost use lib.ListN.{getD};
+ghost use Rattle.laws.specs.Loops.{stores};
+ghost use Rattle.stationruns.specs.Inputs.{foundOf};
+ghost use Rattle.stationmoves.specs.Moving.{Reads, heldNow, controlAt, dataAt, landingBy, movedBy, playBy, saidBy};
+use answers::Refusal;
+use figures::rest;
+use places::byte_at;
+use places::number_at;
+use stationbus::bytes_after;
+use stationbus::full_after;
+use stationbus::held_after;
+use stationbus::load_after;
+use stationbus::row_with;
+use stationnodes::Landing;
+use stationnodes::Node;
+use stationnodes::lands;
+use stationrefusals::Controls;
+use stationrefusals::Modes;
+use stationrefusals::Modules;
+use stationrefusals::Play;
+use stationrefusals::Tasks;
+use stationruns::Change;
+use stationruns::Found;
+use stationruns::Given;
+use stationsteps::ages_after;
+use stationsteps::givens_after;
+use stationsteps::modes_after;
+use stationsteps::one_on;
+use stationsteps::out_after;
+use units::NodeNo;
+use units::TaskNo;
+use units::Ticks;
+
+pub struct ControlRow {
+    pub node: NodeNo,
+    pub start: Ticks,
+    pub stop: Ticks,
+}
+
+pub struct DataRow {
+    pub task: TaskNo,
+    pub deadline: Ticks,
+    pub start: Ticks,
+    pub stop: Ticks,
+}
+
+pub enum Said {
+    Control(ControlRow),
+    Data(DataRow),
+    Quiet,
+    Refused(Refusal),
+}
+
+// What the rows that start, and the steps but for the nodes, give.
+pub struct Moved {
+    pub said: Said,
+    pub play: Play,
+}
+
+fn control_row(controls: Controls, r: usize) -> ControlRow
+    ensures { λ w. ⌜ w ≡ controlAt controls r ⌝ }
+{
+    ControlRow {
+        node: NodeNo(byte_at(&controls.nodes, r) as u8),
+        start: Ticks(number_at(&controls.starts, r)),
+        stop: Ticks(number_at(&controls.stops, r)),
+    }
+}
+
+fn data_row<'a>(
+    carries: &'a [u8; 256],
+    deadlines: &'a [u32; 256],
+    starts: &'a [u32; 256],
+    stops: &'a [u32; 256],
+    r: usize,
+) -> DataRow
+    ensures { λ w. ⌜ w ≡ dataAt (now (carries .entry)) (now (deadlines .entry)) (now (starts .entry)) (now (stops .entry)) r ⌝ }
+{
+    DataRow {
+        task: TaskNo(byte_at(carries, r) as u8),
+        deadline: Ticks(number_at(deadlines, r)),
+        start: Ticks(number_at(starts, r)),
+        stop: Ticks(number_at(stops, r)),
+    }
+}
+
+// The row that starts now.
+fn started<'a>(
+    control: Found,
+    message: Found,
+    controls: Controls,
+    carries: &'a [u8; 256],
+    deadlines: &'a [u32; 256],
+    starts: &'a [u32; 256],
+    stops: &'a [u32; 256],
+) -> Said
+    ensures { λ r. ⌜ r ≡ saidBy controls (now (carries .entry)) (now (deadlines .entry)) (now (starts .entry)) (now (stops .entry)) (foundOf control) (foundOf message) ⌝ }
+{
+    match control {
+        Found::At(r) => Said::Control(control_row(controls, r)),
+        Found::Nothing => match message {
+            Found::At(r) => Said::Data(data_row(carries, deadlines, starts, stops, r)),
+            Found::Nothing => Said::Quiet,
+        },
+    }
+}
+
+// (b) of a control frame: the mode bytes that the nodes hold, by the control row that stops now.
+fn held_by(modules: Modules, controls: Controls, play: Play) -> [u8; 128]
+    ensures { λ r. ⌜ r ≡ stores (play .held) (heldNow modules controls play) 128 ⌝ }
+    ensures reads { λ r. ⌜ ((j : ℕ) → j < 128 → getD r j 0 ≡ heldNow modules controls play j) ⌝ }
+{
+    let ended = row_with(&controls.stops, controls.count as usize, play.clock.0);
+    let old = play.held;
+    held_after(
+        old,
+        ended,
+        &controls.nodes,
+        &modules.sending,
+        &modules.sites,
+        &play.bytes,
+    )
+}
+
+// The steps but for the nodes; `control` and `message` are the rows that start now.
+fn played<'a>(
+    results: [Given; 32],
+    changes: [Change; 16],
+    modules: Modules,
+    modes: Modes,
+    tasks: Tasks,
+    controls: Controls,
+    play: Play,
+    period: Ticks,
+    control: Found,
+    message: Found,
+    ends: &'a [bool; 32],
+    runs: &'a [u32; 1024],
+    carries: &'a [u8; 256],
+    deadlines: &'a [u32; 256],
+) -> Play
+    ensures { λ r. ⌜ r ≡ playBy results changes modules modes tasks controls play period (foundOf control) (foundOf message) (now (ends .entry)) (now (runs .entry)) (now (carries .entry)) (now (deadlines .entry)) ⌝ }
+    ensures reads { λ r. ⌜ Reads results modules controls play r ⌝ }
+{
+    let old_out = play.out;
+    let out = out_after(results, old_out);
+    let held = held_by(modules, controls, play);
+    let old_running = play.running;
+    let running = modes_after(changes, old_running);
+    let old_ages = play.ages;
+    let ages = ages_after(changes, old_ages, &play.running, &modes.periods);
+    let old_givens = play.givens;
+    let givens = givens_after(results, changes, old_givens, ends, &tasks.homes);
+    let old_bytes = play.bytes;
+    let bytes = bytes_after(
+        old_bytes,
+        control,
+        &controls.nodes,
+        &modules.sending,
+        &modules.sites,
+        &running,
+    );
+    let full = full_after(
+        play.full,
+        message,
+        carries,
+        deadlines,
+        &tasks.homes,
+        &running,
+        &tasks.bus,
+        runs,
+    );
+    let load = load_after(play.load, message, carries, &out);
+    Play {
+        clock: Ticks(one_on(play.clock.0, period.0)),
+        running,
+        ages,
+        bytes,
+        givens,
+        out,
+        held,
+        full,
+        load,
+    }
+}
+
+pub fn moves<'a>(
+    results: [Given; 32],
+    changes: [Change; 16],
+    modules: Modules,
+    modes: Modes,
+    tasks: Tasks,
+    controls: Controls,
+    datas: u16,
+    period: Ticks,
+    play: Play,
+    ends: &'a [bool; 32],
+    runs: &'a [u32; 1024],
+    carries: &'a [u8; 256],
+    deadlines: &'a [u32; 256],
+    starts: &'a [u32; 256],
+    stops: &'a [u32; 256],
+) -> Moved
+    ensures { λ r. ⌜ r ≡ movedBy results changes modules modes tasks controls datas period play (now (ends .entry)) (now (runs .entry)) (now (carries .entry)) (now (deadlines .entry)) (now (starts .entry)) (now (stops .entry)) ⌝ }
+    ensures reads { λ r. ⌜ Reads results modules controls play (r .play) ⌝ }
+{
+    let time = rest(play.clock.0, period.0);
+    let control = row_with(&controls.starts, controls.count as usize, time);
+    let message = row_with(starts, datas as usize, time);
+    let said = started(
+        control,
+        message,
+        controls,
+        carries,
+        deadlines,
+        starts,
+        stops,
+    );
+    let next = played(
+        results,
+        changes,
+        modules,
+        modes,
+        tasks,
+        controls,
+        play,
+        period,
+        control,
+        message,
+        ends,
+        runs,
+        carries,
+        deadlines,
+    );
+    Moved { said, play: next }
+}
+
+// What lands now: the data frame that stops.
+pub fn what_lands<'a>(
+    modules: Modules,
+    tasks: Tasks,
+    datas: u16,
+    play: Play,
+    carries: &'a [u8; 256],
+    stops: &'a [u32; 256],
+) -> Landing
+    ensures { λ r. ⌜ r ≡ landingBy modules tasks datas play (now (carries .entry)) (now (stops .entry)) ⌝ }
+{
+    let stopped = row_with(stops, datas as usize, play.clock.0);
+    lands(
+        stopped,
+        play.full,
+        play.load,
+        carries,
+        &tasks.homes,
+        &modules.sites,
+    )
+}

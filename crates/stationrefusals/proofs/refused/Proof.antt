@@ -1,0 +1,19 @@
+use denote.Ref.{now}
+use Rattle.stationrefusals.specs.Refusing.{judgedBy, refusedBy}
+use Rattle.stationrefusals.proofs.Ways.{judged-on, refused-out}
+use borrow.Author.Needs.{needs}
+use Rattle.stationrefusals.proofs.refused.Statement.{statement}
+use Rattle.stationrefusals.proofs.refused.Tie as tie
+
+returns : tie.Need-returns
+unfolding refusedBy
+returns c = judged-on (c .before .before .before .before .kept-in-range .ensures) (c .before .before .before .state-in-range .ensures) (c .before .before .both .ensures) (c .before .if1 .taken) (c .judged .ensures)
+
+returns-2 : tie.Need-returns-2
+unfolding refusedBy
+returns-2 c = let a = c .before .before .before .before .args in refused-out (judgedBy (a .results) (a .changes) (a .modules) (a .modes) (a .tasks) (a .play) (now (a .runs))) (c .before .before .before .kept-in-range .ensures) (c .before .before .state-in-range .ensures) (c .before .both .ensures) (c .if1 .left)
+
+pub refused-spec : {M : Type 1} → statement M
+refused-spec =
+    tie.close
+    (tie.spec (λ c κs. search needs) (λ c κs. search needs) (λ c κs. search needs) (λ c κs. search needs) returns returns-2)
