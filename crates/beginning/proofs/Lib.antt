@@ -1,4 +1,3 @@
-pub mod Filling
 pub mod Passing
 pub mod Unique
 pub mod Shown

@@ -52,11 +52,11 @@ use Rattle.stationrefusals.specs.declared.Play.{Play}
 use Rattle.station.specs.declared.Station.{Station}
 use Rattle.stationrefusals.specs.declared.Tasks.{Tasks}
 use Rattle.stationnodes.specs.declared.Node.{Node}
-use Rattle.beginning.specs.declared.Answer.the-variants.{Refused}
-use Rattle.beginning.specs.declared.Begun.{Begun}
-use Rattle.beginning.specs.Keeping as keeping
-use Rattle.beginning.specs.Keeping.{controlsOf, keptFrom, modesOf, modulesOf, runAmong, runsAmong, runsOf, tasksOf}
-use Rattle.beginning.specs.Starting.{begunAt, begunBy, holdsOwn, startTest, startedBy, wrongStart}
+use Rattle.starting.specs.declared.Answer.the-variants.{Refused}
+use Rattle.starting.specs.declared.Begun.{Begun}
+use Rattle.keeping.specs.Keeping as keeping
+use Rattle.keeping.specs.Keeping.{controlsOf, keptFrom, modesOf, modulesOf, runAmong, runsAmong, runsOf, tasksOf}
+use Rattle.starting.specs.Starting.{begunAt, begunBy, holdsOwn, startTest, startedBy, wrongStart}
 use Rattle.beginning.specs.Begins.{Begins, keptLaid, runLaid, stationLaid}
 
 -- ---- what a passed table tells

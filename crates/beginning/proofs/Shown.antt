@@ -27,8 +27,8 @@ use Rattle.station.specs.Memory.{keptBy, keptOf, laid, notBegun, stateOf}
 use Rattle.station.specs.declared.Station.{Station}
 use Rattle.station.proofs.Plays.{Plays, plays-follows}
 use Rattle.station.proofs.Sized.{Sized, laid-agrees, sized-laid}
-use Rattle.beginning.specs.declared.Answer.the-variants.{Started}
-use Rattle.beginning.specs.declared.Begun.{Begun}
+use Rattle.starting.specs.declared.Answer.the-variants.{Started}
+use Rattle.starting.specs.declared.Begun.{Begun}
 use Rattle.beginning.specs.Begins.{Begins, heard, keptLaid, runLaid, stationLaid}
 
 -- a mode and one of the 32 tasks have a place of their own

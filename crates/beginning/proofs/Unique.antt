@@ -6,9 +6,9 @@ use Rattle.laws.proofs.Res.{refuse≢ok}
 use Rattle.answers.proofs.Said.{said-once}
 use Rattle.rules.specs.Station as rules
 use Rattle.station.specs.declared.Station.{Station}
-use Rattle.beginning.specs.declared.Answer.{Answer}
-use Rattle.beginning.specs.declared.Answer.the-variants.{Started, Refused}
-use Rattle.beginning.specs.declared.Begun.{Begun}
+use Rattle.starting.specs.declared.Answer.{Answer}
+use Rattle.starting.specs.declared.Answer.the-variants.{Started, Refused}
+use Rattle.starting.specs.declared.Begun.{Begun}
 use Rattle.beginning.specs.Begins.{Begins, heard}
 
 heard-once : (x y : Answer) → heard x ≡ heard y → x ≡ y

@@ -14,8 +14,8 @@ use Rattle.stationruns.specs.declared.Given.{Given}
 use Rattle.station.specs.Answers.{Answers, answerOf}
 use Rattle.station.specs.Memory.{keptBy, keptOf, notBegun, stateOf}
 use Rattle.station.specs.declared.Ticked.{Ticked}
-use Rattle.beginning.specs.declared.Answer.the-variants.{Refused}
-use Rattle.beginning.specs.declared.Begun.{Begun}
+use Rattle.starting.specs.declared.Answer.the-variants.{Refused}
+use Rattle.starting.specs.declared.Begun.{Begun}
 use Rattle.beginning.specs.Begins.{Begins, heard}
 
 not-begun-ticked : (i : Input) → ticked (keptOf notBegun) (stateOf notBegun) i ≡ refuse 40 0

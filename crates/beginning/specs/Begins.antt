@@ -8,9 +8,9 @@ use Rattle.rules.specs.Station as rules
 use Rattle.rules.specs.Station.{Kept}
 use Rattle.station.specs.Memory.{laid, notBegun}
 use Rattle.station.specs.declared.Station.{Station}
-use Rattle.beginning.specs.declared.Answer.{Answer}
-use Rattle.beginning.specs.declared.Answer.the-variants.{Started, Refused}
-use Rattle.beginning.specs.declared.Begun.{Begun}
+use Rattle.starting.specs.declared.Answer.{Answer}
+use Rattle.starting.specs.declared.Answer.the-variants.{Started, Refused}
+use Rattle.starting.specs.declared.Begun.{Begun}
 
 -- the period of mode j / 32 and task j % 32
 unfoldable pub runLaid : Kept → ℕ → ℕ

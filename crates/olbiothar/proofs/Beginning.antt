@@ -6,7 +6,7 @@ use Rattle.laws.specs.Res.{Res}
 use Rattle.rules.specs.Station as rules
 use Rattle.stationruns.specs.declared.Change.{Change}
 use Rattle.stationruns.specs.Inputs.{changeAt}
-use Rattle.beginning.specs.declared.Begun as beginning
+use Rattle.starting.specs.declared.Begun as beginning
 use Rattle.beginning.specs.Begins.{Begins, heard, verdict, stationFor}
 use Rattle.olbiothar.specs.declared.playing.Begun.{Begun}
 use Rattle.olbiothar.specs.Answers.{answerOf}

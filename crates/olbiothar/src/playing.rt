@@ -147,15 +147,15 @@ fn answer_said(said: Said) -> Answer
     }
 }
 
-fn answer_begun(answer: beginning::Answer) -> Answer
+fn answer_begun(answer: starting::Answer) -> Answer
     ensures { λ r. ⌜ r ≡ answerOf (heard answer) ⌝ }
 {
     match answer {
-        beginning::Answer::Started => Answer {
+        starting::Answer::Started => Answer {
             number: 0,
             place: 0,
         },
-        beginning::Answer::Refused(why) => refused(why),
+        starting::Answer::Refused(why) => refused(why),
     }
 }
 

@@ -183,10 +183,10 @@ fn hear_lines(mut station: Station, s: &[u8], from: usize) -> Station
     station
 }
 
-fn say_answer(answer: beginning::Answer) {
+fn say_answer(answer: starting::Answer) {
     match answer {
-        beginning::Answer::Started => say_begun(),
-        beginning::Answer::Refused(why) => say_refusal(why),
+        starting::Answer::Started => say_begun(),
+        starting::Answer::Refused(why) => say_refusal(why),
     }
 }
 

@@ -1,0 +1,11 @@
+use Rattle.starting.specs.Starting.{startedBy}
+use borrow.Author.Needs.{needs}
+use Rattle.starting.proofs.started.Statement.{statement}
+use Rattle.starting.proofs.started.Tie as tie
+
+returns : tie.Need-returns
+unfolding startedBy
+returns c = rw (c .modes-after .ensures .0)
+
+pub started-spec : {M : Type 1} → statement M
+started-spec = tie.close (tie.spec (λ c κs. search needs) returns)

@@ -1,0 +1,90 @@
+// A station that keeps a passed plan and table, in its starting modes: refusal 40 of a beginning.
+ghost use mathlib.Core.Path.{_≡_};
+ghost use Rattle.laws.specs.Lists.{firstBad, upTo};
+ghost use Rattle.rules.specs.Station as rules;
+ghost use Rattle.stationruns.specs.Inputs.{changeOf, foundOf};
+ghost use Rattle.station.specs.Memory.{notBegun};
+ghost use Rattle.starting.specs.Starting.{begunBy, holdsOwn, startTest, startedBy};
+ghost use Rattle.starting.specs.declared.Answer.the-variants.{Refused};
+use answers::Refusal;
+use figures::both;
+use places::byte_at;
+use station::Station;
+use stationruns::Change;
+use stationruns::Found;
+use stationsteps::modes_after;
+use units::ModuleNo;
+
+pub enum Answer {
+    Started,
+    Refused(Refusal),
+}
+
+// The answer, and the station beside it: not begun, all zero, where the beginning is refused.
+pub struct Begun {
+    pub answer: Answer,
+    pub station: Station,
+}
+
+pub fn refused(why: Refusal) -> Begun
+    ensures { λ r. ⌜ r ≡ record { answer = Refused why; station = notBegun } ⌝ }
+{
+    Begun {
+        answer: Answer::Refused(why),
+        station: Station::not_begun(),
+    }
+}
+
+// Whether the starting place of a module holds a mode of its own; behind the last module it holds nothing.
+fn holds_own<'a>(start: Change, m: usize, modules: u8, modes: u8, homes: &'a [u8; 32]) -> bool
+    ensures { λ r. ⌜ r ≡ holdsOwn modules modes (now (homes .entry)) m (changeOf start) ⌝ }
+{
+    match start {
+        Change::Nothing => !(m < modules as usize),
+        Change::To(mode) => {
+            let own = both(mode.0 < modes, byte_at(homes, mode.place()) == m);
+            both(m < modules as usize, own)
+        }
+    }
+}
+
+// 40: the first starting place at fault.
+fn wrong_start<'a>(starting: [Change; 16], modules: u8, modes: u8, homes: &'a [u8; 32]) -> Found
+    ensures { λ r. ⌜ foundOf r ≡ firstBad (startTest starting modules modes (now (homes .entry))) (upTo 16) ⌝ }
+{
+    let mut m = 0;
+    while m < 16 {
+        let start = starting[m];
+        if holds_own(start, m, modules, modes, homes) {
+            m += 1;
+        } else {
+            return Found::At(m);
+        }
+    }
+    Found::Nothing
+}
+
+fn started(mut kept: Station, starting: [Change; 16]) -> Station
+    ensures { λ r. ⌜ r ≡ startedBy kept starting ⌝ }
+{
+    let mut play = kept.play;
+    let none = play.running;
+    let running = modes_after(starting, none);
+    play.running = running;
+    kept.play = play;
+    kept
+}
+
+// A station that keeps a passed plan and table, in its starting modes.
+pub fn begin_with(kept: Station, starting: [Change; 16]) -> Begun
+    ensures { λ r. ⌜ r ≡ begunBy kept starting ⌝ }
+{
+    let modes = kept.modes;
+    match wrong_start(starting, kept.modules.count, modes.count, &modes.homes) {
+        Found::At(m) => refused(Refusal::NotBegun(ModuleNo(m as u8))),
+        Found::Nothing => Begun {
+            answer: Answer::Started,
+            station: started(kept, starting),
+        },
+    }
+}
