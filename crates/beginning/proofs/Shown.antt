@@ -29,7 +29,8 @@ use Rattle.station.proofs.Plays.{Plays, plays-follows}
 use Rattle.station.proofs.Sized.{Sized, laid-agrees, sized-laid}
 use Rattle.starting.specs.declared.Answer.the-variants.{Started}
 use Rattle.starting.specs.declared.Begun.{Begun}
-use Rattle.beginning.specs.Begins.{Begins, heard, keptLaid, runLaid, stationLaid}
+use Rattle.beginning.specs.Begins.{Begins, keptLaid, runLaid, stationLaid}
+use Rattle.starting.specs.Starting.{heard}
 
 -- a mode and one of the 32 tasks have a place of their own
 run-place : (k : Kept) (μ t : ℕ) → μ < 32 → t < 32 → getD (tab (runLaid k) 0 1024) (μ * 32 + t) 0 ≡ k .run μ t

@@ -9,7 +9,8 @@ use Rattle.station.specs.declared.Station.{Station}
 use Rattle.starting.specs.declared.Answer.{Answer}
 use Rattle.starting.specs.declared.Answer.the-variants.{Started, Refused}
 use Rattle.starting.specs.declared.Begun.{Begun}
-use Rattle.beginning.specs.Begins.{Begins, heard}
+use Rattle.beginning.specs.Begins.{Begins}
+use Rattle.starting.specs.Starting.{heard}
 
 heard-once : (x y : Answer) → heard x ≡ heard y → x ≡ y
 heard-once Started Started e = refl

@@ -3,14 +3,12 @@ use mathlib.Core.Path.{_≡_}
 use Prim.Native.Nat.{ℕ, _/_, _%_}
 use Rattle.laws.specs.Lists.{tab}
 use Rattle.laws.specs.Res.{Res, ok, refuse}
-use Rattle.answers.specs.Refusals.{said}
 use Rattle.rules.specs.Station as rules
 use Rattle.rules.specs.Station.{Kept}
 use Rattle.station.specs.Memory.{laid, notBegun}
 use Rattle.station.specs.declared.Station.{Station}
-use Rattle.starting.specs.declared.Answer.{Answer}
-use Rattle.starting.specs.declared.Answer.the-variants.{Started, Refused}
 use Rattle.starting.specs.declared.Begun.{Begun}
+use Rattle.starting.specs.Starting.{heard}
 
 -- the period of mode j / 32 and task j % 32
 unfoldable pub runLaid : Kept → ℕ → ℕ
@@ -58,11 +56,7 @@ keptLaid k =
 unfoldable pub stationLaid : rules.Begun → Station
 stationLaid b = laid (keptLaid (b .kept)) (b .state)
 
--- the answer in the rules' words, and the rules' answer without what begins
-abbrev pub heard : Answer → Res (Unit {0})
-heard Started = ok tt
-heard (Refused x) = said x
-
+-- the rules' answer without what begins
 abbrev pub verdict : Res rules.Begun → Res (Unit {0})
 verdict (ok b) = ok tt
 verdict (refuse n p) = refuse n p

@@ -7,9 +7,10 @@ use Rattle.rules.specs.Station as rules
 use Rattle.stationruns.specs.declared.Change.{Change}
 use Rattle.stationruns.specs.Inputs.{changeAt}
 use Rattle.starting.specs.declared.Begun as beginning
-use Rattle.beginning.specs.Begins.{Begins, heard, verdict, stationFor}
-use Rattle.olbiothar.specs.declared.playing.Begun.{Begun}
-use Rattle.olbiothar.specs.Answers.{answerOf}
+use Rattle.beginning.specs.Begins.{Begins, verdict, stationFor}
+use Rattle.starting.specs.Starting.{heard}
+use Rattle.olbiothar.specs.declared.Begun.{Begun}
+use Rattle.outward.specs.Answers.{answerOf}
 use Rattle.olbiothar.specs.Playing.{begunBy}
 
 begun-is : (rule : Res rules.Begun) (b : beginning.Begun) (r : Begun) → Begins b rule → r .answer ≡ answerOf (heard (b .answer)) → r .station ≡ b .station

@@ -1,4 +1,2 @@
-pub mod Inputs
-pub mod Ticking
 pub mod Beginning
 pub mod Stored

@@ -6,8 +6,8 @@ use Rattle.rules.specs.Table.{make}
 use Rattle.rules.specs.Checker.{check}
 use Rattle.framerows.specs.declared.Frame.{Frame}
 use Rattle.framerows.specs.Frames.{rowOf}
-use Rattle.olbiothar.specs.declared.Answer.{Answer}
-use Rattle.olbiothar.specs.Answers.{answerOf, madeOf}
+use Rattle.outward.specs.declared.Answer.{Answer}
+use Rattle.outward.specs.Answers.{answerOf, madeOf}
 
 -- `make`: its answer, every lent row and every lent byte.
 pub record MakesRows (answer : Answer) (plan : List ℕ) (before after : List Frame) (old new : List ℕ) : Type 0 where

@@ -1,56 +1,26 @@
 // The library for C and Rust: what document 01 asks for, on byte slices, frame rows and numbers.
 // No function has a precondition; an answer is a number and a place, for C has no enums that carry values.
+// A tick changes a lent station in place. The prover's walk covers no function over a reference to a struct, so `olbiothar_tick` is thin:
+// covered functions do all the work, and it stores what they give.
 ghost use mathlib.Core.Path.{_≡_};
-ghost use Rattle.answers.specs.Refusals.{said};
-ghost use Rattle.maker.specs.Making as making;
-ghost use Rattle.checker.specs.Checking as checking;
-ghost use Rattle.olbiothar.specs.Answers.{answerOf, madeOf};
 ghost use Rattle.olbiothar.specs.Lent.{ChecksRows, MakesRows};
-
-pub mod playing;
-
-use answers::Refusal;
+ghost use Rattle.rules.specs.Station.{begin};
+ghost use Rattle.rules.specs.StationRange.{ticked};
+ghost use Rattle.stationruns.specs.Inputs.{changeAt, inputOf};
+ghost use Rattle.station.specs.Memory.{keptOf, stateOf};
+ghost use Rattle.olbiothar.specs.Playing.{begunBy};
+ghost use Rattle.turning.specs.Turning.{stationAfter, tickedBy};
+ghost use Rattle.outward.specs.Numbers.{changesFor, givensFor};
 use framerows::Frame;
-
-// Number 0: not refused; the place is then what was made, or 0. Else the refusal's number and its place.
-#[repr(C)]
-pub struct Answer {
-    pub number: u32,
-    pub place: u64,
-}
-
-fn refused(why: Refusal) -> Answer
-    ensures { λ r. ⌜ r ≡ answerOf (said why) ⌝ }
-{
-    Answer {
-        number: why.number(),
-        place: why.place() as u64,
-    }
-}
-
-fn checked(answer: checker::Answer) -> Answer
-    ensures { λ r. ⌜ r ≡ answerOf (checking.heard answer) ⌝ }
-{
-    match answer {
-        checker::Answer::Passed => Answer {
-            number: 0,
-            place: 0,
-        },
-        checker::Answer::Refused(why) => refused(why),
-    }
-}
-
-fn made(answer: maker::Answer) -> Answer
-    ensures { λ r. ⌜ r ≡ madeOf (making.heard answer) ⌝ }
-{
-    match answer {
-        maker::Answer::Made(length) => Answer {
-            number: 0,
-            place: length as u64,
-        },
-        maker::Answer::Refused(why) => refused(why),
-    }
-}
+use outward::Answer;
+use outward::answer_begun;
+use outward::changes_for;
+use outward::checked;
+use outward::made;
+use station::Station;
+use station::nodes_turned;
+use turning::Ticked;
+use turning::turn_for;
 
 // The table of a plan, at the front of the lent bytes; its length, or refusals 19 and 1 to 13.
 #[no_mangle]
@@ -66,4 +36,73 @@ pub extern "C" fn olbiothar_check(plan: &[u8], table: &[u8], rows: &mut [Frame])
     ensures { λ r. ⌜ ChecksRows r (now (plan .entry)) (now (table .entry)) (now (rows .entry)) (now (rows .exit)) ⌝ }
 {
     checked(tables::check(plan, table, rows))
+}
+
+// A beginning: the answer, and the station beside it.
+#[repr(C)]
+pub struct Begun {
+    pub answer: Answer,
+    pub station: Station,
+}
+
+// A station begins with a plan, a table and a mode for each module, which counts where `given` is not 0.
+#[no_mangle]
+pub extern "C" fn olbiothar_begin(
+    plan: &[u8],
+    table: &[u8],
+    modes: &[u8; 16],
+    given: &[u8; 16],
+) -> Begun
+    ensures { λ r. ⌜ r ≡ begunBy (begin (now (plan .entry)) (now (table .entry)) (changeAt (changesFor (now (modes .entry)) (now (given .entry))))) ⌝ }
+{
+    let b = beginning::begin(plan, table, changes_for(modes, given));
+    let answer = b.answer;
+    let begun = b.station;
+    Begun {
+        answer: answer_begun(answer),
+        station: begun,
+    }
+}
+
+// One tick, in place; a refused one leaves the station as it stood. A task's result counts where `given` is not 0, a module's change of
+// mode where `changed` is not 0.
+#[no_mangle]
+pub extern "C" fn olbiothar_tick(
+    station: &mut Station,
+    results: &[u64; 32],
+    given: &[u8; 32],
+    modes: &[u8; 16],
+    changed: &[u8; 16],
+) -> Ticked
+    ensures { λ r. ⌜ (r ≡ tickedBy (ticked (keptOf (now (station .entry))) (stateOf (now (station .entry))) (inputOf (givensFor (now (results .entry)) (now (given .entry))) (changesFor (now (modes .entry)) (now (changed .entry)))))) × (now (station .exit) ≡ stationAfter (now (station .entry)) (ticked (keptOf (now (station .entry))) (stateOf (now (station .entry))) (inputOf (givensFor (now (results .entry)) (now (given .entry))) (changesFor (now (modes .entry)) (now (changed .entry)))))) ⌝ }
+{
+    let t = turn_for(
+        station.modules,
+        station.modes,
+        station.tasks,
+        station.controls,
+        station.datas,
+        station.period,
+        station.play,
+        &station.runs,
+        &station.carries,
+        &station.deadlines,
+        &station.starts,
+        &station.stops,
+        results,
+        given,
+        modes,
+        changed,
+    );
+    station.play = t.turn.play;
+    if t.turn.idle {} else {
+        station.nodes = nodes_turned(
+            station.nodes,
+            station.modules,
+            station.tasks,
+            t.turn,
+            &station.runs,
+        );
+    }
+    t.ticked
 }

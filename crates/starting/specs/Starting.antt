@@ -7,6 +7,8 @@ use lib.ListN.{getD}
 use Prim.Native.Nat.{ℕ}
 use Rattle.laws.specs.Lists.{firstBad, upTo}
 use Rattle.laws.specs.Loops.{stores}
+use Rattle.laws.specs.Res.{Res, ok}
+use Rattle.answers.specs.Refusals.{said}
 use Rattle.answers.specs.declared.Refusal.the-variants.{NotBegun}
 use Rattle.stationruns.specs.Inputs.{changeAt}
 use Rattle.stationruns.specs.declared.Change.{Change}
@@ -14,6 +16,7 @@ use Rattle.stationsteps.specs.Steps.{modeRule}
 use Rattle.station.specs.Memory.{notBegun}
 use Rattle.stationrefusals.specs.declared.Play.{Play}
 use Rattle.station.specs.declared.Station.{Station}
+use Rattle.starting.specs.declared.Answer.{Answer}
 use Rattle.starting.specs.declared.Answer.the-variants.{Started, Refused}
 use Rattle.starting.specs.declared.Begun.{Begun}
 
@@ -74,3 +77,8 @@ begunAt kept starting (some m) = record { answer = Refused (NotBegun (record { 0
 
 unfoldable pub begunBy : Station → List Change → Begun
 begunBy kept starting = begunAt kept starting (wrongStart kept starting)
+
+-- the answer in the rules' words
+abbrev pub heard : Answer → Res (Unit {0})
+heard Started = ok tt
+heard (Refused x) = said x

@@ -1,7 +1,6 @@
 // A station that keeps a passed plan and table, in its starting modes: refusal 40 of a beginning.
 ghost use mathlib.Core.Path.{_≡_};
 ghost use Rattle.laws.specs.Lists.{firstBad, upTo};
-ghost use Rattle.rules.specs.Station as rules;
 ghost use Rattle.stationruns.specs.Inputs.{changeOf, foundOf};
 ghost use Rattle.station.specs.Memory.{notBegun};
 ghost use Rattle.starting.specs.Starting.{begunBy, holdsOwn, startTest, startedBy};

@@ -41,9 +41,9 @@ use denote.Exit.{yes}
 use Rattle.framerows.specs.declared.Frame.{Frame}
 use Rattle.framerows.proofs.Frame as F
 use Rattle.framerows.proofs.Calls.{Plain, calls-plain}
-use Rattle.olbiothar.specs.declared.Answer.{Answer}
-use Rattle.olbiothar.proofs.Answer as T
-use Rattle.olbiothar.proofs.Answer.Laws as T′
+use Rattle.outward.specs.declared.Answer.{Answer}
+use Rattle.outward.proofs.Answer as T
+use Rattle.outward.proofs.Answer.Laws as T′
 use Rattle.checker.specs.declared.Answer.{Answer as Inner}
 use Rattle.checker.specs.Checking.{heard as heardIn}
 use Rattle.checker.proofs.Answer as B
@@ -53,11 +53,10 @@ use Rattle.tables.proofs.check as inner
 use Rattle.tables.proofs.check.Symbol as inner-def
 use Rattle.tables.proofs.check.Symbol.{name as #inner}
 use Rattle.tables.proofs.check.Met as inner-thm
-use Rattle.olbiothar.specs.Answers.{answerOf}
-use Rattle.olbiothar.specs.Lent.{ChecksRows}
-use Rattle.olbiothar.proofs.checked.Symbol as told-def
-use Rattle.olbiothar.proofs.checked.Symbol.{name as #told}
-use Rattle.olbiothar.proofs.checked.Met as told-thm
+use Rattle.outward.specs.Answers.{answerOf}
+use Rattle.outward.proofs.checked.Symbol as told-def
+use Rattle.outward.proofs.checked.Symbol.{name as #told}
+use Rattle.outward.proofs.checked.Met as told-thm
 use Rattle.olbiothar.proofs.olbiothar_check.Key.{name as #fn}
 use Rattle.olbiothar.proofs.olbiothar_check as fn
 use Rattle.olbiothar.proofs.olbiothar_check.Statement as stated
@@ -170,4 +169,4 @@ olbiothar-check-spec 𝓤 H 𝓜 𝓖 𝓡 =
     (tables 𝓤 H 𝓜 𝓡 code.env .C) (tables 𝓤 H 𝓜 𝓡 code.env .Λ) #fn code.function (code.unfolded 𝓤 H 𝓜 𝓡)
     (olbiothar-check-meets 𝓤 H (𝓖 .A) (givenOf 𝓤 H 𝓜 𝓖) (𝓜 .mem) (𝓡 .run) (tablesOf 𝓤 H 𝓜 (tables 𝓤 H 𝓜 𝓡 code.env))
     (cited 𝓤 H (InnerMet 𝓤 H (𝓖 .A) (givenOf 𝓤 H 𝓜 𝓖) (𝓜 .mem) (𝓡 .run)) 𝓜 𝓡 code.env #inner inner-def.routine code.calls-tables·check (inner-thm.met 𝓤 H 𝓜 𝓖 𝓡))
-    (cited 𝓤 H (Plain B.the-row T.the-row ToldSays 𝓤 H (𝓖 .A)) 𝓜 𝓡 code.env #told told-def.routine code.calls-olbiothar·checked (told-thm.met 𝓤 H 𝓜 𝓖 𝓡)))
+    (cited 𝓤 H (Plain B.the-row T.the-row ToldSays 𝓤 H (𝓖 .A)) 𝓜 𝓡 code.env #told told-def.routine code.calls-outward·checked (told-thm.met 𝓤 H 𝓜 𝓖 𝓡)))

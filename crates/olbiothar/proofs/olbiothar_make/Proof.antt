@@ -41,9 +41,9 @@ use denote.Exit.{yes}
 use Rattle.framerows.specs.declared.Frame.{Frame}
 use Rattle.framerows.proofs.Frame as F
 use Rattle.framerows.proofs.Calls.{Plain, calls-plain}
-use Rattle.olbiothar.specs.declared.Answer.{Answer}
-use Rattle.olbiothar.proofs.Answer as T
-use Rattle.olbiothar.proofs.Answer.Laws as T′
+use Rattle.outward.specs.declared.Answer.{Answer}
+use Rattle.outward.proofs.Answer as T
+use Rattle.outward.proofs.Answer.Laws as T′
 use Rattle.maker.specs.declared.Answer.{Answer as Inner}
 use Rattle.maker.specs.Making.{heard as heardIn}
 use Rattle.maker.proofs.Answer as B
@@ -53,11 +53,10 @@ use Rattle.tables.proofs.make as inner
 use Rattle.tables.proofs.make.Symbol as inner-def
 use Rattle.tables.proofs.make.Symbol.{name as #inner}
 use Rattle.tables.proofs.make.Met as inner-thm
-use Rattle.olbiothar.specs.Answers.{madeOf}
-use Rattle.olbiothar.specs.Lent.{MakesRows}
-use Rattle.olbiothar.proofs.made.Symbol as told-def
-use Rattle.olbiothar.proofs.made.Symbol.{name as #told}
-use Rattle.olbiothar.proofs.made.Met as told-thm
+use Rattle.outward.specs.Answers.{madeOf}
+use Rattle.outward.proofs.made.Symbol as told-def
+use Rattle.outward.proofs.made.Symbol.{name as #told}
+use Rattle.outward.proofs.made.Met as told-thm
 use Rattle.olbiothar.proofs.olbiothar_make.Key.{name as #fn}
 use Rattle.olbiothar.proofs.olbiothar_make as fn
 use Rattle.olbiothar.proofs.olbiothar_make.Statement as stated
@@ -169,4 +168,4 @@ olbiothar-make-spec 𝓤 H 𝓜 𝓖 𝓡 =
     (tables 𝓤 H 𝓜 𝓡 code.env .C) (tables 𝓤 H 𝓜 𝓡 code.env .Λ) #fn code.function (code.unfolded 𝓤 H 𝓜 𝓡)
     (olbiothar-make-meets 𝓤 H (𝓖 .A) (givenOf 𝓤 H 𝓜 𝓖) (𝓜 .mem) (𝓡 .run) (tablesOf 𝓤 H 𝓜 (tables 𝓤 H 𝓜 𝓡 code.env))
     (cited 𝓤 H (InnerMet 𝓤 H (𝓖 .A) (givenOf 𝓤 H 𝓜 𝓖) (𝓜 .mem) (𝓡 .run)) 𝓜 𝓡 code.env #inner inner-def.routine code.calls-tables·make (inner-thm.met 𝓤 H 𝓜 𝓖 𝓡))
-    (cited 𝓤 H (Plain B.the-row T.the-row ToldSays 𝓤 H (𝓖 .A)) 𝓜 𝓡 code.env #told told-def.routine code.calls-olbiothar·made (told-thm.met 𝓤 H 𝓜 𝓖 𝓡)))
+    (cited 𝓤 H (Plain B.the-row T.the-row ToldSays 𝓤 H (𝓖 .A)) 𝓜 𝓡 code.env #told told-def.routine code.calls-outward·made (told-thm.met 𝓤 H 𝓜 𝓖 𝓡)))

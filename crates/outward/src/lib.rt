@@ -1,0 +1,173 @@
+// Answers, rows and what a tick is given, in the numbers that C has: C has no enums that carry values.
+ghost use mathlib.Core.Path.{_≡_};
+ghost use Rattle.answers.specs.Refusals.{said};
+ghost use Rattle.maker.specs.Making as making;
+ghost use Rattle.checker.specs.Checking as checking;
+ghost use Rattle.outward.specs.Answers.{answerOf, madeOf};
+ghost use Rattle.starting.specs.Starting.{heard};
+ghost use Rattle.outward.specs.Numbers.{answerSaid, changeFor, changesFor, givenFor, givensFor, rowFor, rowSaid};
+use answers::Refusal;
+use station::Station;
+use stationmoves::Said;
+use stationruns::Change;
+use stationruns::Given;
+use units::ModeNo;
+
+// Number 0: not refused; the place is then what was made, or 0. Else the refusal's number and its place.
+#[repr(C)]
+pub struct Answer {
+    pub number: u32,
+    pub place: u64,
+}
+
+pub fn refused(why: Refusal) -> Answer
+    ensures { λ r. ⌜ r ≡ answerOf (said why) ⌝ }
+{
+    Answer {
+        number: why.number(),
+        place: why.place() as u64,
+    }
+}
+
+pub fn checked(answer: checker::Answer) -> Answer
+    ensures { λ r. ⌜ r ≡ answerOf (checking.heard answer) ⌝ }
+{
+    match answer {
+        checker::Answer::Passed => Answer {
+            number: 0,
+            place: 0,
+        },
+        checker::Answer::Refused(why) => refused(why),
+    }
+}
+
+pub fn made(answer: maker::Answer) -> Answer
+    ensures { λ r. ⌜ r ≡ madeOf (making.heard answer) ⌝ }
+{
+    match answer {
+        maker::Answer::Made(length) => Answer {
+            number: 0,
+            place: length as u64,
+        },
+        maker::Answer::Refused(why) => refused(why),
+    }
+}
+
+// The row that starts: kind 17 or 18, the node or task that sends it, deadline (0 of a control row), start and stop. Kind 0: none starts.
+#[repr(C)]
+pub struct Row {
+    pub kind: u8,
+    pub sender: u8,
+    pub deadline: u32,
+    pub start: u32,
+    pub stop: u32,
+}
+
+fn given_for(given: u8, result: u64) -> Given
+    ensures { λ r. ⌜ r ≡ givenFor given result ⌝ }
+{
+    if given == 0 {
+        return Given::Nothing;
+    }
+    Given::Result(result)
+}
+
+fn change_for(changed: u8, mode: u8) -> Change
+    ensures { λ r. ⌜ r ≡ changeFor changed mode ⌝ }
+{
+    if changed == 0 {
+        return Change::Nothing;
+    }
+    Change::To(ModeNo(mode))
+}
+
+pub fn givens_for(results: &[u64; 32], given: &[u8; 32]) -> [Given; 32]
+    ensures { λ r. ⌜ r ≡ givensFor (now (results .entry)) (now (given .entry)) ⌝ }
+{
+    let mut givens = [Given::Nothing; 32];
+    let mut t = 0;
+    while t < 32 {
+        givens[t] = given_for(given[t], results[t]);
+        t += 1;
+    }
+    givens
+}
+
+pub fn changes_for(modes: &[u8; 16], changed: &[u8; 16]) -> [Change; 16]
+    ensures { λ r. ⌜ r ≡ changesFor (now (modes .entry)) (now (changed .entry)) ⌝ }
+{
+    let mut changes = [Change::Nothing; 16];
+    let mut m = 0;
+    while m < 16 {
+        changes[m] = change_for(changed[m], modes[m]);
+        m += 1;
+    }
+    changes
+}
+
+fn no_row() -> Row
+    ensures { λ r. ⌜ r ≡ rowFor 0 0 0 0 0 ⌝ }
+{
+    Row {
+        kind: 0,
+        sender: 0,
+        deadline: 0,
+        start: 0,
+        stop: 0,
+    }
+}
+
+pub fn row_said(said: Said) -> Row
+    ensures { λ r. ⌜ r ≡ rowSaid said ⌝ }
+{
+    match said {
+        Said::Control(row) => Row {
+            kind: 17,
+            sender: row.node.0,
+            deadline: 0,
+            start: row.start.0,
+            stop: row.stop.0,
+        },
+        Said::Data(row) => Row {
+            kind: 18,
+            sender: row.task.0,
+            deadline: row.deadline.0,
+            start: row.start.0,
+            stop: row.stop.0,
+        },
+        Said::Quiet => no_row(),
+        Said::Refused(_) => no_row(),
+    }
+}
+
+pub fn answer_said(said: Said) -> Answer
+    ensures { λ r. ⌜ r ≡ answerSaid said ⌝ }
+{
+    match said {
+        Said::Control(_) => Answer {
+            number: 0,
+            place: 0,
+        },
+        Said::Data(_) => Answer {
+            number: 0,
+            place: 0,
+        },
+        Said::Quiet => Answer {
+            number: 0,
+            place: 0,
+        },
+        Said::Refused(why) => refused(why),
+    }
+}
+
+pub fn answer_begun(answer: starting::Answer) -> Answer
+    ensures { λ r. ⌜ r ≡ answerOf (heard answer) ⌝ }
+{
+    match answer {
+        starting::Answer::Started => Answer {
+            number: 0,
+            place: 0,
+        },
+        starting::Answer::Refused(why) => refused(why),
+    }
+}

@@ -1,0 +1,42 @@
+-- What a tick answers and leaves of the station, in the numbers that C has, by the rules' tick.
+use mathlib.Core.Bool.{true, false}
+use mathlib.Core.Path.{_≡_}
+use Rattle.laws.specs.Res.{Res, ok, refuse}
+use Rattle.rules.specs.Station as rules
+use Rattle.stationmoves.specs.declared.Said.{Said}
+use Rattle.station.specs.declared.Station.{Station}
+use Rattle.station.specs.Memory.{laid}
+use Rattle.station.specs.Parts.{nodesBy}
+use Rattle.station.specs.Turns.{moved}
+use Rattle.turning.specs.declared.Answered.{Answered}
+use Rattle.outward.specs.declared.Row.{Row}
+use Rattle.turning.specs.declared.Ticked.{Ticked}
+use Rattle.outward.specs.Answers.{answerOf}
+use Rattle.outward.specs.Numbers.{answerSaid, rowFor, rowSaid}
+
+abbrev pub tickedSaid : Said → Ticked
+tickedSaid s = record { answer = answerSaid s; row = rowSaid s }
+
+-- the row that starts (reading 34)
+abbrev pub rowStarted : rules.Started → Row
+rowStarted (rules.control w) = rowFor 17 (w .node) 0 (w .start) (w .stop)
+rowStarted (rules.message w) = rowFor 18 (w .task) (w .deadline) (w .start) (w .stop)
+rowStarted rules.nothing = rowFor 0 0 0 0 0
+
+abbrev pub tickedBy : Res rules.Ticked → Ticked
+tickedBy (ok t) = record { answer = answerOf (ok tt); row = rowStarted (t .row) }
+tickedBy (refuse n p) = record { answer = answerOf (refuse n p); row = rowFor 0 0 0 0 0 }
+
+-- the station after a tick: the state after it, laid into the station; a refused tick leaves the station as it was (reading 28)
+abbrev pub stationAfter : Station → Res rules.Ticked → Station
+stationAfter st (ok t) = laid st (t .state)
+stationAfter st (refuse n p) = st
+
+-- What the first part of a tick gives: with the nodes as they were, where the turn is idle, or as the second part makes them, it is the rules' answer.
+pub record TurnsFor (st : Station) (rule : Res rules.Ticked) (r : Answered) : Type 0 where
+  pub idle : r .turn .idle ≡ true → (r .ticked ≡ tickedBy rule) × (moved st (r .turn .play) (st .nodes) ≡ stationAfter st rule)
+  pub moves : r .turn .idle ≡ false
+      → (r .ticked ≡ tickedBy rule)
+      × (moved st (r .turn .play)
+      (nodesBy (st .modules) (st .tasks) (r .turn .play) (r .turn .clock .0) (r .turn .landing) (r .turn .ends) (st .runs) (st .nodes))
+      ≡ stationAfter st rule)
