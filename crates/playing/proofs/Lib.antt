@@ -1,3 +1,1 @@
-pub mod Ticking
-pub mod HistoryLines
 pub mod Whole

@@ -1,11 +1,11 @@
 -- A whole history: its first line, and what follows from it.
 -- Assumes nothing.
-use mathlib.Core.Path.{_≡_, refl, sym, ap, _∙_}
+use mathlib.Core.Path.{_≡_, sym, ap, _∙_}
 use mathlib.Core.List.{List, [], _∷_}
 use native.Mathlib.Nat.{pos-of-ne-zero}
 use native.Mathlib.Omega.{arith}
 use lib.ListN.{length, drop, take}
-use Prim.Native.Nat.{ℕ, zero, suc, _-_, _≤_, _<_}
+use Prim.Native.Nat.{ℕ, _-_, _<_}
 use Rattle.rules.specs.Station as rules
 use Rattle.stationruns.specs.Inputs.{changeAt}
 use Rattle.stationruns.specs.declared.Change.{Change}
@@ -16,8 +16,9 @@ use Rattle.history.specs.Reading.{oneLine, readLine, lineEnd, changesOf}
 use Rattle.history.specs.declared.Line.{Line}
 use Rattle.history.specs.declared.What.{What}
 use Rattle.history.specs.declared.What.the-variants.{Begin, Tick, Quiet, Unreadable}
-use Rattle.playing.specs.Played.{afterLines, linesOf, behindEnd, begunBy, playedLines, played}
-use Rattle.playing.proofs.HistoryLines.{line-part, lines-here}
+use Rattle.playing.specs.Played.{begunBy, playedLines, played}
+use Rattle.hearing.specs.Heard.{afterLines, linesOf, behindEnd}
+use Rattle.hearing.proofs.HistoryLines.{line-part, lines-here}
 
 pub played-empty : (plan table s : List ℕ) {st : Station} → length s ≡ 0 → st ≡ notBegun → st ≡ played plan table s
 unfolding played linesOf

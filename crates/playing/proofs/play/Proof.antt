@@ -1,9 +1,9 @@
 use Rattle.playing.proofs.Whole.{played-empty, played-begin, played-tick, played-quiet, played-unreadable}
-use Rattle.playing.proofs.HistoryLines.{behind-later}
+use Rattle.hearing.proofs.HistoryLines.{behind-later}
 use lib.Seq.{length-take-le}
 use native.Mathlib.Omega.{arith}
 use native.Mathlib.Nat.{pos-of-ne-zero}
-use mathlib.Core.Path.{_≡_, sym}
+use mathlib.Core.Path.{sym}
 use borrow.Author.Needs.{needs}
 use Rattle.playing.proofs.play.Statement.{statement}
 use Rattle.playing.proofs.play.Tie as tie

@@ -1,8 +1,8 @@
-use Rattle.playing.proofs.Ticking.{left}
-use Rattle.playing.specs.Played.{afterTick}
+use Rattle.hearing.proofs.Ticking.{left}
+use Rattle.hearing.specs.Heard.{afterTick}
 use borrow.Author.Needs.{needs}
-use Rattle.playing.proofs.tick.Statement.{statement}
-use Rattle.playing.proofs.tick.Tie as tie
+use Rattle.hearing.proofs.tick.Statement.{statement}
+use Rattle.hearing.proofs.tick.Tie as tie
 
 returns : tie.Need-returns
 unfolding afterTick

@@ -1,24 +1,19 @@
 -- The station that a tick leaves, and the one that quiet ticks leave.
 -- Assumes nothing.
 use mathlib.Core.Path.{_≡_, refl, sym, ap, _∙_}
-use mathlib.Core.Bool.{Bool, true, false}
+use mathlib.Core.Bool.{true}
 use native.Mathlib.Omega.{arith}
-use lib.ListN.{replicate}
 use Prim.Native.Nat.{ℕ, zero, suc, _+_, _-_, _≤_, _<_}
 use Rattle.laws.specs.Res.{Res, ok, refuse}
 use Rattle.laws.proofs.Res.{refuse≢ok, ok-injective}
 use Rattle.rules.specs.Station as rules
-use Rattle.rules.specs.StationRange.{ticked}
-use Rattle.stationruns.specs.Inputs.{inputOf}
-use Rattle.stationruns.specs.declared.Given.the-variants as given
-use Rattle.stationruns.specs.declared.Change.the-variants as change
-use Rattle.station.specs.Memory.{keptOf, stateOf, laid}
+use Rattle.station.specs.Memory.{laid}
 use Rattle.station.specs.Answers.{Answers, outcome, isRefused, answerLaid}
 use Rattle.stationmoves.specs.declared.Said.{Said}
 use Rattle.stationmoves.specs.declared.Said.the-variants.{Control, Data, Quiet, Refused}
 use Rattle.station.specs.declared.Station.{Station}
 use Rattle.station.specs.declared.Ticked.{Ticked}
-use Rattle.playing.specs.Played.{afterRule, afterTick, afterNothing, afterQuiet}
+use Rattle.hearing.specs.Heard.{afterRule, afterNothing, afterQuiet}
 
 -- what an answer leaves is what the rule says
 module _ (st : Station) (r : Ticked) where

@@ -12,8 +12,8 @@ use Prim.Native.Nat.{ℕ, zero, suc, _+_, _-_, _≤_, _<_}
 use Rattle.text.specs.Text.{runOn}
 use Rattle.history.specs.Reading.{oneLine, lineEnd}
 use Rattle.station.specs.declared.Station.{Station}
-use Rattle.playing.specs.declared.Heard.{Heard}
-use Rattle.playing.specs.Played.{inFront, orFeed, linesOf, behindEnd, heardLine, afterLines}
+use Rattle.hearing.specs.declared.Heard.{Heard}
+use Rattle.hearing.specs.Heard.{inFront, orFeed, linesOf, behindEnd, heardLine, afterLines}
 
 -- the first line, and those behind its line feed
 pub lines-more : (l : List ℕ) → 0 < length l → linesOf l ≡ oneLine l ∷ linesOf (drop (suc (length (oneLine l))) l)

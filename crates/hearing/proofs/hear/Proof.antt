@@ -1,7 +1,7 @@
-use Rattle.playing.specs.Played.{heardLine}
+use Rattle.hearing.specs.Heard.{heardLine}
 use borrow.Author.Needs.{needs}
-use Rattle.playing.proofs.hear.Statement.{statement}
-use Rattle.playing.proofs.hear.Tie as tie
+use Rattle.hearing.proofs.hear.Statement.{statement}
+use Rattle.hearing.proofs.hear.Tie as tie
 
 returns : tie.Need-returns
 unfolding heardLine

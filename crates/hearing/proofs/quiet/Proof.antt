@@ -1,10 +1,10 @@
 use mathlib.Core.Path.{sym, _∙_}
-use Rattle.playing.proofs.Ticking.{left, Going, going-none, going-turn, going-refused, going-end}
-use Rattle.playing.specs.Played.{afterTick, afterNothing}
+use Rattle.hearing.proofs.Ticking.{left, Going, going-none, going-turn, going-refused, going-end}
+use Rattle.hearing.specs.Heard.{afterTick, afterNothing}
 use Prim.Native.Nat.{_-_, _≤_}
 use borrow.Author.Needs.{needs}
-use Rattle.playing.proofs.quiet.Statement.{statement}
-use Rattle.playing.proofs.quiet.Tie as tie
+use Rattle.hearing.proofs.quiet.Statement.{statement}
+use Rattle.hearing.proofs.quiet.Tie as tie
 
 abbrev Inv-loop : tie.InvT-loop
 Inv-loop station₀ ticks k₀ station k = (k ≤ ticks) × Going station₀ ticks station k

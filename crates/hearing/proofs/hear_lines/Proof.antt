@@ -1,12 +1,12 @@
-use Rattle.playing.proofs.HistoryLines.{Hearing, hearing-none, hearing-turn, hearing-stops, hearing-end, behind-later}
+use Rattle.hearing.proofs.HistoryLines.{Hearing, hearing-none, hearing-turn, hearing-stops, hearing-end, behind-later}
 use lib.ListN.{length}
-use Prim.Native.Nat.{_-_, _≤_, _<_}
+use Prim.Native.Nat.{_-_, _≤_}
 use borrow.Author.Tests.{not-true, not-false}
 use native.Mathlib.Omega.{arith}
-use mathlib.Core.Path.{_≡_, refl}
+use mathlib.Core.Path.{refl}
 use borrow.Author.Needs.{needs}
-use Rattle.playing.proofs.hear_lines.Statement.{statement}
-use Rattle.playing.proofs.hear_lines.Tie as tie
+use Rattle.hearing.proofs.hear_lines.Statement.{statement}
+use Rattle.hearing.proofs.hear_lines.Tie as tie
 
 abbrev Inv-loop : tie.InvT-loop
 Inv-loop station₀ s from at₀ heard₀ station at heard = (heard ≤ at) × Hearing s station₀ from station at
