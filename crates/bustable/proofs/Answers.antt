@@ -1,13 +1,12 @@
 -- The three answers: the line for a long input, the table, the line for a refusal.
 -- Assumes nothing.
-use mathlib.Core.List.{List, _++_}
+use mathlib.Core.List.{List}
 use mathlib.Core.Path.{_≡_, refl, sym, ap, ap₂, subst, _∙_}
-use native.Mathlib.Nat.{zero-add}
 use native.Mathlib.Omega.{arith}
-use lib.ListN.{length, drop}
+use lib.ListN.{length}
 use lib.Seq.{sets}
 use borrow.Author.Tests.{le-leb, lt-leb}
-use Prim.Native.Nat.{ℕ, _+_, _≤_, _<_}
+use Prim.Native.Nat.{ℕ, _≤_, _<_}
 use Rattle.io.specs.Counts.{Counts}
 use Rattle.laws.specs.Res.{Res, ok, refuse}
 use Rattle.laws.proofs.Res.{refuse≢ok, ok-injective, refuse-number, refuse-place}
@@ -16,10 +15,11 @@ use Rattle.rules.specs.Table.{MadeTable, madeTable, tableFor}
 use Rattle.rules.proofs.MadePasses.{table-made}
 use Rattle.answers.specs.declared.Refusal.{Refusal}
 use Rattle.answers.specs.Refusals.{numberOf, placeOf}
-use Rattle.maker.specs.declared.Answer.the-variants.{Made, Refused}
-use Rattle.maker.specs.declared.Making.{Making}
-use Rattle.maker.specs.Making.{Makes, heard, lengthOf, bufferLeft, lentFor}
-use Rattle.maker.proofs.Ways.{table-stored}
+use Rattle.linetable.specs.declared.Answer.the-variants.{Made, Refused}
+use Rattle.linetable.specs.declared.Making.{Making}
+use Rattle.maker.specs.Making.{lentFor}
+use Rattle.linetable.specs.Making.{Makes, heard, lengthOf, bufferLeft}
+use Rattle.linetable.proofs.Ways.{table-stored}
 use Rattle.text.specs.Text.{refusedLine, tooLongLine}
 use Rattle.text.proofs.Decimals.{refused-line-most}
 use Rattle.text.proofs.Fronts.{Front, front-counts}

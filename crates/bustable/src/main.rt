@@ -9,7 +9,7 @@ use frames::laid::Frames;
 use input::Input;
 use libc::STDIN_FILENO;
 use libc::STDOUT_FILENO;
-use maker::Answer;
+use linetable::Answer;
 
 // The answer at the front of `out`; its length. No line has more than 53 bytes.
 fn respond(plan: &[u8], out: &mut [u8]) -> usize

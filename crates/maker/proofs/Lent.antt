@@ -9,7 +9,8 @@ use Prim.Native.Nat.{ℕ}
 use Rattle.laws.specs.Res.{Res, ok, refuse}
 use Rattle.rules.specs.Frames.{mostFrames}
 use Rattle.rules.specs.Table.{FrameRow, zeroRow, rowsThenZero, MadeTable, tableFor, outcome, make}
-use Rattle.maker.specs.Making.{lengthOf, rowsOf, bufferLeft, lentFor}
+use Rattle.maker.specs.Making.{lentFor}
+use Rattle.linetable.specs.Making.{lengthOf, rowsOf, bufferLeft}
 
 outcome-answer : (r : Res MadeTable) (rows : List FrameRow) (buffer : List ℕ) → outcome r rows buffer .answer ≡ lengthOf r
 outcome-answer (ok t) rows buffer = refl

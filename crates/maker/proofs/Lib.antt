@@ -1,6 +1,2 @@
-pub mod OverLine
-pub mod Scattered
-pub mod Tabled
 pub mod Ways
-pub mod Unique
 pub mod Lent

@@ -1,2 +1,1 @@
 pub mod Making
-pub mod Steps

@@ -1,43 +1,15 @@
 -- What making a table answers, and what it leaves of the rows and of the lent buffer.
 use mathlib.Core.Path.{_≡_}
-use mathlib.Core.List.{List, [], _++_}
+use mathlib.Core.List.{List}
 use lib.Dec.{leb}
-use lib.ListN.{length, take, drop}
+use lib.ListN.{length, take}
 use Prim.Native.Nat.{ℕ, _≤_}
-use Rattle.laws.specs.Res.{Res, ok, refuse, _>>_, unless}
+use Rattle.laws.specs.Res.{Res, ok, _>>_, unless}
 use Rattle.rules.specs.Frames.{mostFrames}
 use Rattle.rules.specs.Table.{FrameRow, MadeTable, tableFor}
 use Rattle.rules.specs.Checker.{check}
-use Rattle.answers.specs.Refusals.{said}
-use Rattle.rows.specs.Rows.{rowsLaid}
-use Rattle.maker.specs.declared.Answer.{Answer}
-use Rattle.maker.specs.declared.Answer.the-variants.{Made, Refused}
-use Rattle.maker.specs.declared.Making.{Making}
-
--- the answer in the rules' words, and the rules' answer as a length
-abbrev pub heard : Answer → Res ℕ
-heard (Made n) = ok n
-heard (Refused x) = said x
-
-abbrev pub lengthOf : Res MadeTable → Res ℕ
-lengthOf (ok t) = ok (length (t .table))
-lengthOf (refuse n p) = refuse n p
-
--- the frame rows: none where the plan is refused
-abbrev pub rowsOf : Res MadeTable → List FrameRow
-rowsOf (ok t) = t .rows
-rowsOf (refuse n p) = []
-
--- "the table stands at the front of the lent buffer, and the bytes behind it are unchanged"; a refusal leaves it unchanged
-abbrev pub bufferLeft : Res MadeTable → List ℕ → List ℕ
-bufferLeft (ok t) buffer = t .table ++ drop (length (t .table)) buffer
-bufferLeft (refuse n p) buffer = buffer
-
--- Making says what the rules say, and leaves the rows and the buffer that they leave.
-pub record Makes (r : Making) (before after : List ℕ) (rule : Res MadeTable) : Type 0 where
-  pub answered : heard (r .answer) ≡ lengthOf rule
-  pub left : r .rows ≡ rowsLaid (rowsOf rule)
-  pub written : after ≡ bufferLeft rule before
+use Rattle.linetable.specs.declared.Answer.{Answer}
+use Rattle.linetable.specs.declared.Answer.the-variants.{Made}
 
 -- "19 before all": fewer than 256 frame rows lent.
 unfoldable pub lentFor : List ℕ → ℕ → ℕ → Res MadeTable

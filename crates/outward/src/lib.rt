@@ -1,7 +1,7 @@
 // Answers, rows and what a tick is given, in the numbers that C has: C has no enums that carry values.
 ghost use mathlib.Core.Path.{_≡_};
 ghost use Rattle.answers.specs.Refusals.{said};
-ghost use Rattle.maker.specs.Making as making;
+ghost use Rattle.linetable.specs.Making as making;
 ghost use Rattle.checker.specs.Checking as checking;
 ghost use Rattle.outward.specs.Answers.{answerOf, madeOf};
 ghost use Rattle.starting.specs.Starting.{heard};
@@ -41,15 +41,15 @@ pub fn checked(answer: checker::Answer) -> Answer
     }
 }
 
-pub fn made(answer: maker::Answer) -> Answer
+pub fn made(answer: linetable::Answer) -> Answer
     ensures { λ r. ⌜ r ≡ madeOf (making.heard answer) ⌝ }
 {
     match answer {
-        maker::Answer::Made(length) => Answer {
+        linetable::Answer::Made(length) => Answer {
             number: 0,
             place: length as u64,
         },
-        maker::Answer::Refused(why) => refused(why),
+        linetable::Answer::Refused(why) => refused(why),
     }
 }
 

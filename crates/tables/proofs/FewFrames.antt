@@ -2,7 +2,7 @@
 use mathlib.Core.Path.{_≡_, subst}
 use lib.ListN.{length}
 use Prim.Native.Nat.{_≤_}
-use Rattle.laws.specs.Res.{Res, ok}
+use Rattle.laws.specs.Res.{ok}
 use Rattle.rules.specs.Plan.{Plan}
 use Rattle.rules.specs.Frames.{Layout, layout, layoutOf}
 use Rattle.rules.proofs.LaidOut.{laid-out}

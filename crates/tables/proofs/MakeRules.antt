@@ -2,24 +2,22 @@
 use mathlib.Core.Bool.{Bool, true, false}
 use mathlib.Core.Path.{_≡_, refl, sym, ap, _∙_, subst}
 use mathlib.Core.List.{List, [], _∷_, map}
-use mathlib.Core.Logic.{_⊎_, inl, inr}
-use native.Mathlib.Nat.{sub-zero}
 use borrow.Author.Tests.{le-leb, lt-leb}
 use lib.Dec.{leb, lit≤}
-use lib.ListN.{length, length-map, replicate}
+use lib.ListN.{length, length-map}
 use Prim.Native.Nat.{ℕ, suc, _≤_, _<_}
 use Rattle.laws.specs.Res.{Res, ok, refuse, _>>_, unless}
-use Rattle.laws.proofs.Orders.{le-or-lt}
 use Rattle.rules.specs.Frames.{Layout, mostFrames}
 use Rattle.rules.specs.Frames as rules
 use Rattle.rules.specs.LatestRelease.{Placed}
-use Rattle.rules.specs.Table.{FrameRow, zeroRow, rowsFrom, rowsThenZero, MadeTable, madeTable, tableFor, outcome, make}
-use Rattle.rules.proofs.MadePasses.{table-made, make-enough, make-short}
+use Rattle.rules.specs.Table.{FrameRow, rowsFrom, rowsThenZero, MadeTable, madeTable, tableFor, make}
+use Rattle.rules.proofs.MadePasses.{table-made}
 use Rattle.framerows.specs.declared.Frame.{Frame}
 use Rattle.framerows.specs.Frames.{rowOf, filled}
 use Rattle.framerows.proofs.Laid.{filled-is}
-use Rattle.maker.specs.declared.Making.{Making}
-use Rattle.maker.specs.Making.{Makes, rowsOf, lentFor}
+use Rattle.linetable.specs.declared.Making.{Making}
+use Rattle.maker.specs.Making.{lentFor}
+use Rattle.linetable.specs.Making.{Makes, rowsOf}
 use Rattle.maker.proofs.Lent.{ruling, make-answer, make-buffer, make-rows}
 use Rattle.tables.specs.Lent.{MakesLent}
 use Rattle.tables.proofs.FewFrames.{few-laid}

@@ -4,8 +4,8 @@ use mathlib.Core.List.{List}
 use Prim.Native.Nat.{ℕ}
 use Rattle.framerows.specs.declared.Frame.{Frame}
 use Rattle.framerows.proofs.Laid.{rows-once}
-use Rattle.maker.specs.declared.Answer.{Answer as MakerAnswer}
-use Rattle.maker.proofs.Unique as made
+use Rattle.linetable.specs.declared.Answer.{Answer as MakerAnswer}
+use Rattle.linetable.proofs.Unique as made
 use Rattle.checker.specs.declared.Answer.{Answer as CheckerAnswer}
 use Rattle.checker.proofs.Unique as checked
 use Rattle.tables.specs.Lent.{MakesLent, ChecksLent}

@@ -6,8 +6,8 @@ use Rattle.rules.specs.Table.{make}
 use Rattle.rules.specs.Checker.{check}
 use Rattle.framerows.specs.declared.Frame.{Frame}
 use Rattle.framerows.specs.Frames.{rowOf}
-use Rattle.maker.specs.declared.Answer.{Answer as MakerAnswer}
-use Rattle.maker.specs.Making.{heard as heardMaker}
+use Rattle.linetable.specs.declared.Answer.{Answer as MakerAnswer}
+use Rattle.linetable.specs.Making.{heard as heardMaker}
 use Rattle.checker.specs.declared.Answer.{Answer as CheckerAnswer}
 use Rattle.checker.specs.Checking.{heard as heardChecker}
 

@@ -4,7 +4,7 @@ ghost use Rattle.tables.specs.Lent.{ChecksLent, MakesLent};
 use framerows::Frame;
 
 // The table of a plan at the front of the buffer: refusals 19 and 1 to 13, or its length.
-pub fn make(plan: &[u8], rows: &mut [Frame], buf: &mut [u8]) -> maker::Answer
+pub fn make(plan: &[u8], rows: &mut [Frame], buf: &mut [u8]) -> linetable::Answer
     ensures { λ r. ⌜ MakesLent r (now (plan .entry)) (now (rows .entry)) (now (rows .exit)) (now (buf .entry)) (now (buf .exit)) ⌝ }
 {
     let made = maker::made(plan, rows.len(), buf);

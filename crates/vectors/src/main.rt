@@ -69,13 +69,13 @@ fn make_in(plan: &[u8], lent: usize, buf: &mut [u8]) {
     let answer = making.answer;
     let rows = making.rows;
     match answer {
-        maker::Answer::Made(length) => {
+        linetable::Answer::Made(length) => {
             say_table(buf, length);
             say(b" rows");
             say_rows(rows);
             say_left(kept(buf, length), zeros(rows));
         }
-        maker::Answer::Refused(why) => {
+        linetable::Answer::Refused(why) => {
             say_refusal(why);
             say_left(kept(buf, 0), zeros(rows));
         }

@@ -1,7 +1,8 @@
 use mathlib.Core.Path.{refl}
 use lib.ListN.{length}
 use Rattle.answers.specs.declared.Refusal.the-variants.{TooFewRows}
-use Rattle.maker.proofs.Ways.{makes-refused, made-says, placed-made, too-few-rows, plan-sound, plan-refused}
+use Rattle.maker.proofs.Ways.{made-says, placed-made, too-few-rows, plan-sound, plan-refused}
+use Rattle.linetable.proofs.Ways.{makes-refused}
 use borrow.Author.Needs.{needs}
 use Rattle.maker.proofs.made.Statement.{statement}
 use Rattle.maker.proofs.made.Tie as tie

@@ -44,10 +44,10 @@ use Rattle.framerows.proofs.Calls.{Plain, calls-plain}
 use Rattle.outward.specs.declared.Answer.{Answer}
 use Rattle.outward.proofs.Answer as T
 use Rattle.outward.proofs.Answer.Laws as T′
-use Rattle.maker.specs.declared.Answer.{Answer as Inner}
-use Rattle.maker.specs.Making.{heard as heardIn}
-use Rattle.maker.proofs.Answer as B
-use Rattle.maker.proofs.Answer.Laws as B′
+use Rattle.linetable.specs.declared.Answer.{Answer as Inner}
+use Rattle.linetable.specs.Making.{heard as heardIn}
+use Rattle.linetable.proofs.Answer as B
+use Rattle.linetable.proofs.Answer.Laws as B′
 use Rattle.tables.specs.Lent.{MakesLent}
 use Rattle.tables.proofs.make as inner
 use Rattle.tables.proofs.make.Symbol as inner-def

@@ -48,13 +48,14 @@ use Rattle.framerows.proofs.Frame as F
 use Rattle.framerows.proofs.fill.Symbol as fill-def
 use Rattle.framerows.proofs.fill.Symbol.{name as #fill}
 use Rattle.framerows.proofs.fill.Met as fill-thm
-use Rattle.maker.specs.declared.Answer.{Answer}
-use Rattle.maker.specs.declared.Making.{Making}
-use Rattle.maker.specs.Making.{Makes, PassesCheck, lentFor}
-use Rattle.maker.proofs.Answer as B
-use Rattle.maker.proofs.Answer.Laws as B′
-use Rattle.maker.proofs.Making as K
-use Rattle.maker.proofs.Making.Laws as K′
+use Rattle.linetable.specs.declared.Answer.{Answer}
+use Rattle.linetable.specs.declared.Making.{Making}
+use Rattle.maker.specs.Making.{PassesCheck, lentFor}
+use Rattle.linetable.specs.Making.{Makes}
+use Rattle.linetable.proofs.Answer as B
+use Rattle.linetable.proofs.Answer.Laws as B′
+use Rattle.linetable.proofs.Making as K
+use Rattle.linetable.proofs.Making.Laws as K′
 use Rattle.maker.proofs.made as made
 use Rattle.maker.proofs.made.Symbol as made-def
 use Rattle.maker.proofs.made.Symbol.{name as #made}

@@ -29,10 +29,10 @@ use Rattle.rows.specs.declared.Rows.{Rows}
 use Rattle.rows.specs.declared.TableRows.{TableRows}
 use Rattle.rows.specs.Rows.{rowsLaid, scattered, taskAt, stopAt, tableRows}
 use Rattle.tablebytes.specs.Rows.{controlIn, dataIn, tableIn}
-use Rattle.maker.specs.Steps.{needed}
+use Rattle.linetable.specs.Steps.{needed}
 use Rattle.line.proofs.Drawn.{Drawn, drawn}
-use Rattle.maker.proofs.OverLine.{time-is, controls-are}
-use Rattle.maker.proofs.Scattered.{noPlaced, tasks-are, releases-are, deadlines-are, rows-count, starts-scattered}
+use Rattle.linetable.proofs.OverLine.{time-is, controls-are}
+use Rattle.linetable.proofs.Scattered.{noPlaced, tasks-are, releases-are, deadlines-are, rows-count, starts-scattered}
 
 -- ---- how long a table is
 

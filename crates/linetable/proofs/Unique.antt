@@ -8,10 +8,10 @@ use Rattle.laws.proofs.Res.{refuse≢ok, ok-injective}
 use Rattle.rules.specs.Table.{MadeTable}
 use Rattle.answers.proofs.Said.{said-once}
 use Rattle.rows.specs.declared.Rows.{Rows}
-use Rattle.maker.specs.declared.Answer.{Answer}
-use Rattle.maker.specs.declared.Answer.the-variants.{Made, Refused}
-use Rattle.maker.specs.declared.Making.{Making}
-use Rattle.maker.specs.Making.{Makes, heard}
+use Rattle.linetable.specs.declared.Answer.{Answer}
+use Rattle.linetable.specs.declared.Answer.the-variants.{Made, Refused}
+use Rattle.linetable.specs.declared.Making.{Making}
+use Rattle.linetable.specs.Making.{Makes, heard}
 
 pub heard-once : (x y : Answer) → heard x ≡ heard y → x ≡ y
 heard-once (Made m) (Made n) e = ap Made (ok-injective e)

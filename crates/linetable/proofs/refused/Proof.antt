@@ -1,6 +1,6 @@
 use borrow.Author.Needs.{needs}
-use Rattle.maker.proofs.refused.Statement.{statement}
-use Rattle.maker.proofs.refused.Tie as tie
+use Rattle.linetable.proofs.refused.Statement.{statement}
+use Rattle.linetable.proofs.refused.Tie as tie
 
 returns : tie.Need-returns
 returns c = rw (c .none .ensures)

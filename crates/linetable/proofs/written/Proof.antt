@@ -1,7 +1,7 @@
-use Rattle.maker.proofs.Ways.{few-frames, few-controls, tasks-long, deadlines-long, times-long, written-table}
+use Rattle.linetable.proofs.Ways.{few-frames, few-controls, tasks-long, deadlines-long, times-long, written-table}
 use borrow.Author.Needs.{needs}
-use Rattle.maker.proofs.written.Statement.{statement}
-use Rattle.maker.proofs.written.Tie as tie
+use Rattle.linetable.proofs.written.Statement.{statement}
+use Rattle.linetable.proofs.written.Tie as tie
 
 table-rows-requires : tie.Need-table-rows-requires
 table-rows-requires c κs = (few-frames (c .before .before .before .before .before .before .before .before .args .t1) (c .before .before .before .before .before .before .before .before .pre .0 .stands), (tasks-long (c .before .before .before .before .before .before .before .before .args .t1) (c .before .before .before .before .before .before .before .before .pre .0 .stands), deadlines-long (c .before .before .before .before .before .before .before .before .args .t1) (c .before .before .before .before .before .before .before .before .pre .0 .stands), times-long (c .before .before .before .before .before .before .before .before .args .t1) (c .before .before .before .before .before .before .before .before .pre .0 .stands)))

@@ -1,7 +1,7 @@
-use Rattle.maker.specs.Steps.{needed}
+use Rattle.linetable.specs.Steps.{needed}
 use borrow.Author.Needs.{needs}
-use Rattle.maker.proofs.bytes_needed.Statement.{statement}
-use Rattle.maker.proofs.bytes_needed.Tie as tie
+use Rattle.linetable.proofs.bytes_needed.Statement.{statement}
+use Rattle.linetable.proofs.bytes_needed.Tie as tie
 
 returns : tie.Need-returns
 unfolding needed

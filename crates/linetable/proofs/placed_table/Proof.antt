@@ -1,10 +1,10 @@
 use mathlib.Core.Path.{refl}
 use native.Mathlib.Omega.{arith}
 use lib.ListN.{length}
-use Rattle.maker.proofs.Ways.{makes-refused, few-frames, few-controls, times-long, deadlines-rising, all-placed, no-room, short-made, written-made}
+use Rattle.linetable.proofs.Ways.{makes-refused, few-frames, few-controls, times-long, deadlines-rising, all-placed, no-room, short-made, written-made}
 use borrow.Author.Needs.{needs}
-use Rattle.maker.proofs.placed_table.Statement.{statement}
-use Rattle.maker.proofs.placed_table.Tie as tie
+use Rattle.linetable.proofs.placed_table.Statement.{statement}
+use Rattle.linetable.proofs.placed_table.Tie as tie
 
 place-all-requires : tie.Need-place-all-requires
 place-all-requires c κs = ((few-frames (c .before .before .before .before .before .before .before .before .before .before .args .t1) (c .before .before .before .before .before .before .before .before .before .before .pre), times-long (c .before .before .before .before .before .before .before .before .before .before .args .t1) (c .before .before .before .before .before .before .before .before .before .before .pre)), deadlines-rising (c .before .before .before .before .before .before .before .before .before .before .args .t1) (c .before .before .before .before .before .before .before .before .before .before .pre))
