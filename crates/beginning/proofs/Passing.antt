@@ -37,9 +37,9 @@ use Rattle.plan.specs.Memory.{seen}
 use Rattle.plan.proofs.Laid.{read-seen}
 use Rattle.planrules.specs.Reading.{Reads}
 use Rattle.planrules.specs.declared.Reading.{Reading}
-use Rattle.checker.specs.Checking.{Checks, heard, lentPassed, verdict}
-use Rattle.checker.specs.declared.Answer.the-variants as checker
-use Rattle.checker.specs.declared.Checked.{Checked}
+use Rattle.checked.specs.Checking.{Checks, heard, lentPassed, verdict}
+use Rattle.checked.specs.declared.Answer.the-variants as checker
+use Rattle.checked.specs.declared.Checked.{Checked}
 use Rattle.tableread.specs.declared.Reading as tables
 use Rattle.tableread.specs.Memory.{nodeOf, beginOf, endOf, taskOf, deadlineOf, startOf, stopOf, layOut, readingOf}
 use Rattle.stationruns.specs.Inputs.{changeAt}

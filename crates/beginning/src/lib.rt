@@ -18,8 +18,8 @@ pub fn begin(plan: &[u8], table: &[u8], starting: [Change; 16]) -> Begun
     let checked = check(plan, table, Frames::MOST);
     let answer = checked.answer;
     match answer {
-        checker::Answer::Refused(why) => refused(why),
-        checker::Answer::Passed => {
+        checked::Answer::Refused(why) => refused(why),
+        checked::Answer::Passed => {
             let reading = read(plan);
             let gathered = read_table(table);
             begin_with(keeping::kept(reading.plan, gathered.table), starting)

@@ -1,4 +1,1 @@
-pub mod Rules
-pub mod Exact
 pub mod Ways
-pub mod Unique

@@ -34,11 +34,11 @@ use Rattle.line.proofs.Drawn.{Drawn, drawn}
 use Rattle.judging.proofs.Layouts.{line-numbered, line-controls, line-right}
 use Rattle.rows.specs.declared.Rows.{Rows}
 use Rattle.rows.specs.Rows.{rowTask, rowRelease, rowDeadline, rowStart, rowsLaid}
-use Rattle.checker.specs.declared.Answer.the-variants.{Passed, Refused}
-use Rattle.checker.specs.declared.Checked.{Checked}
-use Rattle.checker.specs.Checking.{Checks, lentPassed, rowsOn, PassesExactly, RefusesExactly}
-use Rattle.checker.proofs.Rules.{enough-is, short-is}
-use Rattle.checker.proofs.Exact.{passes-exactly, refuses-exactly}
+use Rattle.checked.specs.declared.Answer.the-variants.{Passed, Refused}
+use Rattle.checked.specs.declared.Checked.{Checked}
+use Rattle.checked.specs.Checking.{Checks, lentPassed, rowsOn, PassesExactly, RefusesExactly}
+use Rattle.checked.proofs.Rules.{enough-is, short-is}
+use Rattle.checked.proofs.Exact.{passes-exactly, refuses-exactly}
 
 -- ---- the contract
 

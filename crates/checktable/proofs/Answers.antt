@@ -14,10 +14,10 @@ use Rattle.rules.specs.Checker as rules
 use Rattle.rules.specs.Checker.{passed}
 use Rattle.answers.specs.declared.Refusal.{Refusal}
 use Rattle.answers.specs.Refusals.{numberOf, placeOf}
-use Rattle.checker.specs.declared.Answer.the-variants.{Passed, Refused}
-use Rattle.checker.specs.declared.Checked.{Checked}
-use Rattle.checker.specs.Checking.{Checks, heard, verdict, lentPassed}
-use Rattle.checker.proofs.Rules.{enough-is}
+use Rattle.checked.specs.declared.Answer.the-variants.{Passed, Refused}
+use Rattle.checked.specs.declared.Checked.{Checked}
+use Rattle.checked.specs.Checking.{Checks, heard, verdict, lentPassed}
+use Rattle.checked.proofs.Rules.{enough-is}
 use Rattle.text.specs.Text.{passedLine, refusedLine, tooLongLine}
 use Rattle.text.proofs.Decimals.{refused-line-most}
 use Rattle.text.proofs.Fronts.{Front, front-counts}

@@ -5,7 +5,7 @@ ghost use lib.ListN.{length};
 ghost use lib.Seq.{sets};
 ghost use Rattle.io.specs.Counts.{Counts};
 ghost use Rattle.checktable.specs.Answer.{answerFor};
-use checker::Answer;
+use checked::Answer;
 use frames::laid::Frames;
 use input::Input;
 use input::file_room;

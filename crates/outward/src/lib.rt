@@ -2,7 +2,7 @@
 ghost use mathlib.Core.Path.{_≡_};
 ghost use Rattle.answers.specs.Refusals.{said};
 ghost use Rattle.linetable.specs.Making as making;
-ghost use Rattle.checker.specs.Checking as checking;
+ghost use Rattle.checked.specs.Checking as checking;
 ghost use Rattle.outward.specs.Answers.{answerOf, madeOf};
 ghost use Rattle.starting.specs.Starting.{heard};
 ghost use Rattle.outward.specs.Numbers.{answerSaid, changeFor, changesFor, givenFor, givensFor, rowFor, rowSaid};
@@ -29,15 +29,15 @@ pub fn refused(why: Refusal) -> Answer
     }
 }
 
-pub fn checked(answer: checker::Answer) -> Answer
+pub fn checked(answer: checked::Answer) -> Answer
     ensures { λ r. ⌜ r ≡ answerOf (checking.heard answer) ⌝ }
 {
     match answer {
-        checker::Answer::Passed => Answer {
+        checked::Answer::Passed => Answer {
             number: 0,
             place: 0,
         },
-        checker::Answer::Refused(why) => refused(why),
+        checked::Answer::Refused(why) => refused(why),
     }
 }
 

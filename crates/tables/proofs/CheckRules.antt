@@ -16,9 +16,9 @@ use Rattle.rules.specs.Checker.{Passed, tableOf, judged, passed, checkedRow, ch
 use Rattle.framerows.specs.declared.Frame.{Frame}
 use Rattle.framerows.specs.Frames.{rowOf, filled}
 use Rattle.framerows.proofs.Laid.{filled-is}
-use Rattle.checker.specs.declared.Checked.{Checked}
-use Rattle.checker.specs.Checking.{Checks, rowsOf, lentPassed}
-use Rattle.checker.proofs.Rules.{enough-is, short-is, check-answer, check-rows, check-rows-short}
+use Rattle.checked.specs.declared.Checked.{Checked}
+use Rattle.checked.specs.Checking.{Checks, rowsOf, lentPassed}
+use Rattle.checked.proofs.Rules.{enough-is, short-is, check-answer, check-rows, check-rows-short}
 use Rattle.tables.specs.Lent.{ChecksLent}
 use Rattle.tables.proofs.FewFrames.{few-laid}
 

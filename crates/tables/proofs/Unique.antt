@@ -6,8 +6,8 @@ use Rattle.framerows.specs.declared.Frame.{Frame}
 use Rattle.framerows.proofs.Laid.{rows-once}
 use Rattle.linetable.specs.declared.Answer.{Answer as MakerAnswer}
 use Rattle.linetable.proofs.Unique as made
-use Rattle.checker.specs.declared.Answer.{Answer as CheckerAnswer}
-use Rattle.checker.proofs.Unique as checked
+use Rattle.checked.specs.declared.Answer.{Answer as CheckerAnswer}
+use Rattle.checked.proofs.Unique as checked
 use Rattle.tables.specs.Lent.{MakesLent, ChecksLent}
 
 pub make-once : (a b : MakerAnswer) (plan : List ℕ) (before rows rows′ : List Frame) (old buffer buffer′ : List ℕ)

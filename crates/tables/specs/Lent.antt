@@ -8,8 +8,8 @@ use Rattle.framerows.specs.declared.Frame.{Frame}
 use Rattle.framerows.specs.Frames.{rowOf}
 use Rattle.linetable.specs.declared.Answer.{Answer as MakerAnswer}
 use Rattle.linetable.specs.Making.{heard as heardMaker}
-use Rattle.checker.specs.declared.Answer.{Answer as CheckerAnswer}
-use Rattle.checker.specs.Checking.{heard as heardChecker}
+use Rattle.checked.specs.declared.Answer.{Answer as CheckerAnswer}
+use Rattle.checked.specs.Checking.{heard as heardChecker}
 
 -- `make`: its answer, every lent row and every byte of the lent buffer.
 pub record MakesLent (answer : MakerAnswer) (plan : List ℕ) (rows rows′ : List Frame) (buffer buffer′ : List ℕ) : Type 0 where

@@ -13,7 +13,7 @@ pub fn make(plan: &[u8], rows: &mut [Frame], buf: &mut [u8]) -> linetable::Answe
 }
 
 // A table file by its plan: refusals 19, 1 to 11 and 20 to 27, or that it passes.
-pub fn check(plan: &[u8], table: &[u8], rows: &mut [Frame]) -> checker::Answer
+pub fn check(plan: &[u8], table: &[u8], rows: &mut [Frame]) -> checked::Answer
     ensures { λ r. ⌜ ChecksLent r (now (plan .entry)) (now (table .entry)) (now (rows .entry)) (now (rows .exit)) ⌝ }
 {
     let checked = checker::check(plan, table, rows.len());

@@ -95,8 +95,8 @@ fn check(plan: &[u8], table: &[u8], lent: usize) {
     let checked = checker::check(plan, table, lent);
     let answer = checked.answer;
     match answer {
-        checker::Answer::Passed => say(b"passed rows"),
-        checker::Answer::Refused(why) => say_refusal(why),
+        checked::Answer::Passed => say(b"passed rows"),
+        checked::Answer::Refused(why) => say_refusal(why),
     }
     let rows = checked.rows;
     say_rows(rows);

@@ -44,10 +44,10 @@ use Rattle.framerows.proofs.Calls.{Plain, calls-plain}
 use Rattle.outward.specs.declared.Answer.{Answer}
 use Rattle.outward.proofs.Answer as T
 use Rattle.outward.proofs.Answer.Laws as T′
-use Rattle.checker.specs.declared.Answer.{Answer as Inner}
-use Rattle.checker.specs.Checking.{heard as heardIn}
-use Rattle.checker.proofs.Answer as B
-use Rattle.checker.proofs.Answer.Laws as B′
+use Rattle.checked.specs.declared.Answer.{Answer as Inner}
+use Rattle.checked.specs.Checking.{heard as heardIn}
+use Rattle.checked.proofs.Answer as B
+use Rattle.checked.proofs.Answer.Laws as B′
 use Rattle.tables.specs.Lent.{ChecksLent}
 use Rattle.tables.proofs.check as inner
 use Rattle.tables.proofs.check.Symbol as inner-def

@@ -48,13 +48,13 @@ use Rattle.framerows.proofs.Frame as F
 use Rattle.framerows.proofs.fill.Symbol as fill-def
 use Rattle.framerows.proofs.fill.Symbol.{name as #fill}
 use Rattle.framerows.proofs.fill.Met as fill-thm
-use Rattle.checker.specs.declared.Answer.{Answer}
-use Rattle.checker.specs.declared.Checked.{Checked}
-use Rattle.checker.specs.Checking.{Checks, lentPassed, PassesExactly, RefusesExactly}
-use Rattle.checker.proofs.Answer as B
-use Rattle.checker.proofs.Answer.Laws as B′
-use Rattle.checker.proofs.Checked as K
-use Rattle.checker.proofs.Checked.Laws as K′
+use Rattle.checked.specs.declared.Answer.{Answer}
+use Rattle.checked.specs.declared.Checked.{Checked}
+use Rattle.checked.specs.Checking.{Checks, lentPassed, PassesExactly, RefusesExactly}
+use Rattle.checked.proofs.Answer as B
+use Rattle.checked.proofs.Answer.Laws as B′
+use Rattle.checked.proofs.Checked as K
+use Rattle.checked.proofs.Checked.Laws as K′
 use Rattle.checker.proofs.check as checked
 use Rattle.checker.proofs.check.Symbol as checked-def
 use Rattle.checker.proofs.check.Symbol.{name as #checked}

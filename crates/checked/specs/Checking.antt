@@ -14,9 +14,9 @@ use Rattle.answers.specs.Refusals.{said}
 use Rattle.line.specs.declared.Line.{Line}
 use Rattle.rows.specs.declared.Rows.{Rows}
 use Rattle.rows.specs.Rows.{rowsLaid}
-use Rattle.checker.specs.declared.Answer.{Answer}
-use Rattle.checker.specs.declared.Answer.the-variants.{Passed, Refused}
-use Rattle.checker.specs.declared.Checked.{Checked}
+use Rattle.checked.specs.declared.Answer.{Answer}
+use Rattle.checked.specs.declared.Answer.the-variants.{Passed, Refused}
+use Rattle.checked.specs.declared.Checked.{Checked}
 
 -- the answer in the rules' words, and the rules' answer without what is handed on
 abbrev pub heard : Answer → Res (Unit {0})

@@ -1,7 +1,7 @@
-use Rattle.checker.specs.Checking.{rowsOn}
+use Rattle.checked.specs.Checking.{rowsOn}
 use borrow.Author.Needs.{needs}
-use Rattle.checker.proofs.rows_on.Statement.{statement}
-use Rattle.checker.proofs.rows_on.Tie as tie
+use Rattle.checked.proofs.rows_on.Statement.{statement}
+use Rattle.checked.proofs.rows_on.Tie as tie
 
 returns : tie.Need-returns
 unfolding rowsOn

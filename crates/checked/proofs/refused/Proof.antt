@@ -1,6 +1,6 @@
 use borrow.Author.Needs.{needs}
-use Rattle.checker.proofs.refused.Statement.{statement}
-use Rattle.checker.proofs.refused.Tie as tie
+use Rattle.checked.proofs.refused.Statement.{statement}
+use Rattle.checked.proofs.refused.Tie as tie
 
 returns : tie.Need-returns
 returns c = rw (c .none .ensures)

@@ -9,11 +9,11 @@ use Rattle.laws.specs.Res.{Res}
 use Rattle.rules.specs.Table.{FrameRow, zeroRow}
 use Rattle.rules.specs.Checker as rules
 use Rattle.rules.proofs.CheckerExact.{checker-exact, checker-refuses, unread-exact, rule-exact}
-use Rattle.checker.specs.declared.Answer.{Answer}
-use Rattle.checker.specs.declared.Answer.the-variants.{Passed}
-use Rattle.checker.specs.Checking.{heard, verdict, lentPassed, PassesExactly, RefusesExactly}
-use Rattle.checker.proofs.Rules.{check-answer}
-use Rattle.checker.proofs.Unique.{heard-once}
+use Rattle.checked.specs.declared.Answer.{Answer}
+use Rattle.checked.specs.declared.Answer.the-variants.{Passed}
+use Rattle.checked.specs.Checking.{heard, verdict, lentPassed, PassesExactly, RefusesExactly}
+use Rattle.checked.proofs.Rules.{check-answer}
+use Rattle.checked.proofs.Unique.{heard-once}
 
 -- one claim for another that is the same
 same-when : {A B C : Type 0} → (A → B) → (B → A) → B ↔ C → A ↔ C

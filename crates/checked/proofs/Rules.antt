@@ -14,7 +14,7 @@ use Rattle.rules.specs.Table.{FrameRow, zeroRow, rowsThenZero}
 use Rattle.rules.specs.Checker as rules
 use Rattle.rules.specs.Checker.{passed, checkOutcome}
 use Rattle.rules.proofs.CheckerExact.{lent-enough, lent-short}
-use Rattle.checker.specs.Checking.{verdict, rowsOf, lentPassed}
+use Rattle.checked.specs.Checking.{verdict, rowsOf, lentPassed}
 
 module _ (plan table : List ℕ) (lent : ℕ) where
   pub enough-is : 256 ≤ lent → lentPassed plan table lent ≡ passed plan table

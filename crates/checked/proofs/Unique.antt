@@ -6,10 +6,10 @@ use Rattle.laws.proofs.Res.{refuse≢ok}
 use Rattle.rules.specs.Checker as rules
 use Rattle.answers.proofs.Said.{said-once}
 use Rattle.rows.specs.declared.Rows.{Rows}
-use Rattle.checker.specs.declared.Answer.{Answer}
-use Rattle.checker.specs.declared.Answer.the-variants.{Passed, Refused}
-use Rattle.checker.specs.declared.Checked.{Checked}
-use Rattle.checker.specs.Checking.{Checks, heard}
+use Rattle.checked.specs.declared.Answer.{Answer}
+use Rattle.checked.specs.declared.Answer.the-variants.{Passed, Refused}
+use Rattle.checked.specs.declared.Checked.{Checked}
+use Rattle.checked.specs.Checking.{Checks, heard}
 
 pub heard-once : (x y : Answer) → heard x ≡ heard y → x ≡ y
 heard-once Passed Passed e = refl

@@ -1,0 +1,45 @@
+// What a check by value answers, and the frame rows of a table that passes.
+ghost use mathlib.Core.Path.{_≡_};
+ghost use mathlib.Core.List.{[]};
+ghost use Rattle.rows.specs.Rows.{rowsLaid};
+ghost use Rattle.checked.specs.declared.Answer.the-variants.{Refused};
+ghost use Rattle.checked.specs.Checking.{rowsOn};
+use answers::Refusal;
+use line::Line;
+use rows::Rows;
+
+pub enum Answer {
+    Passed,
+    Refused(Refusal),
+}
+
+// The answer, and the frames by number with the starts of the table that was checked; no rows where it is refused.
+pub struct Checked {
+    pub answer: Answer,
+    pub rows: Rows,
+}
+
+pub fn refused(why: Refusal) -> Checked
+    ensures { λ r. ⌜ r ≡ record { answer = Refused why; rows = rowsLaid [] } ⌝ }
+{
+    Checked {
+        answer: Answer::Refused(why),
+        rows: Rows::none(),
+    }
+}
+
+// The frames of a line with a start for each.
+pub fn rows_on(line: Line, starts: [u32; 256]) -> Rows
+    ensures { λ r. ⌜ r ≡ rowsOn line starts ⌝ }
+{
+    let task = line.task;
+    let release = line.release;
+    let deadline = line.deadline;
+    Rows {
+        frames: line.frames,
+        task: task,
+        release: release,
+        deadline: deadline,
+        start: starts,
+    }
+}
