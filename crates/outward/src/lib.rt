@@ -7,7 +7,6 @@ ghost use Rattle.outward.specs.Answers.{answerOf, madeOf};
 ghost use Rattle.starting.specs.Starting.{heard};
 ghost use Rattle.outward.specs.Numbers.{answerSaid, changeFor, changesFor, givenFor, givensFor, rowFor, rowSaid};
 use answers::Refusal;
-use station::Station;
 use stationmoves::Said;
 use stationruns::Change;
 use stationruns::Given;
