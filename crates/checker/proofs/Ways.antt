@@ -27,7 +27,7 @@ use Rattle.tableread.specs.declared.Reading.{Reading}
 use Rattle.tableread.specs.declared.Outcome.the-variants.{Whole, Broken}
 use Rattle.judging.specs.declared.Judgement.{Judgement}
 use Rattle.judging.specs.declared.Verdict.the-variants as judge
-use Rattle.datarows.specs.Places.{Numbered}
+use Rattle.naming.specs.Places.{Numbered}
 use Rattle.tableread.specs.Memory.{layOut, seen, readingOf}
 use Rattle.judging.specs.Judged.{framesOn, lineJudged, verdictSays, Right}
 use Rattle.line.proofs.Drawn.{Drawn, drawn}

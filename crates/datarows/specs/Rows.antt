@@ -5,7 +5,7 @@ use lib.Dec.{eqb, leb}
 use lib.ListN.{getD}
 use Prim.Native.Nat.{ℕ, _+_}
 use Rattle.laws.specs.Numbers.{divides}
-use Rattle.datarows.specs.Places.{lookIn, beforeIn}
+use Rattle.naming.specs.Places.{lookIn, beforeIn}
 
 -- "stop isn't start plus sending time, or start is off the resolution"
 unfoldable pub timeKept : List ℕ → List ℕ → List ℕ → List ℕ → ℕ → ℕ → Bool

@@ -20,7 +20,7 @@ use Rattle.rules.specs.Table.{DataRow}
 use Rattle.rules.specs.Checker.{rowAt, deadlineKept, stopBefore, firstRow, rowsKeep}
 use Rattle.tableread.specs.declared.Table.{Table}
 use Rattle.judging.specs.declared.Bounds.{Bounds}
-use Rattle.datarows.specs.Places.{Numbered, lookIn, beforeIn, numberOf, numberAt, marks, isNew}
+use Rattle.naming.specs.Places.{Numbered, lookIn, beforeIn, numberOf, numberAt, marks, isNew}
 use Rattle.tableread.specs.Memory.{controlIn, rowSeen, seen}
 use Rattle.datarows.specs.Rows.{timeKept, releaseKept, dueKept, gapKept}
 use Rattle.judging.specs.Judged.{namesNew, timeFits, releaseFits, gapFits, timesJudged, rowsJudged, frameIn, framesIn, timeIn}

@@ -22,7 +22,7 @@ use Rattle.rules.specs.LatestRelease.{noFrame, frameTime}
 use Rattle.rules.specs.Checker.{TableRead, noDataRow, rowAt, isFrameOf, samePair, namedIn, firstRow, rowsKeep, headerRight, controlKept, namesNewFrame, frameOfRow, timeKept, releaseKept, gapKept, judged}
 use Rattle.judging.specs.declared.Bounds.{Bounds}
 use Rattle.judging.specs.declared.Judgement.{Judgement}
-use Rattle.datarows.specs.Places.{lookIn, keyAt, Numbered}
+use Rattle.naming.specs.Places.{lookIn, keyAt, Numbered}
 use Rattle.tableread.specs.Memory.{nodeOf, beginOf, endOf, taskOf, deadlineOf, startOf, stopOf, layOut, controlIn, rowSeen, seen}
 use Rattle.line.specs.Line.{lineOf}
 use Rattle.payloads.specs.Tests.{taskTime}

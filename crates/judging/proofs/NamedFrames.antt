@@ -18,12 +18,12 @@ use Rattle.laws.proofs.Lists.{both, both-left, both-right, neither-left, neithe
 use Rattle.rules.specs.Frames.{Frame}
 use Rattle.rules.specs.Table.{DataRow}
 use Rattle.rules.specs.Checker.{TableRead, noDataRow, rowAt, isFrameOf, samePair, namedIn, startIn}
-use Rattle.datarows.specs.Places.{placeFrom, Numbered, isPair, numberOf, marks, isNew, spread}
+use Rattle.naming.specs.Places.{placeFrom, Numbered, isPair, numberOf, marks, isNew, spread}
 use Rattle.judging.specs.Judged.{frameIn, framesIn, namesNew}
 use Rattle.laws.proofs.Arrays.{placed-set}
 use Rattle.laws.proofs.Turns.{same-any}
-use Rattle.datarows.proofs.Places.{any-place, names, marked}
-use Rattle.datarows.proofs.Names.{pair-key, number-passes, number-only}
+use Rattle.naming.proofs.Places.{any-place, names, marked}
+use Rattle.naming.proofs.Names.{pair-key, number-passes, number-only}
 
 -- ---- the frame of a row
 

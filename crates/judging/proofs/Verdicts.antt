@@ -18,12 +18,12 @@ use Rattle.laws.proofs.Loops.{firstBad-upTo-passes, firstBad-upTo-within}
 use Rattle.rules.specs.Frames.{Frame, ControlRow, noControlRow}
 use Rattle.rules.specs.Checker.{TableRead, controlAt}
 use Rattle.tableread.specs.declared.Table.{Table}
-use Rattle.datarows.specs.declared.naming.Spot.{Spot}
-use Rattle.datarows.specs.declared.naming.Spot.the-variants.{At, Nowhere}
+use Rattle.naming.specs.declared.Spot.{Spot}
+use Rattle.naming.specs.declared.Spot.the-variants.{At, Nowhere}
 use Rattle.judging.specs.declared.Bounds.{Bounds}
 use Rattle.judging.specs.declared.Verdict.the-variants.{Passed}
 use Rattle.judging.specs.declared.Judgement.{Judgement}
-use Rattle.datarows.specs.Places.{beforeIn, spotOf, Numbered, numberAt, isNew, spread}
+use Rattle.naming.specs.Places.{beforeIn, spotOf, Numbered, numberAt, isNew, spread}
 use Rattle.tableread.specs.Memory.{controlIn, rowSeen, seen}
 use Rattle.datarows.specs.Rows.{timeKept, releaseKept, dueKept, gapKept}
 use Rattle.judging.specs.Judged.{headerFits, controlFits, rowsJudged, judgedFor, headerSame, controlsSame, frameIn, framesIn, timeIn, verdictSays, startsOn, Right}

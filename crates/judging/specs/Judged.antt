@@ -31,7 +31,7 @@ use Rattle.judging.specs.declared.Verdict.{Verdict}
 use Rattle.judging.specs.declared.Verdict.the-variants.{Passed, Refused}
 use Rattle.judging.specs.declared.Judgement.{Judgement}
 use Rattle.line.specs.declared.Line.{Line}
-use Rattle.datarows.specs.Places.{lookIn}
+use Rattle.naming.specs.Places.{lookIn}
 use Rattle.tableread.specs.Memory.{controlIn}
 
 -- Refusal 21: "P, a header count, or the number of rows of a kind isn't what the plan gives".

@@ -3,7 +3,7 @@
 use mathlib.Core.Path.{refl}
 use native.Mathlib.Omega.{arith}
 use denote.Ref.{now}
-use Rattle.datarows.specs.Places.{isNew}
+use Rattle.naming.specs.Places.{isNew}
 use Rattle.datarows.specs.Rows.{timeKept, releaseKept, dueKept, gapKept}
 use Rattle.judging.proofs.Verdicts.{spot-within, judged-23, judged-24, judged-25, judged-26, judged-27, judged-passed}
 use borrow.Author.Needs.{needs}

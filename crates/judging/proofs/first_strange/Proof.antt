@@ -11,7 +11,7 @@ use Rattle.laws.proofs.Loops.{firstBad-upTo-more}
 use Rattle.rules.specs.Checker.{sameControl}
 use Rattle.tableread.specs.Memory.{controlIn}
 use Rattle.judging.specs.Judged.{controlsSame}
-use Rattle.datarows.proofs.Places.{scan-hit, scan-end}
+use Rattle.naming.proofs.Places.{scan-hit, scan-end}
 use borrow.Author.Needs.{needs}
 use Rattle.judging.proofs.first_strange.Statement.{statement}
 use Rattle.judging.proofs.first_strange.Tie as tie

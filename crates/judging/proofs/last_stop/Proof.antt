@@ -1,6 +1,6 @@
 -- `judging::last_stop` meets its contract.
 -- Assumes nothing.
-use Rattle.datarows.proofs.Places.{before-at}
+use Rattle.naming.proofs.Places.{before-at}
 use borrow.Author.Needs.{needs}
 use Rattle.judging.proofs.last_stop.Statement.{statement}
 use Rattle.judging.proofs.last_stop.Tie as tie

@@ -1,0 +1,41 @@
+-- `judging::rowrules::first_late` meets its contract: no row before stops after its deadline.
+-- Assumes nothing.
+use mathlib.Core.Path.{_≡_, refl}
+use mathlib.Core.Option.{none}
+use Prim.Native.Nat.{_-_, _≤_}
+use native.Mathlib.Omega.{arith}
+use borrow.Author.Tests.{lt-leb, le-leb}
+use denote.Ref.{now}
+use Rattle.laws.specs.Lists.{firstBad, upTo}
+use Rattle.laws.proofs.Loops.{firstBad-upTo-more}
+use Rattle.datarows.specs.Rows.{dueKept}
+use Rattle.naming.proofs.Places.{scan-hit, scan-end}
+use borrow.Author.Needs.{needs}
+use Rattle.datarows.proofs.first_late.Statement.{statement}
+use Rattle.datarows.proofs.first_late.Tie as tie
+
+abbrev Inv-loop : tie.InvT-loop
+Inv-loop stops deadlines count k₀ k = (k ≤ count) × (firstBad (dueKept stops deadlines) (upTo k) ≡ none)
+
+abbrev μ-loop : tie.MeasureT-loop
+μ-loop stops deadlines count k₀ k = count - k
+
+loop-holds : tie.Need-loop-holds Inv-loop μ-loop
+loop-holds c = (search needs, refl)
+
+returns : tie.Need-returns Inv-loop μ-loop
+unfolding dueKept
+returns c = scan-hit (dueKept (now (c .before .before .before .before .before .args .stops)) (now (c .before .before .before .before .before .args .deadlines))) (c .before .before .before .before .loop .inv .1) (c .before .before .before .loop-test .taken) (lt-leb _ _ (c .if1 .taken))
+
+loop-again : tie.Need-loop-again Inv-loop μ-loop
+unfolding dueKept
+loop-again c = (omega (arith, c .before .before .before .loop-test .taken), firstBad-upTo-more (dueKept (now (c .before .before .before .before .before .args .stops)) (now (c .before .before .before .before .before .args .deadlines))) (c .before .before .before .before .loop .k) (c .before .before .before .before .loop .inv .1) (le-leb _ _ (c .if1 .left)))
+
+returns-2 : tie.Need-returns-2 Inv-loop μ-loop
+returns-2 c = scan-end (dueKept (now (c .before .before .args .stops)) (now (c .before .before .args .deadlines))) (c .before .loop .inv .1) (c .loop-test .left) (c .before .loop .inv .0)
+
+pub first-late-spec : {M : Type 1} → statement M
+first-late-spec =
+    tie.close
+    (tie.spec Inv-loop μ-loop loop-holds (λ c. search needs) (λ c. search needs) (λ c. search needs) (λ c. search needs) returns
+    (λ c. search needs) (λ c. search needs) loop-again returns-2)

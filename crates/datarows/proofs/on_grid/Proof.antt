@@ -1,0 +1,14 @@
+-- `judging::rowrules::on_grid` meets its contract: 1 divides every number.
+-- Assumes nothing.
+use mathlib.Core.Path.{sym}
+use native.Mathlib.Nat.{one-dvd}
+use Rattle.laws.proofs.Divisors.{divides-is}
+use borrow.Author.Needs.{needs}
+use Rattle.datarows.proofs.on_grid.Statement.{statement}
+use Rattle.datarows.proofs.on_grid.Tie as tie
+
+returns : tie.Need-returns
+returns c = rw (c .if1 .taken) (sym (divides-is 1 (c .before .args .start) (one-dvd (c .before .args .start))))
+
+pub on-grid-spec : {M : Type 1} → statement M
+on-grid-spec = tie.close (tie.spec returns (λ c κs. search needs) (λ c. search needs))

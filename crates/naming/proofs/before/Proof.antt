@@ -1,0 +1,56 @@
+-- `judging::naming::before` meets its contract: the two ends bracket the place, and the key in the middle settles one side.
+-- Assumes nothing.
+use Prim.Native.Nat.{_-_}
+use native.Mathlib.Omega.{arith}
+use Rattle.naming.specs.Places.{keyAt}
+use Rattle.naming.proofs.Names.{Bracket, bracket-start, bracket-end, bracket-up, bracket-down}
+use borrow.Author.Needs.{needs}
+use Rattle.naming.proofs.before.Statement.{statement}
+use Rattle.naming.proofs.before.Tie as tie
+
+abbrev Inv-loop : tie.InvT-loop
+Inv-loop tasks deadlines frames wanted low₀ high₀ low high = Bracket tasks deadlines frames wanted low high
+
+abbrev μ-loop : tie.MeasureT-loop
+μ-loop tasks deadlines frames wanted low₀ high₀ low high = high - low
+
+loop-holds : tie.Need-loop-holds Inv-loop μ-loop
+loop-holds c = bracket-start _ _ _ _
+
+add-middle : tie.Need-add-middle Inv-loop μ-loop
+add-middle c = omega (arith, c .before .loop .inv .within, c .before .before .pre .room)
+
+mul-key : tie.Need-mul-key Inv-loop μ-loop
+mul-key c = omega (arith, c .before .loop .inv .within, c .before .before .pre .room)
+
+element-copy-out-key : tie.Need-element-copy-out-key Inv-loop μ-loop
+element-copy-out-key c = omega (arith, c .before .loop .inv .within, c .before .before .pre .room)
+
+element-copy-out-key-2 : tie.Need-element-copy-out-key-2 Inv-loop μ-loop
+element-copy-out-key-2 c = omega (arith, c .before .before .loop .inv .within, c .before .before .before .pre .room)
+
+add-low : tie.Need-add-low Inv-loop μ-loop
+add-low c = omega (arith, c .before .before .before .before .before .loop .inv .within, c .before .before .before .before .before .before .pre .room)
+
+loop-less : tie.Need-loop-less Inv-loop μ-loop
+loop-less c = omega (arith, c .before .before .before .before .loop-test .taken)
+
+loop-again : tie.Need-loop-again Inv-loop μ-loop
+unfolding keyAt
+loop-again c = bracket-up _ _ _ _ (c .before .before .before .before .before .before .pre) (c .before .before .before .before .before .loop .low) (c .before .before .before .before .before .loop .high) _ (c .before .before .before .before .before .loop .inv) (omega arith) (omega (arith, c .before .before .before .before .loop-test .taken)) (omega (arith, c .before .key .ensures, c .if1 .taken))
+
+loop-less-2 : tie.Need-loop-less-2 Inv-loop μ-loop
+loop-less-2 c = omega (arith, c .before .before .before .before .loop-test .taken)
+
+loop-again-2 : tie.Need-loop-again-2 Inv-loop μ-loop
+unfolding keyAt
+loop-again-2 c = bracket-down _ _ _ _ (c .before .before .before .before .before .before .pre) (c .before .before .before .before .before .loop .low) (c .before .before .before .before .before .loop .high) _ (c .before .before .before .before .before .loop .inv) (omega arith) (omega (arith, c .before .before .before .before .loop-test .taken)) (omega (arith, c .before .key .ensures, c .if1 .left))
+
+returns : tie.Need-returns Inv-loop μ-loop
+returns c = bracket-end _ _ _ _ (c .before .loop .low) (c .before .loop .high) (c .before .loop .inv) (c .loop-test .left)
+
+pub before-spec : {M : Type 1} → statement M
+before-spec =
+    tie.close
+    (tie.spec Inv-loop μ-loop loop-holds (λ c. omega arith) add-middle mul-key element-copy-out-key element-copy-out-key-2
+    (λ c κs. search needs) add-low loop-less loop-again loop-less-2 loop-again-2 returns)

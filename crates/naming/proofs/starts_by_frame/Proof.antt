@@ -1,0 +1,36 @@
+-- `judging::naming::starts_by_frame` meets its contract: each start is laid at the number of its row's frame.
+-- Assumes nothing.
+use mathlib.Core.Path.{_≡_, refl}
+use Prim.Native.Nat.{_-_, _≤_}
+use native.Mathlib.Omega.{arith}
+use denote.Ref.{now}
+use Rattle.naming.specs.Places.{spread}
+use Rattle.naming.proofs.Places.{spread-more, spread-past}
+use borrow.Author.Needs.{needs}
+use Rattle.naming.proofs.starts_by_frame.Statement.{statement}
+use Rattle.naming.proofs.starts_by_frame.Tie as tie
+
+abbrev Inv-loop : tie.InvT-loop
+Inv-loop numbers starts rows out₀ k₀ out k = (k ≤ rows) × (out ≡ spread numbers starts k)
+
+abbrev μ-loop : tie.MeasureT-loop
+μ-loop numbers starts rows out₀ k₀ out k = rows - k
+
+loop-holds : tie.Need-loop-holds Inv-loop μ-loop
+loop-holds c = (search needs, refl)
+
+loop-again : tie.Need-loop-again Inv-loop μ-loop
+loop-again c = (omega (arith, c .before .before .before .loop-test .taken), spread-more (now (c .before .before .before .before .before .args .numbers)) (now (c .before .before .before .before .before .args .starts)) (c .before .before .before .before .loop .k) (c .before .before .before .before .loop .inv .1) (c .if1 .taken))
+
+loop-again-2 : tie.Need-loop-again-2 Inv-loop μ-loop
+loop-again-2 c = (omega (arith, c .before .before .before .loop-test .taken), spread-past (now (c .before .before .before .before .before .args .numbers)) (now (c .before .before .before .before .before .args .starts)) (c .before .before .before .before .loop .k) (c .before .before .before .before .loop .inv .1) (c .if1 .left))
+
+returns : tie.Need-returns Inv-loop μ-loop
+returns c = let e : c .before .loop .k ≡ c .before .before .args .rows = omega arith in rw (c .before .loop .inv .1, e)
+
+pub starts-by-frame-spec : {M : Type 1} → statement M
+starts-by-frame-spec =
+    tie.close
+    (tie.spec Inv-loop μ-loop loop-holds (λ c. search needs) (λ c. search needs) (λ c. search needs) (λ c. search needs)
+    (λ c. search needs) (λ c. search needs) (λ c. search needs) (λ c. search needs) loop-again (λ c. search needs) loop-again-2
+    returns)

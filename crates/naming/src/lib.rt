@@ -1,0 +1,134 @@
+// Which frame each data row names: rule 23, and the start that a table gives to each frame.
+ghost use mathlib.Core.Path.{_≡_};
+ghost use lib.ListN.{replicate};
+ghost use Prim.Native.Nat.{_≤_};
+ghost use Rattle.laws.specs.Lists.{firstBad, upTo};
+ghost use Rattle.laws.specs.Loops.{stores};
+ghost use Rattle.naming.specs.Places.{keyOf, Numbered, Parted, hasKey, numberOf, numberAt, spotOf, isNew, spread};
+
+// Where a scan first met something.
+pub enum Spot {
+    At(usize),
+    Nowhere,
+}
+
+// Frames are numbered by deadline, then by task.
+fn key(deadline: u32, task: u8) -> u64
+    ensures { λ r. ⌜ r ≡ keyOf deadline task ⌝ }
+{
+    deadline as u64 * 256 + task as u64
+}
+
+// How many frames stand before a key.
+fn before(tasks: &[u8; 256], deadlines: &[u32; 256], frames: usize, wanted: u64) -> usize
+    requires { ⌜ Numbered (now tasks) (now deadlines) frames ⌝ }
+    ensures { λ r. ⌜ Parted (now (tasks .entry)) (now (deadlines .entry)) frames wanted r ⌝ }
+{
+    let mut low = 0;
+    let mut high = frames;
+    while low < high {
+        let middle = low + (high - low) / 2;
+        if key(deadlines[middle], tasks[middle]) < wanted {
+            low = middle + 1;
+        } else {
+            high = middle;
+        }
+    }
+    low
+}
+
+// Whether the frame of a number has this key; no frame has a number from `frames` on.
+fn has_key(tasks: &[u8; 256], deadlines: &[u32; 256], frames: usize, wanted: u64, k: usize) -> bool
+    requires { ⌜ frames ≤ 256 ⌝ }
+    ensures { λ r. ⌜ r ≡ hasKey (now (tasks .entry)) (now (deadlines .entry)) frames wanted k ⌝ }
+{
+    if k < frames {
+        return key(deadlines[k], tasks[k]) == wanted;
+    }
+    false
+}
+
+// The number of the frame with this task and deadline, or `frames` where none is. A guess that is right spares the search.
+fn number_of(
+    tasks: &[u8; 256],
+    deadlines: &[u32; 256],
+    frames: usize,
+    guess: usize,
+    task: u8,
+    deadline: u32,
+) -> usize
+    requires { ⌜ Numbered (now tasks) (now deadlines) frames ⌝ }
+    ensures { λ r. ⌜ r ≡ numberOf (now (tasks .entry)) (now (deadlines .entry)) frames task deadline ⌝ }
+{
+    let wanted = key(deadline, task);
+    if has_key(tasks, deadlines, frames, wanted, guess) {
+        return guess;
+    }
+    let k = before(tasks, deadlines, frames, wanted);
+    if has_key(tasks, deadlines, frames, wanted, k) {
+        return k;
+    }
+    frames
+}
+
+// The number of the frame that each row names by its task and its deadline. Most rows stand where their frame does.
+pub fn numbers<'a>(
+    tasks: &[u8; 256],
+    deadlines: &[u32; 256],
+    frames: usize,
+    senders: &'a [u8; 256],
+    dues: &'a [u32; 256],
+    rows: usize,
+) -> [usize; 256]
+    requires { ⌜ Numbered (now tasks) (now deadlines) frames ⌝ }
+    requires { ⌜ rows ≤ 256 ⌝ }
+    ensures { λ r. ⌜ r ≡ stores (replicate 256 0) (numberAt (now (tasks .entry)) (now (deadlines .entry)) frames (now (senders .entry)) (now (dues .entry))) rows ⌝ }
+{
+    let mut found = [0; 256];
+    let mut k = 0;
+    while k < rows {
+        found[k] = number_of(tasks, deadlines, frames, k, senders[k], dues[k]);
+        k += 1;
+    }
+    found
+}
+
+// The first row that names no frame, or one that a row before it names.
+pub fn first_unnamed(numbers: &[usize; 256], frames: usize, rows: usize) -> Spot
+    requires { ⌜ frames ≤ 256 ⌝ }
+    requires { ⌜ rows ≤ 256 ⌝ }
+    ensures { λ r. ⌜ r ≡ spotOf (firstBad (isNew (now (numbers .entry)) frames) (upTo rows)) ⌝ }
+{
+    let mut named = [false; 256];
+    let mut k = 0;
+    while k < rows {
+        let f = numbers[k];
+        if frames <= f {
+            return Spot::At(k);
+        }
+        if named[f] {
+            return Spot::At(k);
+        }
+        named[f] = true;
+        k += 1;
+    }
+    Spot::Nowhere
+}
+
+// The start of each frame, by number.
+pub fn starts_by_frame(numbers: &[usize; 256], starts: &[u32; 256], rows: usize) -> [u32; 256]
+    requires { ⌜ rows ≤ 256 ⌝ }
+    ensures { λ r. ⌜ r ≡ spread (now (numbers .entry)) (now (starts .entry)) rows ⌝ }
+{
+    let mut out = [0; 256];
+    let mut k = 0;
+    while k < rows {
+        let f = numbers[k];
+        let start = starts[k];
+        k += 1;
+        if f < 256 {
+            out[f] = start;
+        }
+    }
+    out
+}
