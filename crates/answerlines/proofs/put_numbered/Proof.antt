@@ -5,7 +5,14 @@ use Rattle.answerlines.proofs.put_numbered.Statement.{statement}
 use Rattle.answerlines.proofs.put_numbered.Tie as tie
 
 returns : tie.Need-returns
-returns c = let a = c .before .before .before .before .before .before .before .before .before .before .before .args in (numbered-put (a .out .now) _ _ (a .word .now) (c .before .before .before .before .before .before .before .put-marked .result) (c .before .before .put-bytes .result) (a .number) (c .before .before .before .before .before .before .before .put-marked .ensures .0) (c .before .before .put-bytes .ensures), omega arith)
+returns c =
+    let c1 = c .before .before in
+    let c2 = c1 .before .before .before .before .before in
+    let a = c2 .before .before .before .before .args in (
+      numbered-put (a .out .now) _ _ (a .word .now) (c2 .put-marked .result) (c1 .put-bytes .result) (a .number)
+          (c2 .put-marked .ensures .0) (c1 .put-bytes .ensures),
+      omega arith,
+    )
 
 pub put-numbered-spec : {M : Type 1} → statement M
 put-numbered-spec =

@@ -7,7 +7,17 @@ use Rattle.answerlines.proofs.put_refusal.Tie as tie
 
 returns : tie.Need-returns
 unfolding refusalLine
-returns c = (rw (← c .before .before .before .before .number .ensures, ← c .before .before .before .place .ensures) (c .before .before .put-refused .ensures), omega (arith, refused-line-most (c .before .before .before .before .number .result) (c .before .before .before .place .result) (omega arith) (omega arith), c .before .before .put-refused .ensures .1))
+returns c =
+    let c1 = c .before .before in
+    let c2 = c1 .before in
+    let c3 = c2 .before in (
+      rw (← c3 .number .ensures, ← c2 .place .ensures) (c1 .put-refused .ensures),
+      omega (
+        arith,
+        refused-line-most (c3 .number .result) (c2 .place .result) (omega arith) (omega arith),
+        c1 .put-refused .ensures .1,
+      ),
+    )
 
 pub put-refusal-spec : {M : Type 1} → statement M
 put-refusal-spec =

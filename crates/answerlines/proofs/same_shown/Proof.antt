@@ -16,7 +16,9 @@ loop-holds c = (search needs, tested-none)
 
 loop-again : tie.Need-loop-again Inv-loop μ-loop
 unfolding sameOn
-loop-again c = (search needs, tested-turn (c .before .before .before .before .before .before .before .before .before .loop .inv .1) (c .both .ensures) (c .before .same-places .ensures))
+loop-again c =
+    let c1 = c .before .before .before .before .before .before .before .before .before in
+    (search needs, tested-turn (c1 .loop .inv .1) (c .both .ensures) (c .before .same-places .ensures))
 
 returns : tie.Need-returns Inv-loop μ-loop
 returns c = tested-end (c .before .loop .inv .1) (c .before .loop .inv .0) (c .loop-test .left)

@@ -33,12 +33,15 @@ loop-holds c = (search needs, bus-tasks-none (seen (c .before .args .t1)))
 loop-again : tie.Need-loop-again Inv-loop μ-loop
 unfolding connectionLaid noConnection
 loop-again c =
-    let p = c .before .before .before .before .before .before .before .before .before .args .t1 in
-    let l = c .before .before .before .before .before .before .before .loop in
+    let c1 = c .before .before .before .before in
+    let c2 = c1 .before .before .before in
+    let start = c2 .before .before in
+    let p = start .args .t1 in
+    let l = c2 .loop in
     let w : l .i < length (seen p .connections) = omega arith in (
       search needs,
-      bus-tasks-turn (seen p) (l .i) _ _ (l .inv .1) (c .before .before .before .before .before .before .before .before .before .pre .1) (c .before .before .before .before .before .before .before .before .before .pre .0) w
-          (producer p (l .i) w ∙ sym (c .before .before .before .before .before .place .ensures .0)) (consumer p (l .i) w ∙ sym (c .before .before .before .before .place2 .ensures .0))
+      bus-tasks-turn (seen p) (l .i) _ _ (l .inv .1) (start .pre .1) (start .pre .0) w
+          (producer p (l .i) w ∙ sym (c1 .before .place .ensures .0)) (consumer p (l .i) w ∙ sym (c1 .place2 .ensures .0))
           (omega arith) (omega arith) (c .marked .ensures),
     )
 

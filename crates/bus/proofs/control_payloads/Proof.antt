@@ -12,7 +12,9 @@ use Rattle.bus.proofs.control_payloads.Statement.{statement}
 use Rattle.bus.proofs.control_payloads.Tie as tie
 
 abbrev Inv-loop : tie.InvT-loop
-Inv-loop nodes modules n payloads₀ m₀ payloads m = (m ≤ n) × ((q : Plan) → modules ≡ byNumber (isSending q) → nodes ≡ byNumber (moduleNode q) → payloads ≡ byNumber (payloadBy q m))
+Inv-loop nodes modules n payloads₀ m₀ payloads m =
+    (m ≤ n) × ((q : Plan) → modules ≡ byNumber (isSending q) → nodes ≡ byNumber (moduleNode q) → payloads ≡ byNumber
+    (payloadBy q m))
 
 abbrev μ-loop : tie.MeasureT-loop
 μ-loop nodes modules n payloads₀ m₀ payloads m = n - m
@@ -22,10 +24,13 @@ loop-holds c = (search needs, λ q e f. payloads-none q)
 
 one-more-requires : tie.Need-one-more-requires Inv-loop μ-loop
 one-more-requires c κs =
-    let q = seen (c .before .before .before .before .before .before .args .p) in
-    let l = c .before .before .before .before .loop in
-    let e = l .inv .1 q (c .before .before .before .before .before .before .pre .1) (c .before .before .before .before .before .before .pre .0) in
-    let w : getD (l .payloads) (c .before .place .result) 0 ≤ l .m = payload-fits q (l .m) (c .before .place .result) e (omega arith) in
+    let c1 = c .before .before .before .before in
+    let start = c1 .before .before in
+    let q = seen (start .args .p) in
+    let l = c1 .loop in
+    let e = l .inv .1 q (start .pre .1) (start .pre .0) in
+    let w : getD (l .payloads) (c .before .place .result) 0 ≤ l .m = payload-fits q (l .m) (c .before .place .result) e
+    (omega arith) in
     omega arith
 
 loop-again : tie.Need-loop-again Inv-loop μ-loop
@@ -37,9 +42,10 @@ loop-again c = (
 returns : tie.Need-returns Inv-loop μ-loop
 unfolding controlPayload sendersOn payloadBy
 returns c =
-    let q = seen (c .before .before .before .args .p) in
+    let start = c .before .before .before in
+    let q = seen (start .args .p) in
     let e : c .before .loop .m ≡ length (q .modules) = omega arith in
-    rw e at (c .before .loop .inv .1 q (c .before .before .before .pre .1) (c .before .before .before .pre .0))
+    rw e at (c .before .loop .inv .1 q (start .pre .1) (start .pre .0))
 
 pub control-payloads-spec : {M : Type 1} → statement M
 control-payloads-spec =

@@ -8,7 +8,8 @@ use Rattle.bus.proofs.is_bus_task.Tie as tie
 
 returns : tie.Need-returns
 unfolding sendersOf
-returns c = rw (c .before .before .of .ensures, at-number _ (c .before .place .result) false (omega arith), c .before .place .ensures .0)
+returns c =
+    rw (c .before .before .of .ensures, at-number _ (c .before .place .result) false (omega arith), c .before .place .ensures .0)
 
 pub is-bus-task-spec : {M : Type 1} → statement M
 is-bus-task-spec = tie.close (tie.spec (λ c κs. search needs) (λ c κs. search needs) (λ c. search needs) returns)

@@ -12,7 +12,8 @@ use Rattle.bus.proofs.sending_modules.Statement.{statement}
 use Rattle.bus.proofs.sending_modules.Tie as tie
 
 abbrev Inv-loop : tie.InvT-loop
-Inv-loop homes tasks n modules₀ t₀ modules t = (t ≤ n) × ((q : Plan) → tasks ≡ byNumber (isBusTask q) → homes ≡ byNumber (taskHome q) → modules ≡ byNumber (sendingBy q t))
+Inv-loop homes tasks n modules₀ t₀ modules t =
+    (t ≤ n) × ((q : Plan) → tasks ≡ byNumber (isBusTask q) → homes ≡ byNumber (taskHome q) → modules ≡ byNumber (sendingBy q t))
 
 abbrev μ-loop : tie.MeasureT-loop
 μ-loop homes tasks n modules₀ t₀ modules t = n - t
@@ -29,9 +30,10 @@ loop-again c = (
 returns : tie.Need-returns Inv-loop μ-loop
 unfolding isSending sendingBy busTasks
 returns c =
-    let q = seen (c .before .before .before .args .p) in
+    let start = c .before .before .before in
+    let q = seen (start .args .p) in
     let e : c .before .loop .t ≡ length (q .tasks) = omega arith in
-    rw e at (c .before .loop .inv .1 q (c .before .before .before .pre .1) (c .before .before .before .pre .0))
+    rw e at (c .before .loop .inv .1 q (start .pre .1) (start .pre .0))
 
 pub sending-modules-spec : {M : Type 1} → statement M
 sending-modules-spec =

@@ -15,7 +15,9 @@ use Rattle.bus.proofs.task_nodes.Statement.{statement}
 use Rattle.bus.proofs.task_nodes.Tie as tie
 
 abbrev Inv-loop : tie.InvT-loop
-Inv-loop nodes homes n found₀ t₀ found t = (t ≤ n) × ((q : Plan) → nodes ≡ byNumber (moduleNode q) → homes ≡ byNumber (taskHome q) → found ≡ stores (replicate 256 (getD nodes 0 0)) (taskNode q) t)
+Inv-loop nodes homes n found₀ t₀ found t =
+    (t ≤ n) × ((q : Plan) → nodes ≡ byNumber (moduleNode q) → homes ≡ byNumber (taskHome q) → found ≡ stores
+    (replicate 256 (getD nodes 0 0)) (taskNode q) t)
 
 abbrev μ-loop : tie.MeasureT-loop
 μ-loop nodes homes n found₀ t₀ found t = n - t
@@ -31,10 +33,11 @@ loop-again c = (
 
 returns : tie.Need-returns Inv-loop μ-loop
 returns c =
-    let q = seen (c .before .before .before .before .args .p) in
+    let start = c .before .before .before .before in
+    let q = seen (start .args .p) in
     let e : c .before .loop .t ≡ length (q .tasks) = omega arith in
-    c .before .loop .inv .1 q (c .before .before .before .before .pre .0) (c .before .before .before .before .pre .1)
-    ∙ rw e (filled (taskNode q) _ (length (q .tasks)) (omega arith) (λ k h v. node-behind q k (c .before .before .before .before .pre .0) h))
+    c .before .loop .inv .1 q (start .pre .0) (start .pre .1)
+    ∙ rw e (filled (taskNode q) _ (length (q .tasks)) (omega arith) (λ k h v. node-behind q k (start .pre .0) h))
 
 pub task-nodes-spec : {M : Type 1} → statement M
 task-nodes-spec =

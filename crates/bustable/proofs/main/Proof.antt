@@ -8,7 +8,9 @@ array-share-prefix-plan : tie.Need-array-share-prefix-plan
 array-share-prefix-plan c = counted _ (c .before .before .before .before .read-open .ensures) (c .before .got .given .1) .0
 
 slice-aggregate-respond : tie.Need-slice-aggregate-respond
-slice-aggregate-respond c = counted _ (c .before .before .before .before .before .read-open .ensures) (c .before .before .got .given .1) .1
+slice-aggregate-respond c =
+    let c1 = c .before .before .before .before .before in
+    counted _ (c1 .read-open .ensures) (c .before .before .got .given .1) .1
 
 array-share-prefix-out : tie.Need-array-share-prefix-out
 array-share-prefix-out c = c .before .respond .ensures .1 (search needs) .0

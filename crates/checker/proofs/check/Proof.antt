@@ -5,22 +5,54 @@ use Rattle.checker.proofs.check.Statement.{statement}
 use Rattle.checker.proofs.check.Tie as tie
 
 returns : tie.Need-returns
-returns c = way-few (c .before .before .before .before .args .plan .now) (c .before .before .before .before .args .table .now) (c .before .before .before .before .args .lent) _ (c .before .if1 .taken) (c .refused .ensures)
+returns c =
+    let a = c .before .before .before .before .args in
+    way-few (a .plan .now) (a .table .now) (a .lent) _ (c .before .if1 .taken) (c .refused .ensures)
 
 returns-2 : tie.Need-returns-2
-returns-2 c = way-plan (c .before .before .before .before .before .before .before .before .args .plan .now) (c .before .before .before .before .before .before .before .before .args .table .now) (c .before .before .before .before .before .before .before .before .args .lent) _ (c .before .before .before .before .before .if1 .left) (c .before .before .before .before .lay-out .result) (c .before .before .before .before .lay-out .ensures) _ (c .before .before .answer .given .1) (c .refused2 .ensures)
+returns-2 c =
+    let c1 = c .before .before .before .before in
+    let a = c1 .before .before .before .before .args in
+    way-plan (a .plan .now) (a .table .now) (a .lent) _ (c1 .before .if1 .left) (c1 .lay-out .result) (c1 .lay-out .ensures) _
+    (c .before .before .answer .given .1) (c .refused2 .ensures)
 
 returns-3 : tie.Need-returns-3
-returns-3 c = way-records (c .before .before .before .before .before .before .before .before .before .before .before .args .plan .now) (c .before .before .before .before .before .before .before .before .before .before .before .args .table .now) (c .before .before .before .before .before .before .before .before .before .before .before .args .lent) _ (c .before .before .before .before .before .before .before .before .if1 .left) (c .before .before .before .before .before .before .before .lay-out .result) (c .before .before .before .before .before .before .before .lay-out .ensures) (c .before .before .before .before .before .enum-told .given .1) (c .before .before .before .before .read-table .result) (c .before .before .before .before .read-table .ensures) _ (c .before .before .outcome .given .1) (c .refused3 .ensures)
+returns-3 c =
+    let c1 = c .before .before .before .before in
+    let c2 = c1 .before .before .before in
+    let a = c2 .before .before .before .before .args in
+    way-records (a .plan .now) (a .table .now) (a .lent) _ (c2 .before .if1 .left) (c2 .lay-out .result) (c2 .lay-out .ensures)
+    (c1 .before .enum-told .given .1) (c1 .read-table .result) (c1 .read-table .ensures) _
+    (c .before .before .outcome .given .1) (c .refused3 .ensures)
 
 judge-requires : tie.Need-judge-requires
-judge-requires c κs = judge-ready (c .before .before .before .before .before .before .before .before .before .before .args .plan .now) (c .before .before .before .before .before .before .lay-out .result) (c .before .before .before .before .before .before .lay-out .ensures) (c .before .before .before .before .enum-told .given .1)
+judge-requires c κs =
+    let c1 = c .before .before .before .before in
+    let c2 = c1 .before .before in
+    let a = c2 .before .before .before .before .args in
+    judge-ready (a .plan .now) (c2 .lay-out .result) (c2 .lay-out .ensures) (c1 .enum-told .given .1)
 
 returns-4 : tie.Need-returns-4
-returns-4 c = way-judged (c .before .before .before .before .before .before .before .before .before .before .before .before .before .before .before .before .args .plan .now) (c .before .before .before .before .before .before .before .before .before .before .before .before .before .before .before .before .args .table .now) (c .before .before .before .before .before .before .before .before .before .before .before .before .before .before .before .before .args .lent) _ (c .before .before .before .before .before .before .before .before .before .before .before .before .before .if1 .left) (c .before .before .before .before .before .before .before .before .before .before .before .before .lay-out .result) (c .before .before .before .before .before .before .before .before .before .before .before .before .lay-out .ensures) (c .before .before .before .before .before .before .before .before .before .before .enum-told .given .1) (c .before .before .before .before .before .before .before .before .before .read-table .result) (c .before .before .before .before .before .before .before .before .before .read-table .ensures) (c .before .before .before .before .before .before .before .enum-told2 .given .1) (c .before .before .before .before .before .judge .result) (c .before .before .before .before .before .judge .ensures) _ (c .before .before .verdict .given .1) (c .refused4 .ensures)
+returns-4 c =
+    let c1 = c .before .before .before .before .before in
+    let c2 = c1 .before .before .before .before in
+    let c3 = c2 .before .before .before in
+    let a = c3 .before .before .before .before .args in
+    way-judged (a .plan .now) (a .table .now) (a .lent) _ (c3 .before .if1 .left) (c3 .lay-out .result) (c3 .lay-out .ensures)
+    (c2 .before .enum-told .given .1) (c2 .read-table .result) (c2 .read-table .ensures)
+    (c1 .before .before .enum-told2 .given .1) (c1 .judge .result) (c1 .judge .ensures) _
+    (c .before .before .verdict .given .1) (c .refused4 .ensures)
 
 returns-5 : tie.Need-returns-5
-returns-5 c = way-passed (c .before .before .before .before .before .before .before .before .before .before .before .before .before .before .before .args .plan .now) (c .before .before .before .before .before .before .before .before .before .before .before .before .before .before .before .args .table .now) (c .before .before .before .before .before .before .before .before .before .before .before .before .before .before .before .args .lent) _ (c .before .before .before .before .before .before .before .before .before .before .before .before .if1 .left) (c .before .before .before .before .before .before .before .before .before .before .before .lay-out .result) (c .before .before .before .before .before .before .before .before .before .before .before .lay-out .ensures) (c .before .before .before .before .before .before .before .before .before .enum-told .given .1) (c .before .before .before .before .before .before .before .before .read-table .result) (c .before .before .before .before .before .before .before .before .read-table .ensures) (c .before .before .before .before .before .before .enum-told2 .given .1) (c .before .before .before .before .judge .result) (c .before .before .before .before .judge .ensures) (c .before .enum-told3 .given .1) _ (c .rows-on .ensures) refl
+returns-5 c =
+    let c1 = c .before .before .before .before in
+    let c2 = c1 .before .before .before .before in
+    let c3 = c2 .before .before .before in
+    let a = c3 .before .before .before .before .args in
+    way-passed (a .plan .now) (a .table .now) (a .lent) _ (c3 .before .if1 .left) (c3 .lay-out .result) (c3 .lay-out .ensures)
+    (c2 .before .enum-told .given .1) (c2 .read-table .result) (c2 .read-table .ensures)
+    (c1 .before .before .enum-told2 .given .1) (c1 .judge .result) (c1 .judge .ensures) (c .before .enum-told3 .given .1) _
+    (c .rows-on .ensures) refl
 
 pub check-spec : {M : Type 1} → statement M
 check-spec =

@@ -11,7 +11,9 @@ use Rattle.control.proofs.control_end.Statement.{statement}
 use Rattle.control.proofs.control_end.Tie as tie
 
 abbrev Inv-loop : tie.InvT-loop
-Inv-loop p payloads gap nodes next₀ stop₀ n₀ next stop n = (n ≤ nodes) × (nodes ≤ 8) × (next ≡ nextAt (seen p) n) × (stop ≡ stopAt (seen p) n) × (next ≤ n * 2 ^ 48) × (stop ≤ n * 2 ^ 48)
+Inv-loop p payloads gap nodes next₀ stop₀ n₀ next stop n =
+    (n ≤ nodes) × (nodes ≤ 8) × (next ≡ nextAt (seen p) n) × (stop ≡ stopAt (seen p) n) × (next ≤ n * 2 ^ 48) ×
+    (stop ≤ n * 2 ^ 48)
 
 abbrev μ-loop : tie.MeasureT-loop
 μ-loop p payloads gap nodes next₀ stop₀ n₀ next stop n = nodes - n
@@ -26,7 +28,8 @@ loop-holds c = (omega arith, c .before .before .before .pre .0, refl, refl, omeg
 
 loop-again : tie.Need-loop-again Inv-loop μ-loop
 loop-again c =
-    let s = c .before .before .before .before .before .before in
+    let c1 = c .before .before .before .before .before .before in
+    let s = c1 in
     let q = seen (s .args .t1) in
     let l = c .before .before .loop in
     let t = s .pre .1 in
@@ -42,15 +45,22 @@ loop-again c =
       omega (arith, w .3, w .1 .ensures .1),
     ))
     (λ w.
-    let y = sends-no q (l .n) t (omega arith) (w .0 .left) in
-    (omega arith, l .inv .1, w .1 ∙ l .inv .2 ∙ sym (next-no q (l .n) y), w .2 ∙ l .inv .3 ∙ sym (stop-no q (l .n) y), omega (arith, w .1), omega (arith, w .2)))
+    let y = sends-no q (l .n) t (omega arith) (w .0 .left) in (
+      omega arith,
+      l .inv .1,
+      w .1 ∙ l .inv .2 ∙ sym (next-no q (l .n) y),
+      w .2 ∙ l .inv .3 ∙ sym (stop-no q (l .n) y),
+      omega (arith, w .1),
+      omega (arith, w .2),
+    ))
     (c .if1 .came)
 
 returns : tie.Need-returns Inv-loop μ-loop
 unfolding seen countSeen controlEnd controlRows sendingNodes stopAt rowsTo nodesTo
 returns c =
-    let e : c .before .loop .n ≡ seen (c .before .before .before .before .before .args .t1) .nodes = omega arith in
-    rw (c .before .loop .inv .3, c .before .before .before .gap-time .ensures .0, e)
+    let c1 = c .before .before .before in
+    let e : c .before .loop .n ≡ seen (c1 .before .before .args .t1) .nodes = omega arith in
+    rw (c .before .loop .inv .3, c1 .gap-time .ensures .0, e)
 
 pub control-end-spec : {M : Type 1} → statement M
 control-end-spec =

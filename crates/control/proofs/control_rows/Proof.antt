@@ -33,16 +33,19 @@ abbrev μ-loop : tie.MeasureT-loop
 
 few : (c : tie.After-control-time Inv-loop μ-loop) → c .before .before .before .loop .count ≤ c .before .before .before .loop .n
 few c =
-    let l = c .before .before .before .loop in
-    shown-few (seen (c .before .before .before .before .before .before .before .args .t1)) (l .inv .2)
+    let c1 = c .before .before .before in
+    let a = c1 .before .before .before .before .args in
+    let l = c1 .loop in
+    shown-few (seen (a .t1)) (l .inv .2)
 
 -- a control frame that is made stops by C, and C fits
 stops : (c : tie.After-control-time Inv-loop μ-loop) → c .before .before .before .loop .next + c .control-time .result < 2 ^ 32
 unfolding seen countSeen
 stops c =
-    let s = c .before .before .before .before .before .before .before in
+    let c1 = c .before .before .before in
+    let s = c1 .before .before .before .before in
     let q = seen (s .args .t1) in
-    let l = c .before .before .before .loop in
+    let l = c1 .loop in
     let t = s .pre .1 .0 in
     let y = sends-yes q (l .n) t (omega arith) (c .before .if1 .taken) in
     let time = time-is q (l .n) t (omega arith) (c .control-time .ensures .0) in
@@ -86,7 +89,8 @@ add-next c = omega (arith, stops c)
 loop-again : tie.Need-loop-again Inv-loop μ-loop
 unfolding seen
 loop-again c =
-    let s = c .before .before .before .before .before .before in
+    let c1 = c .before .before .before .before in
+    let s = c1 .before .before in
     let q = seen (s .args .t1) in
     let l = c .before .before .loop in
     let t = s .pre .1 .0 in
@@ -97,7 +101,7 @@ loop-again c =
       omega arith,
       l .inv .1,
       rw (w .2, w .3, w .4, w .5, w .6)
-          (shown-more q (l .inv .2) y (rw time) (rw (c .before .before .before .before .gap-time .ensures .0))),
+          (shown-more q (l .inv .2) y (rw time) (rw (c1 .gap-time .ensures .0))),
     )
     )
     (λ w.

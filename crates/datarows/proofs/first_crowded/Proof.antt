@@ -25,14 +25,33 @@ loop-holds c = (search needs, refl)
 
 returns : tie.Need-returns Inv-loop μ-loop
 unfolding gapKept
-returns c = scan-hit (gapKept (now (c .before .before .before .before .before .before .before .args .starts)) (now (c .before .before .before .before .before .before .before .args .stops)) (c .before .before .before .before .before .before .before .args .last) (c .before .before .before .before .before .before .before .args .gap)) (c .before .before .before .before .before .before .loop .inv .1) (c .before .before .before .before .before .loop-test .taken) (rw (sym (c .before .before .stop-before .ensures), sym (c .before .later .ensures), sym (c .before .before .before .wide .ensures)) (lt-leb _ _ (c .if1 .taken)))
+returns c =
+    let c1 = c .before .before .before in
+    let c2 = c1 .before .before .before in
+    let a = c2 .before .args in
+    scan-hit (gapKept (now (a .starts)) (now (a .stops)) (a .last) (a .gap)) (c2 .loop .inv .1)
+    (c1 .before .before .loop-test .taken)
+    (rw (sym (c .before .before .stop-before .ensures), sym (c .before .later .ensures), sym (c1 .wide .ensures))
+    (lt-leb _ _ (c .if1 .taken)))
 
 loop-again : tie.Need-loop-again Inv-loop μ-loop
 unfolding gapKept
-loop-again c = (omega (arith, c .before .before .before .before .before .loop-test .taken), firstBad-upTo-more (gapKept (now (c .before .before .before .before .before .before .before .args .starts)) (now (c .before .before .before .before .before .before .before .args .stops)) (c .before .before .before .before .before .before .before .args .last) (c .before .before .before .before .before .before .before .args .gap)) (c .before .before .before .before .before .before .loop .k) (c .before .before .before .before .before .before .loop .inv .1) (rw (sym (c .before .before .stop-before .ensures), sym (c .before .later .ensures), sym (c .before .before .before .wide .ensures)) (le-leb _ _ (c .if1 .left))))
+loop-again c =
+    let c1 = c .before .before .before in
+    let c2 = c1 .before .before .before in
+    let a = c2 .before .args in (
+      omega (arith, c1 .before .before .loop-test .taken),
+      firstBad-upTo-more
+          (gapKept (now (a .starts)) (now (a .stops)) (a .last) (a .gap)) (c2 .loop .k) (c2 .loop .inv .1)
+          (rw (sym (c .before .before .stop-before .ensures), sym (c .before .later .ensures), sym (c1 .wide .ensures))
+          (le-leb _ _ (c .if1 .left))),
+    )
 
 returns-2 : tie.Need-returns-2 Inv-loop μ-loop
-returns-2 c = scan-end (gapKept (now (c .before .before .args .starts)) (now (c .before .before .args .stops)) (c .before .before .args .last) (c .before .before .args .gap)) (c .before .loop .inv .1) (c .loop-test .left) (c .before .loop .inv .0)
+returns-2 c =
+    let a = c .before .before .args in
+    scan-end (gapKept (now (a .starts)) (now (a .stops)) (a .last) (a .gap)) (c .before .loop .inv .1) (c .loop-test .left)
+    (c .before .loop .inv .0)
 
 pub first-crowded-spec : {M : Type 1} → statement M
 first-crowded-spec =

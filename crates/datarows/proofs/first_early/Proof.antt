@@ -25,14 +25,29 @@ loop-holds c = (search needs, refl)
 
 returns : tie.Need-returns Inv-loop μ-loop
 unfolding releaseKept
-returns c = scan-hit (releaseKept (now (c .before .before .before .before .before .before .args .starts)) (now (c .before .before .before .before .before .before .args .releases)) (now (c .before .before .before .before .before .before .args .numbers))) (c .before .before .before .before .before .loop .inv .1) (c .before .before .before .before .loop-test .taken) (rw (sym (c .before .release-of .ensures)) (lt-leb _ _ (c .if1 .taken)))
+returns c =
+    let c1 = c .before .before .before .before in
+    let a = c1 .before .before .args in
+    scan-hit (releaseKept (now (a .starts)) (now (a .releases)) (now (a .numbers))) (c1 .before .loop .inv .1)
+    (c1 .loop-test .taken) (rw (sym (c .before .release-of .ensures)) (lt-leb _ _ (c .if1 .taken)))
 
 loop-again : tie.Need-loop-again Inv-loop μ-loop
 unfolding releaseKept
-loop-again c = (omega (arith, c .before .before .before .before .loop-test .taken), firstBad-upTo-more (releaseKept (now (c .before .before .before .before .before .before .args .starts)) (now (c .before .before .before .before .before .before .args .releases)) (now (c .before .before .before .before .before .before .args .numbers))) (c .before .before .before .before .before .loop .k) (c .before .before .before .before .before .loop .inv .1) (rw (sym (c .before .release-of .ensures)) (le-leb _ _ (c .if1 .left))))
+loop-again c =
+    let c1 = c .before .before .before .before in
+    let c2 = c1 .before in
+    let a = c2 .before .args in (
+      omega (arith, c1 .loop-test .taken),
+      firstBad-upTo-more
+          (releaseKept (now (a .starts)) (now (a .releases)) (now (a .numbers))) (c2 .loop .k) (c2 .loop .inv .1)
+          (rw (sym (c .before .release-of .ensures)) (le-leb _ _ (c .if1 .left))),
+    )
 
 returns-2 : tie.Need-returns-2 Inv-loop μ-loop
-returns-2 c = scan-end (releaseKept (now (c .before .before .args .starts)) (now (c .before .before .args .releases)) (now (c .before .before .args .numbers))) (c .before .loop .inv .1) (c .loop-test .left) (c .before .loop .inv .0)
+returns-2 c =
+    let a = c .before .before .args in
+    scan-end (releaseKept (now (a .starts)) (now (a .releases)) (now (a .numbers))) (c .before .loop .inv .1) (c .loop-test .left)
+    (c .before .loop .inv .0)
 
 pub first-early-spec : {M : Type 1} → statement M
 first-early-spec =

@@ -25,14 +25,28 @@ loop-holds c = (search needs, refl)
 
 returns : tie.Need-returns Inv-loop μ-loop
 unfolding dueKept
-returns c = scan-hit (dueKept (now (c .before .before .before .before .before .args .stops)) (now (c .before .before .before .before .before .args .deadlines))) (c .before .before .before .before .loop .inv .1) (c .before .before .before .loop-test .taken) (lt-leb _ _ (c .if1 .taken))
+returns c =
+    let c1 = c .before .before .before in
+    let a = c1 .before .before .args in
+    scan-hit (dueKept (now (a .stops)) (now (a .deadlines))) (c1 .before .loop .inv .1) (c1 .loop-test .taken)
+    (lt-leb _ _ (c .if1 .taken))
 
 loop-again : tie.Need-loop-again Inv-loop μ-loop
 unfolding dueKept
-loop-again c = (omega (arith, c .before .before .before .loop-test .taken), firstBad-upTo-more (dueKept (now (c .before .before .before .before .before .args .stops)) (now (c .before .before .before .before .before .args .deadlines))) (c .before .before .before .before .loop .k) (c .before .before .before .before .loop .inv .1) (le-leb _ _ (c .if1 .left)))
+loop-again c =
+    let c1 = c .before .before .before in
+    let c2 = c1 .before in
+    let a = c2 .before .args in (
+      omega (arith, c1 .loop-test .taken),
+      firstBad-upTo-more (dueKept (now (a .stops)) (now (a .deadlines))) (c2 .loop .k)
+          (c2 .loop .inv .1) (le-leb _ _ (c .if1 .left)),
+    )
 
 returns-2 : tie.Need-returns-2 Inv-loop μ-loop
-returns-2 c = scan-end (dueKept (now (c .before .before .args .stops)) (now (c .before .before .args .deadlines))) (c .before .loop .inv .1) (c .loop-test .left) (c .before .loop .inv .0)
+returns-2 c =
+    let a = c .before .before .args in
+    scan-end (dueKept (now (a .stops)) (now (a .deadlines))) (c .before .loop .inv .1) (c .loop-test .left)
+    (c .before .loop .inv .0)
 
 pub first-late-spec : {M : Type 1} → statement M
 first-late-spec =

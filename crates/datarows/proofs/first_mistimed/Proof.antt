@@ -15,7 +15,8 @@ use Rattle.datarows.proofs.first_mistimed.Statement.{statement}
 use Rattle.datarows.proofs.first_mistimed.Tie as tie
 
 abbrev Inv-loop : tie.InvT-loop
-Inv-loop tasks starts stops times resolution count k₀ k = (k ≤ count) × (firstBad (timeKept tasks starts stops times resolution) (upTo k) ≡ none)
+Inv-loop tasks starts stops times resolution count k₀ k =
+    (k ≤ count) × (firstBad (timeKept tasks starts stops times resolution) (upTo k) ≡ none)
 
 abbrev μ-loop : tie.MeasureT-loop
 μ-loop tasks starts stops times resolution count k₀ k = count - k
@@ -25,14 +26,31 @@ loop-holds c = (search needs, refl)
 
 returns : tie.Need-returns Inv-loop μ-loop
 unfolding timeKept
-returns c = scan-hit (timeKept (now (c .before .before .before .before .before .before .before .before .args .tasks)) (now (c .before .before .before .before .before .before .before .before .args .starts)) (now (c .before .before .before .before .before .before .before .before .args .stops)) (now (c .before .before .before .before .before .before .before .before .args .times)) (c .before .before .before .before .before .before .before .before .args .resolution)) (c .before .before .before .before .before .before .before .loop .inv .1) (c .before .before .before .before .before .before .loop-test .taken) (rw (sym (c .before .before .time-of .ensures), sym (c .before .time-kept .ensures)) (not-true _ (c .if1 .taken)))
+returns c =
+    let c1 = c .before .before .before .before .before .before in
+    let a = c1 .before .before .args in
+    scan-hit (timeKept (now (a .tasks)) (now (a .starts)) (now (a .stops)) (now (a .times)) (a .resolution))
+    (c1 .before .loop .inv .1) (c1 .loop-test .taken)
+    (rw (sym (c .before .before .time-of .ensures), sym (c .before .time-kept .ensures)) (not-true _ (c .if1 .taken)))
 
 loop-again : tie.Need-loop-again Inv-loop μ-loop
 unfolding timeKept
-loop-again c = (omega (arith, c .before .before .before .before .before .before .loop-test .taken), firstBad-upTo-more (timeKept (now (c .before .before .before .before .before .before .before .before .args .tasks)) (now (c .before .before .before .before .before .before .before .before .args .starts)) (now (c .before .before .before .before .before .before .before .before .args .stops)) (now (c .before .before .before .before .before .before .before .before .args .times)) (c .before .before .before .before .before .before .before .before .args .resolution)) (c .before .before .before .before .before .before .before .loop .k) (c .before .before .before .before .before .before .before .loop .inv .1) (rw (sym (c .before .before .time-of .ensures), sym (c .before .time-kept .ensures)) (not-false _ (c .if1 .left))))
+loop-again c =
+    let c1 = c .before .before .before .before .before .before in
+    let c2 = c1 .before in
+    let a = c2 .before .args in (
+      omega (arith, c1 .loop-test .taken),
+      firstBad-upTo-more
+          (timeKept (now (a .tasks)) (now (a .starts)) (now (a .stops)) (now (a .times)) (a .resolution)) (c2 .loop .k)
+          (c2 .loop .inv .1) (rw (sym (c .before .before .time-of .ensures), sym (c .before .time-kept .ensures))
+          (not-false _ (c .if1 .left))),
+    )
 
 returns-2 : tie.Need-returns-2 Inv-loop μ-loop
-returns-2 c = scan-end (timeKept (now (c .before .before .args .tasks)) (now (c .before .before .args .starts)) (now (c .before .before .args .stops)) (now (c .before .before .args .times)) (c .before .before .args .resolution)) (c .before .loop .inv .1) (c .loop-test .left) (c .before .loop .inv .0)
+returns-2 c =
+    let a = c .before .before .args in
+    scan-end (timeKept (now (a .tasks)) (now (a .starts)) (now (a .stops)) (now (a .times)) (a .resolution))
+    (c .before .loop .inv .1) (c .loop-test .left) (c .before .loop .inv .0)
 
 pub first-mistimed-spec : {M : Type 1} → statement M
 first-mistimed-spec =

@@ -7,7 +7,13 @@ use Rattle.datarows.proofs.time_kept.Statement.{statement}
 use Rattle.datarows.proofs.time_kept.Tie as tie
 
 returns : tie.Need-returns
-returns c = rw (sym (c .before .before .before .wide .ensures), sym (c .before .before .later .ensures), eq-eqb _ _ (c .before .if1 .taken)) (c .on-grid .ensures)
+returns c =
+    rw (
+      sym (c .before .before .before .wide .ensures),
+      sym (c .before .before .later .ensures),
+      eq-eqb _ _
+          (c .before .if1 .taken),
+    ) (c .on-grid .ensures)
 
 returns-2 : tie.Need-returns-2
 returns-2 c = rw (sym (c .before .before .wide .ensures), sym (c .before .later .ensures), ne-eqb _ _ (c .if1 .left))

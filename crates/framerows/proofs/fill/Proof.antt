@@ -256,10 +256,17 @@ fill-meets : {M : Type 1} (𝓤 : URA M) (H : Heap 𝓤) (A : Atoms 𝓤) (W : G
     → Triple 𝓤 (𝓣 .C #table) (Plain R.the-row Table TableSays 𝓤 H A) → Triple 𝓤 (𝓣 .C #end) (Plain usize usize EndSays 𝓤 H A) → Triple 𝓤 (𝓣 .C #within) (Plain usize usize WithinSays 𝓤 H A)
     → Meets 𝓤 H A fill.signature (WpFn 𝓤 H (𝓣 .C) (𝓣 .Λ) code.function) (fill.spec 𝓤 H A mem run)
 fill-meets 𝓤 H A W mem run 𝓣 known-table known-end known-within =
-    walk-meets 𝓤 H A fill.ended stayed W (goes-slice 𝓤 H A W 1 0 tt (plain (λ _. Row)), (goes-dropped 𝓤 H A W 1 (plain (λ _. R.the-row)) yes (λ κs x f. refl), tt)) (fill.clauses 𝓤 H A mem run)
+    walk-meets 𝓤 H A fill.ended stayed W (
+      goes-slice 𝓤 H A W 1 0 tt (plain (λ _. Row)),
+      (goes-dropped 𝓤 H A W 1 (plain (λ _. R.the-row)) yes (λ κs x f. refl), tt),
+    ) (fill.clauses 𝓤 H A mem run)
     (WpFn 𝓤 H (𝓣 .C) (𝓣 .Λ) code.function) (WpFn-mono 𝓤 H (W .laws) 𝓣 code.function)
-    (walked 𝓤 H A fill.ended stayed (fill.clauses 𝓤 H A mem run) (WpFn 𝓤 H (𝓣 .C) (𝓣 .Λ) code.function) (λ κs. (slice-vals, (LL.vals R.the-type R′.the-laws, tt))) (λ κs. (mut-slice-tells (named 0) (κs .0) Row, (LL.tells R.the-type R′.the-laws, tt)))
-    (λ κs qs bounds a g are. via 𝓤 _ (fst∗ 𝓤 _ (emp 𝓤)) (walk 𝓤 H A W mem run (κs .0) (qs .0) (a .0 .ptr .0) (a .0 .ptr .1) (a .0 .name) (a .0 .now) (a .1 .0) (are .0 .0 .1) (are .1 .0) 𝓣 (fmOf 𝓤 H (W .laws) 𝓣) known-table known-end known-within)))
+    (walked 𝓤 H A fill.ended stayed (fill.clauses 𝓤 H A mem run) (WpFn 𝓤 H (𝓣 .C) (𝓣 .Λ) code.function)
+    (λ κs. (slice-vals, (LL.vals R.the-type R′.the-laws, tt)))
+    (λ κs. (mut-slice-tells (named 0) (κs .0) Row, (LL.tells R.the-type R′.the-laws, tt)))
+    (λ κs qs bounds a g are. via 𝓤 _ (fst∗ 𝓤 _ (emp 𝓤))
+    (walk 𝓤 H A W mem run (κs .0) (qs .0) (a .0 .ptr .0) (a .0 .ptr .1) (a .0 .name) (a .0 .now) (a .1 .0) (are .0 .0 .1)
+    (are .1 .0) 𝓣 (fmOf 𝓤 H (W .laws) 𝓣) known-table known-end known-within)))
 
 pub fill-spec : {M : Type 1} → stated.statement M
 unfolding code.routine tablesOf
@@ -267,6 +274,9 @@ fill-spec 𝓤 H 𝓜 𝓖 𝓡 =
     entered 𝓤 H (tripleOf 𝓤 H (𝓖 .A) fill.signature (fill.spec 𝓤 H (𝓖 .A) (𝓜 .mem) (𝓡 .run)))
     (tables 𝓤 H 𝓜 𝓡 code.env .C) (tables 𝓤 H 𝓜 𝓡 code.env .Λ) #fill code.function (code.unfolded 𝓤 H 𝓜 𝓡)
     (fill-meets 𝓤 H (𝓖 .A) (givenOf 𝓤 H 𝓜 𝓖) (𝓜 .mem) (𝓡 .run) (tablesOf 𝓤 H 𝓜 (tables 𝓤 H 𝓜 𝓡 code.env))
-    (cited 𝓤 H (Plain R.the-row Table TableSays 𝓤 H (𝓖 .A)) 𝓜 𝓡 code.env #table table-def.routine code.calls-framerows·frame-table (table-thm.met 𝓤 H 𝓜 𝓖 𝓡))
-    (cited 𝓤 H (Plain usize usize EndSays 𝓤 H (𝓖 .A)) 𝓜 𝓡 code.env #end end-def.routine code.calls-framerows·end-in (end-thm.met 𝓤 H 𝓜 𝓖 𝓡))
-    (cited 𝓤 H (Plain usize usize WithinSays 𝓤 H (𝓖 .A)) 𝓜 𝓡 code.env #within within-def.routine code.calls-framerows·within (within-thm.met 𝓤 H 𝓜 𝓖 𝓡)))
+    (cited 𝓤 H (Plain R.the-row Table TableSays 𝓤 H (𝓖 .A)) 𝓜 𝓡 code.env #table table-def.routine code.calls-framerows·frame-table
+    (table-thm.met 𝓤 H 𝓜 𝓖 𝓡))
+    (cited 𝓤 H (Plain usize usize EndSays 𝓤 H (𝓖 .A)) 𝓜 𝓡 code.env #end end-def.routine code.calls-framerows·end-in
+    (end-thm.met 𝓤 H 𝓜 𝓖 𝓡))
+    (cited 𝓤 H (Plain usize usize WithinSays 𝓤 H (𝓖 .A)) 𝓜 𝓡 code.env #within within-def.routine code.calls-framerows·within
+    (within-thm.met 𝓤 H 𝓜 𝓖 𝓡)))

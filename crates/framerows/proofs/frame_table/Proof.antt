@@ -20,7 +20,9 @@ loop-holds c = (search needs, rw (c .before .zero .ensures) (stores-none _ (fram
 
 loop-again : tie.Need-loop-again Inv-loop μ-loop
 unfolding frameAt
-loop-again c = (search needs, stores-turn _ (frameAt (c .before .before .before .before .before .before .before .before .before .args .t1)) _ (c .before .before .before .before .before .before .loop .inv .1) (c .framed .ensures))
+loop-again c =
+    let c1 = c .before .before .before .before .before .before in
+    (search needs, stores-turn _ (frameAt (c1 .before .before .before .args .t1)) _ (c1 .loop .inv .1) (c .framed .ensures))
 
 returns : tie.Need-returns Inv-loop μ-loop
 unfolding frameTable

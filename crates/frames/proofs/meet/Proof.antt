@@ -20,25 +20,51 @@ loop-holds c = taking-start _ _ _ _ _ _ _ _ (c .pre .0) (c .pre .1 .1 .0) (c .pr
 
 behind-release-requires : tie.Need-behind-release-requires Inv-loop μ-loop
 behind-release-requires c κs =
-    let e = ending _ _ _ _ _ _ _ _ (c .before .before .before .before .pre .0) (c .before .before .before .before .pre .1 .0 .1) (c .before .before .before .before .pre .1 .0 .2) (c .before .before .before .loop .inv) (omega arith) refl in
-    (le-of-dvd (c .before .before .before .before .pre .1 .0 .0) (e .multiple), (e .fair .slow, omega (arith, c .before .before .before .before .pre .1 .0 .1, c .before .before .before .before .pre .0 .short)))
+    let c1 = c .before .before .before in
+    let start = c1 .before in
+    let e = ending _ _ _ _ _ _ _ _ (start .pre .0) (start .pre .1 .0 .1) (start .pre .1 .0 .2) (c1 .loop .inv) (omega arith) refl
+    in
+    (le-of-dvd (start .pre .1 .0 .0) (e .multiple), (e .fair .slow, omega (arith, start .pre .1 .0 .1, start .pre .0 .short)))
 
 mul-raise-2 : tie.Need-mul-raise-2 Inv-loop μ-loop
-mul-raise-2 c = let e = ending _ _ _ _ _ _ _ _ (c .before .before .before .before .before .before .before .before .pre .0) (c .before .before .before .before .before .before .before .before .pre .1 .0 .1) (c .before .before .before .before .before .before .before .before .pre .1 .0 .2) (c .before .before .before .before .before .before .before .loop .inv) (omega arith) refl in omega (arith, e .fair .within, c .before .before .before .before .before .before .before .before .pre .0 .short)
+mul-raise-2 c =
+    let c1 = c .before .before .before .before .before .before .before in
+    let start = c1 .before in
+    let e = ending _ _ _ _ _ _ _ _ (start .pre .0) (start .pre .1 .0 .1) (start .pre .1 .0 .2) (c1 .loop .inv) (omega arith) refl
+    in
+    omega (arith, e .fair .within, start .pre .0 .short)
 
 add-raise : tie.Need-add-raise Inv-loop μ-loop
-add-raise c = let e = ending _ _ _ _ _ _ _ _ (c .before .before .before .before .before .before .before .before .pre .0) (c .before .before .before .before .before .before .before .before .pre .1 .0 .1) (c .before .before .before .before .before .before .before .before .pre .1 .0 .2) (c .before .before .before .before .before .before .before .loop .inv) (omega arith) refl in omega (arith, e .fair .within, c .before .before .before .before .before .before .before .before .pre .1 .0 .1, c .before .before .before .before .before .before .before .before .pre .1 .0 .2, c .before .before .before .before .before .before .before .before .pre .0 .short)
+add-raise c =
+    let c1 = c .before .before .before .before .before .before .before in
+    let start = c1 .before in
+    let e = ending _ _ _ _ _ _ _ _ (start .pre .0) (start .pre .1 .0 .1) (start .pre .1 .0 .2) (c1 .loop .inv) (omega arith) refl
+    in
+    omega (arith, e .fair .within, start .pre .1 .0 .1, start .pre .1 .0 .2, start .pre .0 .short)
 
 raise-requires : tie.Need-raise-requires Inv-loop μ-loop
 raise-requires c κs =
-    let e = ending _ _ _ _ _ _ _ _ (c .before .before .before .before .before .before .before .before .pre .0) (c .before .before .before .before .before .before .before .before .pre .1 .0 .1) (c .before .before .before .before .before .before .before .before .pre .1 .0 .2) (c .before .before .before .before .before .before .before .loop .inv) (omega arith) refl in
-    (c .before .before .before .before .before .before .before .loop .inv .waiting .whole, (c .before .before .before .before .before .before .before .before .pre .0 .small, omega (arith, e .run, c .before .before .before .before .before .before .before .before .pre .0 .few)))
+    let c1 = c .before .before .before .before .before .before .before in
+    let start = c1 .before in
+    let e = ending _ _ _ _ _ _ _ _ (start .pre .0) (start .pre .1 .0 .1) (start .pre .1 .0 .2) (c1 .loop .inv) (omega arith) refl
+    in
+    (c1 .loop .inv .waiting .whole, (start .pre .0 .small, omega (arith, e .run, start .pre .0 .few)))
 
 loop-less : tie.Need-loop-less Inv-loop μ-loop
-loop-less c = let h = root-rises _ _ _ _ _ _ _ _ (c .before .before .before .before .before .before .before .before .before .pre .0) (c .before .before .before .before .before .before .before .before .before .pre .1 .0 .1) (c .before .before .before .before .before .before .before .before .before .pre .1 .0 .2) (c .before .before .before .before .before .before .before .before .loop .inv) (omega arith) refl (c .raise .ensures) in omega (arith, h)
+loop-less c =
+    let c1 = c .before .before .before .before .before .before .before .before in
+    let start = c1 .before in
+    let h = root-rises _ _ _ _ _ _ _ _ (start .pre .0) (start .pre .1 .0 .1) (start .pre .1 .0 .2) (c1 .loop .inv) (omega arith)
+    refl (c .raise .ensures) in
+    omega (arith, h)
 
 loop-again : tie.Need-loop-again Inv-loop μ-loop
-loop-again c = taking-turn _ _ _ _ _ _ _ _ (c .before .before .before .before .before .before .before .before .before .pre .0) (c .before .before .before .before .before .before .before .before .before .pre .1 .0 .1) (c .before .before .before .before .before .before .before .before .before .pre .1 .0 .2) (c .before .before .before .before .before .before .before .before .loop .inv) (omega arith) refl (c .raise .ensures) (c .before .before .before .before .behind-release .ensures) (c .before .before .before .larger .ensures)
+loop-again c =
+    let c1 = c .before .before .before in
+    let c2 = c1 .before .before .before .before .before in
+    let start = c2 .before in
+    taking-turn _ _ _ _ _ _ _ _ (start .pre .0) (start .pre .1 .0 .1) (start .pre .1 .0 .2) (c2 .loop .inv) (omega arith) refl
+    (c .raise .ensures) (c1 .before .behind-release .ensures) (c1 .larger .ensures)
 
 returns : tie.Need-returns Inv-loop μ-loop
 returns c = taking-end _ _ _ _ _ _ _ _ (c .before .before .pre .0) (c .before .loop .inv) (omega arith)

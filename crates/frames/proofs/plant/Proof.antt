@@ -17,11 +17,14 @@ loop-holds c = planting-none _ _ _ _ _ _ _ refl
 
 key-requires : tie.Need-key-requires Inv-loop μ-loop
 key-requires c κs =
-    let f = fair-at _ _ _ _ _ _ (c .before .before .before .before .pre .fair) (c .before .before .loop-test .taken) in
-    (omega (arith, f .within, c .before .before .before .before .pre .short), omega (arith, c .before .before .before .before .pre .few, c .before .before .before .before .pre .small))
+    let start = c .before .before .before .before in
+    let f = fair-at _ _ _ _ _ _ (start .pre .fair) (c .before .before .loop-test .taken) in
+    (omega (arith, f .within, start .pre .short), omega (arith, start .pre .few, start .pre .small))
 
 loop-again : tie.Need-loop-again Inv-loop μ-loop
-loop-again c = planting-more _ _ _ _ _ _ (c .before .before .before .before .loop .inv) (c .before .before .before .before .before .pre) (omega arith) (c .key .ensures)
+loop-again c =
+    let c1 = c .before .before .before .before in
+    planting-more _ _ _ _ _ _ (c1 .loop .inv) (c1 .before .pre) (omega arith) (c .key .ensures)
 
 returns : tie.Need-returns Inv-loop μ-loop
 returns c = planting-all _ _ _ _ _ _ (c .before .loop .inv) (c .before .before .pre) (omega arith)

@@ -5,7 +5,16 @@ use Rattle.hearing.proofs.hear.Tie as tie
 
 returns : tie.Need-returns
 unfolding heardLine
-returns c = rw (c .tick .ensures, c .before .before .given-of .ensures, c .before .changes-of .ensures, ← c .before .before .before .before .before .before .before .read-line .ensures, c .before .before .before .before .before .enum-told .given .1)
+returns c =
+    let c1 = c .before .before .before .before .before in
+    rw (
+      c .tick .ensures,
+      c .before .before .given-of .ensures,
+      c .before .changes-of .ensures,
+      ←
+          c1 .before .before .read-line .ensures,
+      c1 .enum-told .given .1,
+    )
 
 returns-2 : tie.Need-returns-2
 unfolding heardLine

@@ -24,13 +24,31 @@ part-hear-end : tie.Need-part-hear-end Inv-loop μ-loop
 part-hear-end c = let e = c .line-end .ensures .1 .0 (omega arith) in search needs
 
 returns : tie.Need-returns Inv-loop μ-loop
-returns c = hearing-stops (c .before .before .before .before .before .before .before .loop .inv .1) (c .before .before .before .before .before .before .loop-test .taken) (c .before .before .before .before .before .line-end .ensures .0) refl (c .before .before .before .hear .ensures) (not-true _ (c .if1 .taken))
+returns c =
+    let c1 = c .before .before .before in
+    let c2 = c1 .before .before .before in
+    hearing-stops (c2 .before .loop .inv .1) (c2 .loop-test .taken) (c1 .before .before .line-end .ensures .0) refl
+    (c1 .hear .ensures) (not-true _ (c .if1 .taken))
 
 loop-less : tie.Need-loop-less Inv-loop μ-loop
-loop-less c = let l = behind-later (c .before .before .before .before .before .before .before .before .before .before .args .s .now) (c .before .before .before .before .before .before .before .loop-test .taken) (c .before .before .before .before .before .before .line-end .ensures .1 .1) (c .behind-end .ensures) in omega arith
+loop-less c =
+    let c1 = c .before .before .before .before .before .before in
+    let a = c1 .before .before .before .before .args in
+    let l = behind-later (a .s .now) (c1 .before .loop-test .taken) (c1 .line-end .ensures .1 .1) (c .behind-end .ensures) in
+    omega arith
 
 loop-again : tie.Need-loop-again Inv-loop μ-loop
-loop-again c = let l = behind-later (c .before .before .before .before .before .before .before .before .before .before .args .s .now) (c .before .before .before .before .before .before .before .loop-test .taken) (c .before .before .before .before .before .before .line-end .ensures .1 .1) (c .behind-end .ensures) in (omega (arith, c .before .before .before .before .before .before .before .before .loop .inv .0), hearing-turn (c .before .before .before .before .before .before .before .before .loop .inv .1) (c .before .before .before .before .before .before .before .loop-test .taken) (c .before .before .before .before .before .before .line-end .ensures .0) refl (c .before .before .before .before .hear .ensures) (not-false _ (c .before .if1 .left)) (c .behind-end .ensures))
+loop-again c =
+    let c1 = c .before .before .before .before in
+    let c2 = c1 .before .before in
+    let c3 = c2 .before in
+    let c4 = c3 .before in
+    let l = behind-later (c4 .before .before .args .s .now) (c3 .loop-test .taken) (c2 .line-end .ensures .1 .1)
+    (c .behind-end .ensures) in (
+      omega (arith, c4 .loop .inv .0),
+      hearing-turn (c4 .loop .inv .1) (c3 .loop-test .taken) (c2 .line-end .ensures .0) refl
+          (c1 .hear .ensures) (not-false _ (c .before .if1 .left)) (c .behind-end .ensures),
+    )
 
 returns-2 : tie.Need-returns-2 Inv-loop μ-loop
 returns-2 c = hearing-end (c .before .loop .inv .1) (c .loop-test .left)

@@ -17,11 +17,19 @@ loop-holds c = (search needs, going-none)
 
 returns : tie.Need-returns Inv-loop μ-loop
 unfolding afterTick afterNothing
-returns c = going-refused (c .before .before .before .before .before .before .before .loop .inv .1) (left _ _ _ (c .before .before .before .before .tick .ensures)) (c .before .before .before .before .tick .ensures .unchanged (sym (c .before .say-quiet .ensures) ∙ c .if1 .taken))
+returns c =
+    let c1 = c .before .before .before .before in
+    going-refused (c1 .before .before .before .loop .inv .1) (left _ _ _ (c1 .tick .ensures))
+    (c1 .tick .ensures .unchanged (sym (c .before .say-quiet .ensures) ∙ c .if1 .taken))
 
 loop-again : tie.Need-loop-again Inv-loop μ-loop
 unfolding afterTick afterNothing
-loop-again c = (search needs, going-turn (c .before .before .before .before .before .before .before .loop .inv .1) (c .before .before .before .before .before .before .loop-test .taken) (left _ _ _ (c .before .before .before .before .tick .ensures)))
+loop-again c =
+    let c1 = c .before .before .before .before in (
+      search needs,
+      going-turn (c1 .before .before .before .loop .inv .1) (c1 .before .before .loop-test .taken)
+          (left _ _ _ (c1 .tick .ensures)),
+    )
 
 returns-2 : tie.Need-returns-2 Inv-loop μ-loop
 returns-2 c = going-end (c .before .loop .inv .1) (c .loop-test .left)

@@ -18,10 +18,14 @@ returns : tie.Need-returns Inv-loop μ-loop
 returns c = matched-short (c .before .before .loop .inv .1) (c .before .loop-test .taken) (c .if1 .taken)
 
 returns-2 : tie.Need-returns-2 Inv-loop μ-loop
-returns-2 c = matched-wrong (c .before .before .before .before .before .loop .inv .1) (c .before .before .before .before .loop-test .taken) (c .before .before .before .if1 .left) (c .if2 .taken)
+returns-2 c =
+    let c1 = c .before .before .before in
+    matched-wrong (c1 .before .before .loop .inv .1) (c1 .before .loop-test .taken) (c1 .if1 .left) (c .if2 .taken)
 
 loop-again : tie.Need-loop-again Inv-loop μ-loop
-loop-again c = (search needs, matched-turn (c .before .before .before .before .before .loop .inv .1) (c .before .before .before .before .loop-test .taken) (c .before .before .before .if1 .left) (c .if2 .left))
+loop-again c =
+    let c1 = c .before .before .before in
+    (search needs, matched-turn (c1 .before .before .loop .inv .1) (c1 .before .loop-test .taken) (c1 .if1 .left) (c .if2 .left))
 
 returns-3 : tie.Need-returns-3 Inv-loop μ-loop
 returns-3 c = matched-end (c .before .loop .inv .1) (c .before .loop .inv .0) (c .loop-test .left)

@@ -7,7 +7,12 @@ returns : tie.Need-returns
 returns c = rw (← c .before .before .before .modes .ensures, ← c .before .before .is-end .ensures, c .before .if1 .taken)
 
 returns-2 : tie.Need-returns-2
-returns-2 c = c .without-lists .ensures ∙ rw (← c .before .before .before .modes .ensures, ← c .before .before .is-end .ensures, c .before .if1 .left)
+returns-2 c =
+    c .without-lists .ensures ∙ rw (
+      ← c .before .before .before .modes .ensures,
+      ← c .before .before .is-end .ensures,
+      c .before .if1 .left,
+    )
 
 pub ended-by-spec : {M : Type 1} → statement M
 ended-by-spec = tie.close (tie.spec (λ c κs. search needs) (λ c κs. search needs) (λ c κs. search needs) returns returns-2)

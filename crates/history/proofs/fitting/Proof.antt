@@ -6,10 +6,30 @@ returns : tie.Need-returns
 returns c = rw (← c .before .before .pair-at .ensures, c .enum-told .given .1)
 
 returns-2 : tie.Need-returns-2
-returns-2 c = rw (← c .before .before .before .before .before .before .before .pair-at .ensures, c .before .before .before .before .before .place .given .1, ← c .before .before .is-free .ensures, ← c .before .before .before .both .ensures, ← c .before .both2 .ensures, c .if1 .taken)
+returns-2 c =
+    let c1 = c .before .before .before in
+    rw (
+      ← c1 .before .before .before .before .pair-at .ensures,
+      c1 .before .before .place .given .1,
+      ←
+          c .before .before .is-free .ensures,
+      ← c1 .both .ensures,
+      ← c .before .both2 .ensures,
+      c .if1 .taken,
+    )
 
 returns-3 : tie.Need-returns-3
-returns-3 c = rw (← c .before .before .before .before .before .before .before .pair-at .ensures, c .before .before .before .before .before .place .given .1, ← c .before .before .is-free .ensures, ← c .before .before .before .both .ensures, ← c .before .both2 .ensures, c .if1 .left)
+returns-3 c =
+    let c1 = c .before .before .before in
+    rw (
+      ← c1 .before .before .before .before .pair-at .ensures,
+      c1 .before .before .place .given .1,
+      ←
+          c .before .before .is-free .ensures,
+      ← c1 .both .ensures,
+      ← c .before .both2 .ensures,
+      c .if1 .left,
+    )
 
 pub fitting-spec : {M : Type 1} → statement M
 fitting-spec =

@@ -9,11 +9,29 @@ returns c = rw (← c .before .before .behind .ensures, c .enum-told .given .1)
 
 returns-2 : tie.Need-returns-2
 unfolding goesOn
-returns-2 c = rw (← c .before .before .before .before .before .before .behind .ensures, c .before .before .before .before .next .given .1, ← c .before .before .byte-at .ensures .0, ← c .before .is-digit .ensures, c .if1 .taken)
+returns-2 c =
+    let c1 = c .before .before .before .before in
+    rw (
+      ← c1 .before .before .behind .ensures,
+      c1 .next .given .1,
+      ← c .before .before .byte-at .ensures .0,
+      ←
+          c .before .is-digit .ensures,
+      c .if1 .taken,
+    )
 
 returns-3 : tie.Need-returns-3
 unfolding goesOn
-returns-3 c = rw (← c .before .before .before .before .before .before .behind .ensures, c .before .before .before .before .next .given .1, ← c .before .before .byte-at .ensures .0, ← c .before .is-digit .ensures, c .if1 .left)
+returns-3 c =
+    let c1 = c .before .before .before .before in
+    rw (
+      ← c1 .before .before .behind .ensures,
+      c1 .next .given .1,
+      ← c .before .before .byte-at .ensures .0,
+      ←
+          c .before .is-digit .ensures,
+      c .if1 .left,
+    )
 
 pub goes-on-spec : {M : Type 1} → statement M
 goes-on-spec =

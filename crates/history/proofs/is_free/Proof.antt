@@ -13,7 +13,11 @@ returns c = c .is-free .ensures
 
 returns-2 : tie.Need-returns-2
 unfolding isFree
-returns-2 c = let a = c .before .args in let size : length (a .t1) ≡ 32 = search needs in let w : length (a .t1) ≤ a .place = omega arith in rw (List·getD-eq-default (a .t1) noPlace w)
+returns-2 c =
+    let a = c .before .args in
+    let size : length (a .t1) ≡ 32 = search needs in
+    let w : length (a .t1) ≤ a .place = omega arith in
+    rw (List·getD-eq-default (a .t1) noPlace w)
 
 pub is-free-spec : {M : Type 1} → statement M
 is-free-spec = tie.close (tie.spec (λ c. search needs) (λ c. search needs) (λ c κs. search needs) returns returns-2)

@@ -18,13 +18,26 @@ loop-holds : tie.Need-loop-holds Inv-loop μ-loop
 loop-holds c = (refl, λ h. h, search needs)
 
 returns : tie.Need-returns Inv-loop μ-loop
-returns c = (sym (line-feed (c .before .before .before .before .args .s .now) (c .before .before .before .loop .at) (c .before .before .loop-test .taken) (c .if1 .taken)) ∙ c .before .before .before .loop .inv .0, (c .before .before .before .loop .inv .1, c .before .before .before .loop .inv .2))
+returns c =
+    let c1 = c .before .before .before in (
+      sym (line-feed (c1 .before .args .s .now) (c1 .loop .at) (c .before .before .loop-test .taken) (c .if1 .taken))
+          ∙ c1 .loop .inv .0,
+      (c1 .loop .inv .1, c1 .loop .inv .2),
+    )
 
 loop-again : tie.Need-loop-again Inv-loop μ-loop
-loop-again c = (line-more (c .before .before .before .before .args .s .now) (c .before .before .before .loop .at) (c .before .before .loop-test .taken) (c .if1 .left) ∙ c .before .before .before .loop .inv .0, λ h. omega arith, omega arith)
+loop-again c =
+    let c1 = c .before .before .before in (
+      line-more (c1 .before .args .s .now) (c1 .loop .at) (c .before .before .loop-test .taken) (c .if1 .left) ∙ c1 .loop .inv .0,
+      λ h. omega arith,
+      omega arith,
+    )
 
 returns-2 : tie.Need-returns-2 Inv-loop μ-loop
-returns-2 c = (sym (line-over (c .before .before .args .s .now) (c .before .loop .at) (c .loop-test .left)) ∙ c .before .loop .inv .0, (c .before .loop .inv .1, c .before .loop .inv .2))
+returns-2 c = (
+  sym (line-over (c .before .before .args .s .now) (c .before .loop .at) (c .loop-test .left)) ∙ c .before .loop .inv .0,
+  (c .before .loop .inv .1, c .before .loop .inv .2),
+)
 
 pub line-end-spec : {M : Type 1} → statement M
 line-end-spec =

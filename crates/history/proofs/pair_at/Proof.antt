@@ -9,15 +9,43 @@ returns c = rw (← c .before .before .read-decimal .ensures, c .enum-told .give
 
 returns-2 : tie.Need-returns-2
 unfolding pairAt
-returns-2 c = rw (← c .before .before .before .before .before .before .before .read-decimal .ensures, c .before .before .before .before .before .place .given .1, ← c .before .before .behind .ensures, c .enum-told2 .given .1)
+returns-2 c =
+    let c1 = c .before .before .before .before .before in
+    rw (
+      ← c1 .before .before .read-decimal .ensures,
+      c1 .place .given .1,
+      ← c .before .before .behind .ensures,
+      c .enum-told2 .given .1,
+    )
 
 returns-3 : tie.Need-returns-3
 unfolding pairAt
-returns-3 c = rw (← c .before .before .before .before .before .before .before .before .before .before .before .read-decimal .ensures, c .before .before .before .before .before .before .before .before .before .place .given .1, ← c .before .before .before .before .before .before .behind .ensures, c .before .before .before .before .second .given .1, ← c .before .before .read-decimal2 .ensures, c .enum-told3 .given .1)
+returns-3 c =
+    let c1 = c .before .before .before .before in
+    let c2 = c1 .before .before .before .before .before in
+    rw (
+      ← c2 .before .before .read-decimal .ensures,
+      c2 .place .given .1,
+      ← c1 .before .before .behind .ensures,
+      c1 .second .given .1,
+      ← c .before .before .read-decimal2 .ensures,
+      c .enum-told3 .given .1,
+    )
 
 returns-4 : tie.Need-returns-4
 unfolding pairAt
-returns-4 c = rw (← c .before .before .before .before .before .before .before .before .before .before .before .before .read-decimal .ensures, c .before .before .before .before .before .before .before .before .before .before .place .given .1, ← c .before .before .before .before .before .before .before .behind .ensures, c .before .before .before .before .before .second .given .1, ← c .before .before .before .read-decimal2 .ensures, c .before .value .given .1)
+returns-4 c =
+    let c1 = c .before .before .before in
+    let c2 = c1 .before .before .before .before in
+    let c3 = c2 .before .before .before in
+    rw (
+      ← c3 .before .before .read-decimal .ensures,
+      c3 .place .given .1,
+      ← c2 .behind .ensures,
+      c1 .before .before .second .given .1,
+      ← c1 .read-decimal2 .ensures,
+      c .before .value .given .1,
+    )
 
 pub pair-at-spec : {M : Type 1} → statement M
 pair-at-spec =

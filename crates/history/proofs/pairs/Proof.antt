@@ -16,16 +16,33 @@ loop-holds : tie.Need-loop-holds Inv-loop μ-loop
 loop-holds c = rw (c .none .ensures) going-none
 
 returns : tie.Need-returns Inv-loop μ-loop
-returns c = going-wrong (c .before .before .before .before .loop .inv) (c .before .before .before .fitting .ensures) (c .before .enum-told .given .1) (c .wrong .ensures)
+returns c =
+    let c1 = c .before .before .before in
+    going-wrong (c1 .before .loop .inv) (c1 .fitting .ensures) (c .before .enum-told .given .1) (c .wrong .ensures)
 
 returns-2 : tie.Need-returns-2 Inv-loop μ-loop
-returns-2 c = going-end (c .before .before .before .before .before .before .before .before .loop .inv) (c .before .before .before .before .before .before .before .fitting .ensures) (c .before .before .before .before .before .place .given .1) (c .before .before .goes-on .ensures) (c .enum-told2 .given .1) (c .before .before .before .with-value .ensures)
+returns-2 c =
+    let c1 = c .before .before .before in
+    let c2 = c1 .before .before .before .before in
+    going-end (c2 .before .loop .inv) (c2 .fitting .ensures) (c1 .before .before .place .given .1)
+    (c .before .before .goes-on .ensures) (c .enum-told2 .given .1) (c1 .with-value .ensures)
 
 loop-less : tie.Need-loop-less Inv-loop μ-loop
-loop-less c = let less = going-less (c .before .before .before .before .before .before .before .before .before .loop .inv) (c .before .before .before .before .before .before .before .before .fitting .ensures) (c .before .before .before .before .before .before .place .given .1) (c .before .before .before .goes-on .ensures) (c .before .second .given .1) in let a = less .0 in let b = less .1 in omega arith
+loop-less c =
+    let c1 = c .before .before .before in
+    let c2 = c1 .before .before .before in
+    let less = going-less (c2 .before .before .before .loop .inv) (c2 .before .before .fitting .ensures) (c2 .place .given .1)
+    (c1 .goes-on .ensures) (c .before .second .given .1) in
+    let a = less .0 in
+    let b = less .1 in
+    omega arith
 
 loop-again : tie.Need-loop-again Inv-loop μ-loop
-loop-again c = going-turn (c .before .before .before .before .before .before .before .before .before .loop .inv) (c .before .before .before .before .before .before .before .before .fitting .ensures) (c .before .before .before .before .before .before .place .given .1) (c .before .before .before .goes-on .ensures) (c .before .second .given .1) (c .before .before .before .before .with-value .ensures)
+loop-again c =
+    let c1 = c .before .before .before in
+    let c2 = c1 .before .before .before in
+    going-turn (c2 .before .before .before .loop .inv) (c2 .before .before .fitting .ensures) (c2 .place .given .1)
+    (c1 .goes-on .ensures) (c .before .second .given .1) (c1 .before .with-value .ensures)
 
 pub pairs-spec : {M : Type 1} → statement M
 pairs-spec =

@@ -8,10 +8,24 @@ returns : tie.Need-returns
 returns c = c .without-lists .ensures ∙ rw (← c .before .before .before .read-decimal .ensures, c .before .enum-told .given .1)
 
 returns-2 : tie.Need-returns-2
-returns-2 c = c .without-lists2 .ensures ∙ rw (← c .before .before .before .before .before .read-decimal .ensures, c .before .before .before .value .given .1, eq-eqb _ _ (c .before .if1 .taken))
+returns-2 c =
+    let c1 = c .before .before .before in
+    c .without-lists2 .ensures ∙ rw (
+      ← c1 .before .before .read-decimal .ensures,
+      c1 .value .given .1,
+      eq-eqb _ _
+          (c .before .if1 .taken),
+    )
 
 returns-3 : tie.Need-returns-3
-returns-3 c = c .without-lists3 .ensures ∙ rw (← c .before .before .before .before .before .read-decimal .ensures, c .before .before .before .value .given .1, ne-eqb _ _ (c .before .if1 .left))
+returns-3 c =
+    let c1 = c .before .before .before in
+    c .without-lists3 .ensures ∙ rw (
+      ← c1 .before .before .read-decimal .ensures,
+      c1 .value .given .1,
+      ne-eqb _ _
+          (c .before .if1 .left),
+    )
 
 pub quiet-line-spec : {M : Type 1} → statement M
 quiet-line-spec =

@@ -10,15 +10,45 @@ returns c = c .tick-line .ensures ∙ rw (← c .before .before .before .before 
 
 returns-2 : tie.Need-returns-2
 unfolding readLine
-returns-2 c = c .quiet-line .ensures ∙ rw (← c .before .before .before .before .before .before .before .before .behind .ensures, c .before .before .before .before .before .before .enum-told .given .1, ← c .before .before .before .before .behind2 .ensures, c .before .before .at2 .given .1)
+returns-2 c =
+    let c1 = c .before .before .before .before in
+    c .quiet-line .ensures ∙ rw (
+      ← c1 .before .before .before .before .behind .ensures,
+      c1 .before .before .enum-told .given .1,
+      ←
+          c1 .behind2 .ensures,
+      c .before .before .at2 .given .1,
+    )
 
 returns-3 : tie.Need-returns-3
 unfolding readLine
-returns-3 c = c .begin-line .ensures ∙ rw (← c .before .before .before .before .before .before .before .before .before .before .before .before .behind .ensures, c .before .before .before .before .before .before .before .before .before .before .enum-told .given .1, ← c .before .before .before .before .before .before .before .before .behind2 .ensures, c .before .before .before .before .before .before .enum-told2 .given .1, ← c .before .before .before .before .behind3 .ensures, c .before .before .at3 .given .1)
+returns-3 c =
+    let c1 = c .before .before .before .before in
+    let c2 = c1 .before .before .before .before in
+    c .begin-line .ensures ∙ rw (
+      ← c2 .before .before .before .before .behind .ensures,
+      c2 .before .before .enum-told .given .1,
+      ←
+          c2 .behind2 .ensures,
+      c1 .before .before .enum-told2 .given .1,
+      ← c1 .behind3 .ensures,
+      c .before .before .at3 .given .1,
+    )
 
 returns-4 : tie.Need-returns-4
 unfolding readLine
-returns-4 c = c .without-lists .ensures ∙ rw (← c .before .before .before .before .before .before .before .before .before .before .before .behind .ensures, c .before .before .before .before .before .before .before .before .before .enum-told .given .1, ← c .before .before .before .before .before .before .before .behind2 .ensures, c .before .before .before .before .before .enum-told2 .given .1, ← c .before .before .before .behind3 .ensures, c .before .enum-told3 .given .1)
+returns-4 c =
+    let c1 = c .before .before .before in
+    let c2 = c1 .before .before .before .before in
+    c .without-lists .ensures ∙ rw (
+      ← c2 .before .before .before .before .behind .ensures,
+      c2 .before .before .enum-told .given .1,
+      ← c2 .behind2 .ensures,
+      c1 .before .before .enum-told2 .given .1,
+      ←
+          c1 .behind3 .ensures,
+      c .before .enum-told3 .given .1,
+    )
 
 pub read-line-spec : {M : Type 1} → statement M
 read-line-spec =

@@ -14,61 +14,178 @@ add-first : tie.Need-add-first
 add-first c = omega (arith, c .pre .0 .room, c .pre .1 .0, c .pre .1 .1)
 
 numbers-requires : tie.Need-numbers-requires
-numbers-requires c κs = (c .before .before .before .pre .0, omega (arith, c .before .before .before .pre .0 .room, c .before .before .before .pre .1 .0, c .before .before .before .pre .1 .1))
+numbers-requires c κs =
+    let start = c .before .before .before in
+    (start .pre .0, omega (arith, start .pre .0 .room, start .pre .1 .0, start .pre .1 .1))
 
 first-unnamed-requires : tie.Need-first-unnamed-requires
-first-unnamed-requires c κs = (omega (arith, c .before .before .before .before .before .pre .0 .room, c .before .before .before .before .before .pre .1 .0, c .before .before .before .before .before .pre .1 .1), omega (arith, c .before .before .before .before .before .pre .0 .room, c .before .before .before .before .before .pre .1 .0, c .before .before .before .before .before .pre .1 .1))
+first-unnamed-requires c κs =
+    let start = c .before .before .before .before .before in (
+      omega (arith, start .pre .0 .room, start .pre .1 .0, start .pre .1 .1),
+      omega (arith, start .pre .0 .room, start .pre .1 .0, start .pre .1 .1),
+    )
 
 add-t24 : tie.Need-add-t24
-add-t24 c = let w = spot-within (isNew (c .before .before .before .before .before .numbers .result) (c .before .before .before .before .before .before .before .before .before .args .frames)) (c .before .before .before .before .before .before .before .before .before .args .t1 .rows) (c .before .before .before .first-unnamed .ensures) (c .before .k .given .1) in omega (arith, w, c .before .before .before .before .before .before .before .before .before .pre .0 .room, c .before .before .before .before .before .before .before .before .before .pre .1 .0, c .before .before .before .before .before .before .before .before .before .pre .1 .1)
+add-t24 c =
+    let c1 = c .before .before .before in
+    let start = c1 .before .before .before .before .before .before in
+    let a = start .args in
+    let w = spot-within (isNew (c1 .before .before .numbers .result) (a .frames)) (a .t1 .rows) (c1 .first-unnamed .ensures)
+    (c .before .k .given .1) in
+    omega (arith, w, start .pre .0 .room, start .pre .1 .0, start .pre .1 .1)
 
 returns : tie.Need-returns
-returns c = judged-23 (now (c .before .before .before .before .before .before .before .before .before .before .args .tasks)) (now (c .before .before .before .before .before .before .before .before .before .before .args .releases)) (now (c .before .before .before .before .before .before .before .before .before .before .args .deadlines)) (now (c .before .before .before .before .before .before .before .before .before .before .args .times)) (c .before .before .before .before .before .before .before .before .before .before .args .frames) (c .before .before .before .before .before .before .before .before .before .before .pre .0) (c .before .before .before .before .before .before .before .before .before .before .args .bounds) (c .before .before .before .before .before .before .before .before .before .before .args .t1) (omega (arith, c .before .before .before .before .before .before .before .before .before .before .pre .0 .room, c .before .before .before .before .before .before .before .before .before .before .pre .1 .0, c .before .before .before .before .before .before .before .before .before .before .pre .1 .1)) (c .before .before .before .before .before .before .numbers .ensures) (c .before .before .before .before .first-unnamed .ensures) (c .before .before .k .given .1) (c .refused .ensures)
+returns c =
+    let c1 = c .before .before .before .before in
+    let start = c1 .before .before .before .before .before .before in
+    let a = start .args in
+    judged-23 (now (a .tasks)) (now (a .releases)) (now (a .deadlines)) (now (a .times)) (a .frames) (start .pre .0) (a .bounds)
+    (a .t1) (omega (arith, start .pre .0 .room, start .pre .1 .0, start .pre .1 .1)) (c1 .before .before .numbers .ensures)
+    (c1 .first-unnamed .ensures) (c .before .before .k .given .1) (c .refused .ensures)
 
 first-mistimed-requires : tie.Need-first-mistimed-requires
-first-mistimed-requires c κs = omega (arith, c .before .before .before .before .before .before .before .before .before .before .before .before .pre .0 .room, c .before .before .before .before .before .before .before .before .before .before .before .before .pre .1 .0, c .before .before .before .before .before .before .before .before .before .before .before .before .pre .1 .1)
+first-mistimed-requires c κs =
+    let start = c .before .before .before .before .before .before .before .before .before .before .before .before in
+    omega (arith, start .pre .0 .room, start .pre .1 .0, start .pre .1 .1)
 
 add-t31 : tie.Need-add-t31
-add-t31 c = let w = spot-within (timeKept (c .before .before .before .before .before .before .before .before .before .before .before .before .before .before .before .before .args .t1 .tasks) (c .before .before .before .before .before .before .before .before .before .before .before .before .before .before .before .before .args .t1 .starts) (c .before .before .before .before .before .before .before .before .before .before .before .before .before .before .before .before .args .t1 .stops) (now (c .before .before .before .before .before .before .before .before .before .before .before .before .before .before .before .before .args .times)) (c .before .before .before .before .before .before .before .before .before .before .before .before .before .before .before .before .args .bounds .resolution .0)) (c .before .before .before .before .before .before .before .before .before .before .before .before .before .before .before .before .args .t1 .rows) (c .before .before .before .first-mistimed .ensures) (c .before .k2 .given .1) in omega (arith, w, c .before .before .before .before .before .before .before .before .before .before .before .before .before .before .before .before .pre .0 .room, c .before .before .before .before .before .before .before .before .before .before .before .before .before .before .before .before .pre .1 .0, c .before .before .before .before .before .before .before .before .before .before .before .before .before .before .before .before .pre .1 .1)
+add-t31 c =
+    let c1 = c .before .before .before in
+    let start = c1 .before .before .before .before .before .before .before .before .before .before .before .before .before in
+    let a = start .args in
+    let w = spot-within (timeKept (a .t1 .tasks) (a .t1 .starts) (a .t1 .stops) (now (a .times)) (a .bounds .resolution .0))
+    (a .t1 .rows) (c1 .first-mistimed .ensures) (c .before .k2 .given .1) in
+    omega (arith, w, start .pre .0 .room, start .pre .1 .0, start .pre .1 .1)
 
 returns-2 : tie.Need-returns-2
-returns-2 c = judged-24 (now (c .before .before .before .before .before .before .before .before .before .before .before .before .before .before .before .before .before .args .tasks)) (now (c .before .before .before .before .before .before .before .before .before .before .before .before .before .before .before .before .before .args .releases)) (now (c .before .before .before .before .before .before .before .before .before .before .before .before .before .before .before .before .before .args .deadlines)) (now (c .before .before .before .before .before .before .before .before .before .before .before .before .before .before .before .before .before .args .times)) (c .before .before .before .before .before .before .before .before .before .before .before .before .before .before .before .before .before .args .frames) (c .before .before .before .before .before .before .before .before .before .before .before .before .before .before .before .before .before .pre .0) (c .before .before .before .before .before .before .before .before .before .before .before .before .before .before .before .before .before .args .bounds) (c .before .before .before .before .before .before .before .before .before .before .before .before .before .before .before .before .before .args .t1) (omega (arith, c .before .before .before .before .before .before .before .before .before .before .before .before .before .before .before .before .before .pre .0 .room, c .before .before .before .before .before .before .before .before .before .before .before .before .before .before .before .before .before .pre .1 .0, c .before .before .before .before .before .before .before .before .before .before .before .before .before .before .before .before .before .pre .1 .1)) (c .before .before .before .before .before .before .before .before .before .before .before .before .before .numbers .ensures) (c .before .before .before .before .before .before .before .before .before .before .before .first-unnamed .ensures) (c .before .before .before .before .before .before .before .before .before .enum-told .given .1) (c .before .before .before .before .first-mistimed .ensures) (c .before .before .k2 .given .1) (c .refused2 .ensures)
+returns-2 c =
+    let c1 = c .before .before .before .before in
+    let c2 = c1 .before .before .before .before .before in
+    let c3 = c2 .before .before .before .before in
+    let start = c3 .before .before .before .before in
+    let a = start .args in
+    judged-24 (now (a .tasks)) (now (a .releases)) (now (a .deadlines)) (now (a .times)) (a .frames) (start .pre .0) (a .bounds)
+    (a .t1) (omega (arith, start .pre .0 .room, start .pre .1 .0, start .pre .1 .1)) (c3 .numbers .ensures)
+    (c2 .before .before .first-unnamed .ensures) (c2 .enum-told .given .1) (c1 .first-mistimed .ensures)
+    (c .before .before .k2 .given .1) (c .refused2 .ensures)
 
 first-early-requires : tie.Need-first-early-requires
-first-early-requires c κs = omega (arith, c .before .before .before .before .before .before .before .before .before .before .before .before .before .before .before .before .before .before .pre .0 .room, c .before .before .before .before .before .before .before .before .before .before .before .before .before .before .before .before .before .before .pre .1 .0, c .before .before .before .before .before .before .before .before .before .before .before .before .before .before .before .before .before .before .pre .1 .1)
+first-early-requires c κs =
+    let start = c .before .before .before .before .before .before .before .before .before .before .before .before .before .before .before .before .before .before in
+    omega (arith, start .pre .0 .room, start .pre .1 .0, start .pre .1 .1)
 
 add-t37 : tie.Need-add-t37
-add-t37 c = let w = spot-within (releaseKept (c .before .before .before .before .before .before .before .before .before .before .before .before .before .before .before .before .before .before .before .before .before .before .args .t1 .starts) (now (c .before .before .before .before .before .before .before .before .before .before .before .before .before .before .before .before .before .before .before .before .before .before .args .releases)) (c .before .before .before .before .before .before .before .before .before .before .before .before .before .before .before .before .before .before .numbers .result)) (c .before .before .before .before .before .before .before .before .before .before .before .before .before .before .before .before .before .before .before .before .before .before .args .t1 .rows) (c .before .before .before .first-early .ensures) (c .before .k3 .given .1) in omega (arith, w, c .before .before .before .before .before .before .before .before .before .before .before .before .before .before .before .before .before .before .before .before .before .before .pre .0 .room, c .before .before .before .before .before .before .before .before .before .before .before .before .before .before .before .before .before .before .before .before .before .before .pre .1 .0, c .before .before .before .before .before .before .before .before .before .before .before .before .before .before .before .before .before .before .before .before .before .before .pre .1 .1)
+add-t37 c =
+    let c1 = c .before .before .before in
+    let c2 = c1 .before .before .before .before .before .before .before .before .before .before .before .before .before .before .before in
+    let start = c2 .before .before .before .before in
+    let a = start .args in
+    let w = spot-within (releaseKept (a .t1 .starts) (now (a .releases)) (c2 .numbers .result)) (a .t1 .rows)
+    (c1 .first-early .ensures) (c .before .k3 .given .1) in
+    omega (arith, w, start .pre .0 .room, start .pre .1 .0, start .pre .1 .1)
 
 returns-3 : tie.Need-returns-3
-returns-3 c = judged-25 (now (c .before .before .before .before .before .before .before .before .before .before .before .before .before .before .before .before .before .before .before .before .before .before .before .args .tasks)) (now (c .before .before .before .before .before .before .before .before .before .before .before .before .before .before .before .before .before .before .before .before .before .before .before .args .releases)) (now (c .before .before .before .before .before .before .before .before .before .before .before .before .before .before .before .before .before .before .before .before .before .before .before .args .deadlines)) (now (c .before .before .before .before .before .before .before .before .before .before .before .before .before .before .before .before .before .before .before .before .before .before .before .args .times)) (c .before .before .before .before .before .before .before .before .before .before .before .before .before .before .before .before .before .before .before .before .before .before .before .args .frames) (c .before .before .before .before .before .before .before .before .before .before .before .before .before .before .before .before .before .before .before .before .before .before .before .pre .0) (c .before .before .before .before .before .before .before .before .before .before .before .before .before .before .before .before .before .before .before .before .before .before .before .args .bounds) (c .before .before .before .before .before .before .before .before .before .before .before .before .before .before .before .before .before .before .before .before .before .before .before .args .t1) (omega (arith, c .before .before .before .before .before .before .before .before .before .before .before .before .before .before .before .before .before .before .before .before .before .before .before .pre .0 .room, c .before .before .before .before .before .before .before .before .before .before .before .before .before .before .before .before .before .before .before .before .before .before .before .pre .1 .0, c .before .before .before .before .before .before .before .before .before .before .before .before .before .before .before .before .before .before .before .before .before .before .before .pre .1 .1)) (c .before .before .before .before .before .before .before .before .before .before .before .before .before .before .before .before .before .before .before .numbers .ensures) (c .before .before .before .before .before .before .before .before .before .before .before .before .before .before .before .before .before .first-unnamed .ensures) (c .before .before .before .before .before .before .before .before .before .before .before .before .before .before .before .enum-told .given .1) (c .before .before .before .before .before .before .before .before .before .before .first-mistimed .ensures) (c .before .before .before .before .before .before .before .before .enum-told2 .given .1) (c .before .before .before .before .first-early .ensures) (c .before .before .k3 .given .1) (c .refused3 .ensures)
+returns-3 c =
+    let c1 = c .before .before .before .before in
+    let c2 = c1 .before .before .before .before in
+    let c3 = c2 .before .before .before .before .before .before .before in
+    let c4 = c3 .before .before .before .before in
+    let start = c4 .before .before .before .before in
+    let a = start .args in
+    judged-25 (now (a .tasks)) (now (a .releases)) (now (a .deadlines)) (now (a .times)) (a .frames) (start .pre .0) (a .bounds)
+    (a .t1) (omega (arith, start .pre .0 .room, start .pre .1 .0, start .pre .1 .1)) (c4 .numbers .ensures)
+    (c3 .before .before .first-unnamed .ensures) (c3 .enum-told .given .1) (c2 .before .before .first-mistimed .ensures)
+    (c2 .enum-told2 .given .1) (c1 .first-early .ensures) (c .before .before .k3 .given .1) (c .refused3 .ensures)
 
 first-late-requires : tie.Need-first-late-requires
-first-late-requires c κs = omega (arith, c .before .before .before .before .before .before .before .before .before .before .before .before .before .before .before .before .before .before .before .before .before .before .before .before .pre .0 .room, c .before .before .before .before .before .before .before .before .before .before .before .before .before .before .before .before .before .before .before .before .before .before .before .before .pre .1 .0, c .before .before .before .before .before .before .before .before .before .before .before .before .before .before .before .before .before .before .before .before .before .before .before .before .pre .1 .1)
+first-late-requires c κs =
+    let start = c .before .before .before .before .before .before .before .before .before .before .before .before .before .before .before .before .before .before .before .before .before .before .before .before in
+    omega (arith, start .pre .0 .room, start .pre .1 .0, start .pre .1 .1)
 
 add-t43 : tie.Need-add-t43
-add-t43 c = let w = spot-within (dueKept (c .before .before .before .before .before .before .before .before .before .before .before .before .before .before .before .before .before .before .before .before .before .before .before .before .before .before .before .before .args .t1 .stops) (c .before .before .before .before .before .before .before .before .before .before .before .before .before .before .before .before .before .before .before .before .before .before .before .before .before .before .before .before .args .t1 .deadlines)) (c .before .before .before .before .before .before .before .before .before .before .before .before .before .before .before .before .before .before .before .before .before .before .before .before .before .before .before .before .args .t1 .rows) (c .before .before .before .first-late .ensures) (c .before .k4 .given .1) in omega (arith, w, c .before .before .before .before .before .before .before .before .before .before .before .before .before .before .before .before .before .before .before .before .before .before .before .before .before .before .before .before .pre .0 .room, c .before .before .before .before .before .before .before .before .before .before .before .before .before .before .before .before .before .before .before .before .before .before .before .before .before .before .before .before .pre .1 .0, c .before .before .before .before .before .before .before .before .before .before .before .before .before .before .before .before .before .before .before .before .before .before .before .before .before .before .before .before .pre .1 .1)
+add-t43 c =
+    let c1 = c .before .before .before in
+    let start = c1 .before .before .before .before .before .before .before .before .before .before .before .before .before .before .before .before .before .before .before .before .before .before .before .before .before in
+    let a = start .args in
+    let w = spot-within (dueKept (a .t1 .stops) (a .t1 .deadlines)) (a .t1 .rows) (c1 .first-late .ensures)
+    (c .before .k4 .given .1) in
+    omega (arith, w, start .pre .0 .room, start .pre .1 .0, start .pre .1 .1)
 
 returns-4 : tie.Need-returns-4
-returns-4 c = judged-26 (now (c .before .before .before .before .before .before .before .before .before .before .before .before .before .before .before .before .before .before .before .before .before .before .before .before .before .before .before .before .before .args .tasks)) (now (c .before .before .before .before .before .before .before .before .before .before .before .before .before .before .before .before .before .before .before .before .before .before .before .before .before .before .before .before .before .args .releases)) (now (c .before .before .before .before .before .before .before .before .before .before .before .before .before .before .before .before .before .before .before .before .before .before .before .before .before .before .before .before .before .args .deadlines)) (now (c .before .before .before .before .before .before .before .before .before .before .before .before .before .before .before .before .before .before .before .before .before .before .before .before .before .before .before .before .before .args .times)) (c .before .before .before .before .before .before .before .before .before .before .before .before .before .before .before .before .before .before .before .before .before .before .before .before .before .before .before .before .before .args .frames) (c .before .before .before .before .before .before .before .before .before .before .before .before .before .before .before .before .before .before .before .before .before .before .before .before .before .before .before .before .before .pre .0) (c .before .before .before .before .before .before .before .before .before .before .before .before .before .before .before .before .before .before .before .before .before .before .before .before .before .before .before .before .before .args .bounds) (c .before .before .before .before .before .before .before .before .before .before .before .before .before .before .before .before .before .before .before .before .before .before .before .before .before .before .before .before .before .args .t1) (omega (arith, c .before .before .before .before .before .before .before .before .before .before .before .before .before .before .before .before .before .before .before .before .before .before .before .before .before .before .before .before .before .pre .0 .room, c .before .before .before .before .before .before .before .before .before .before .before .before .before .before .before .before .before .before .before .before .before .before .before .before .before .before .before .before .before .pre .1 .0, c .before .before .before .before .before .before .before .before .before .before .before .before .before .before .before .before .before .before .before .before .before .before .before .before .before .before .before .before .before .pre .1 .1)) (c .before .before .before .before .before .before .before .before .before .before .before .before .before .before .before .before .before .before .before .before .before .before .before .before .before .numbers .ensures) (c .before .before .before .before .before .before .before .before .before .before .before .before .before .before .before .before .before .before .before .before .before .before .before .first-unnamed .ensures) (c .before .before .before .before .before .before .before .before .before .before .before .before .before .before .before .before .before .before .before .before .before .enum-told .given .1) (c .before .before .before .before .before .before .before .before .before .before .before .before .before .before .before .before .first-mistimed .ensures) (c .before .before .before .before .before .before .before .before .before .before .before .before .before .before .enum-told2 .given .1) (c .before .before .before .before .before .before .before .before .before .before .first-early .ensures) (c .before .before .before .before .before .before .before .before .enum-told3 .given .1) (c .before .before .before .before .first-late .ensures) (c .before .before .k4 .given .1) (c .refused4 .ensures)
+returns-4 c =
+    let c1 = c .before .before .before .before in
+    let c2 = c1 .before .before .before .before in
+    let c3 = c2 .before .before .before .before .before .before in
+    let c4 = c3 .before .before .before .before .before .before .before in
+    let c5 = c4 .before .before .before .before in
+    let start = c5 .before .before .before .before in
+    let a = start .args in
+    judged-26 (now (a .tasks)) (now (a .releases)) (now (a .deadlines)) (now (a .times)) (a .frames) (start .pre .0) (a .bounds)
+    (a .t1) (omega (arith, start .pre .0 .room, start .pre .1 .0, start .pre .1 .1)) (c5 .numbers .ensures)
+    (c4 .before .before .first-unnamed .ensures) (c4 .enum-told .given .1) (c3 .before .before .first-mistimed .ensures)
+    (c3 .enum-told2 .given .1) (c2 .before .before .first-early .ensures) (c2 .enum-told3 .given .1) (c1 .first-late .ensures)
+    (c .before .before .k4 .given .1) (c .refused4 .ensures)
 
 last-stop-requires : tie.Need-last-stop-requires
-last-stop-requires c κs = omega (arith, c .before .before .before .before .before .before .before .before .before .before .before .before .before .before .before .before .before .before .before .before .before .before .before .before .before .before .before .before .before .pre .0 .room, c .before .before .before .before .before .before .before .before .before .before .before .before .before .before .before .before .before .before .before .before .before .before .before .before .before .before .before .before .before .pre .1 .0, c .before .before .before .before .before .before .before .before .before .before .before .before .before .before .before .before .before .before .before .before .before .before .before .before .before .before .before .before .before .pre .1 .1)
+last-stop-requires c κs =
+    let start = c .before .before .before .before .before .before .before .before .before .before .before .before .before .before .before .before .before .before .before .before .before .before .before .before .before .before .before .before .before in
+    omega (arith, start .pre .0 .room, start .pre .1 .0, start .pre .1 .1)
 
 first-crowded-requires : tie.Need-first-crowded-requires
-first-crowded-requires c κs = omega (arith, c .before .before .before .before .before .before .before .before .before .before .before .before .before .before .before .before .before .before .before .before .before .before .before .before .before .before .before .before .before .before .before .before .before .pre .0 .room, c .before .before .before .before .before .before .before .before .before .before .before .before .before .before .before .before .before .before .before .before .before .before .before .before .before .before .before .before .before .before .before .before .before .pre .1 .0, c .before .before .before .before .before .before .before .before .before .before .before .before .before .before .before .before .before .before .before .before .before .before .before .before .before .before .before .before .before .before .before .before .before .pre .1 .1)
+first-crowded-requires c κs =
+    let start = c .before .before .before .before .before .before .before .before .before .before .before .before .before .before .before .before .before .before .before .before .before .before .before .before .before .before .before .before .before .before .before .before .before in
+    omega (arith, start .pre .0 .room, start .pre .1 .0, start .pre .1 .1)
 
 add-t50 : tie.Need-add-t50
-add-t50 c = let w = spot-within (gapKept (c .before .before .before .before .before .before .before .before .before .before .before .before .before .before .before .before .before .before .before .before .before .before .before .before .before .before .before .before .before .before .before .before .before .before .before .before .before .args .t1 .starts) (c .before .before .before .before .before .before .before .before .before .before .before .before .before .before .before .before .before .before .before .before .before .before .before .before .before .before .before .before .before .before .before .before .before .before .before .before .before .args .t1 .stops) (c .before .before .before .before .before .before .before .last-stop .result) (c .before .before .before .before .before .before .before .before .before .before .before .before .before .before .before .before .before .before .before .before .before .before .before .before .before .before .before .before .before .before .before .before .before .before .before .before .before .args .bounds .gap .0)) (c .before .before .before .before .before .before .before .before .before .before .before .before .before .before .before .before .before .before .before .before .before .before .before .before .before .before .before .before .before .before .before .before .before .before .before .before .before .args .t1 .rows) (c .before .before .before .first-crowded .ensures) (c .before .k5 .given .1) in omega (arith, w, c .before .before .before .before .before .before .before .before .before .before .before .before .before .before .before .before .before .before .before .before .before .before .before .before .before .before .before .before .before .before .before .before .before .before .before .before .before .pre .0 .room, c .before .before .before .before .before .before .before .before .before .before .before .before .before .before .before .before .before .before .before .before .before .before .before .before .before .before .before .before .before .before .before .before .before .before .before .before .before .pre .1 .0, c .before .before .before .before .before .before .before .before .before .before .before .before .before .before .before .before .before .before .before .before .before .before .before .before .before .before .before .before .before .before .before .before .before .before .before .before .before .pre .1 .1)
+add-t50 c =
+    let c1 = c .before .before .before in
+    let c2 = c1 .before .before .before .before in
+    let start = c2 .before .before .before .before .before .before .before .before .before .before .before .before .before .before .before .before .before .before .before .before .before .before .before .before .before .before .before .before .before .before in
+    let a = start .args in
+    let w = spot-within (gapKept (a .t1 .starts) (a .t1 .stops) (c2 .last-stop .result) (a .bounds .gap .0)) (a .t1 .rows)
+    (c1 .first-crowded .ensures) (c .before .k5 .given .1) in
+    omega (arith, w, start .pre .0 .room, start .pre .1 .0, start .pre .1 .1)
 
 returns-5 : tie.Need-returns-5
-returns-5 c = judged-27 (now (c .before .before .before .before .before .before .before .before .before .before .before .before .before .before .before .before .before .before .before .before .before .before .before .before .before .before .before .before .before .before .before .before .before .before .before .before .before .before .args .tasks)) (now (c .before .before .before .before .before .before .before .before .before .before .before .before .before .before .before .before .before .before .before .before .before .before .before .before .before .before .before .before .before .before .before .before .before .before .before .before .before .before .args .releases)) (now (c .before .before .before .before .before .before .before .before .before .before .before .before .before .before .before .before .before .before .before .before .before .before .before .before .before .before .before .before .before .before .before .before .before .before .before .before .before .before .args .deadlines)) (now (c .before .before .before .before .before .before .before .before .before .before .before .before .before .before .before .before .before .before .before .before .before .before .before .before .before .before .before .before .before .before .before .before .before .before .before .before .before .before .args .times)) (c .before .before .before .before .before .before .before .before .before .before .before .before .before .before .before .before .before .before .before .before .before .before .before .before .before .before .before .before .before .before .before .before .before .before .before .before .before .before .args .frames) (c .before .before .before .before .before .before .before .before .before .before .before .before .before .before .before .before .before .before .before .before .before .before .before .before .before .before .before .before .before .before .before .before .before .before .before .before .before .before .pre .0) (c .before .before .before .before .before .before .before .before .before .before .before .before .before .before .before .before .before .before .before .before .before .before .before .before .before .before .before .before .before .before .before .before .before .before .before .before .before .before .args .bounds) (c .before .before .before .before .before .before .before .before .before .before .before .before .before .before .before .before .before .before .before .before .before .before .before .before .before .before .before .before .before .before .before .before .before .before .before .before .before .before .args .t1) (omega (arith, c .before .before .before .before .before .before .before .before .before .before .before .before .before .before .before .before .before .before .before .before .before .before .before .before .before .before .before .before .before .before .before .before .before .before .before .before .before .before .pre .0 .room, c .before .before .before .before .before .before .before .before .before .before .before .before .before .before .before .before .before .before .before .before .before .before .before .before .before .before .before .before .before .before .before .before .before .before .before .before .before .before .pre .1 .0, c .before .before .before .before .before .before .before .before .before .before .before .before .before .before .before .before .before .before .before .before .before .before .before .before .before .before .before .before .before .before .before .before .before .before .before .before .before .before .pre .1 .1)) (c .before .before .before .before .before .before .before .before .before .before .before .before .before .before .before .before .before .before .before .before .before .before .before .before .before .before .before .before .before .before .before .before .before .before .numbers .ensures) (c .before .before .before .before .before .before .before .before .before .before .before .before .before .before .before .before .before .before .before .before .before .before .before .before .before .before .before .before .before .before .before .before .first-unnamed .ensures) (c .before .before .before .before .before .before .before .before .before .before .before .before .before .before .before .before .before .before .before .before .before .before .before .before .before .before .before .before .before .before .enum-told .given .1) (c .before .before .before .before .before .before .before .before .before .before .before .before .before .before .before .before .before .before .before .before .before .before .before .before .before .first-mistimed .ensures) (c .before .before .before .before .before .before .before .before .before .before .before .before .before .before .before .before .before .before .before .before .before .before .before .enum-told2 .given .1) (c .before .before .before .before .before .before .before .before .before .before .before .before .before .before .before .before .before .before .before .first-early .ensures) (c .before .before .before .before .before .before .before .before .before .before .before .before .before .before .before .before .before .enum-told3 .given .1) (c .before .before .before .before .before .before .before .before .before .before .before .before .before .first-late .ensures) (c .before .before .before .before .before .before .before .before .before .before .before .enum-told4 .given .1) (c .before .before .before .before .before .before .before .before .last-stop .ensures) (c .before .before .before .before .first-crowded .ensures) (c .before .before .k5 .given .1) (c .refused5 .ensures)
+returns-5 c =
+    let c1 = c .before .before .before .before in
+    let c2 = c1 .before .before .before .before in
+    let c3 = c2 .before .before .before in
+    let c4 = c3 .before .before .before .before .before .before in
+    let c5 = c4 .before .before .before .before .before .before in
+    let c6 = c5 .before .before .before .before .before .before .before in
+    let c7 = c6 .before .before .before .before in
+    let start = c7 .before .before .before .before in
+    let a = start .args in
+    judged-27 (now (a .tasks)) (now (a .releases)) (now (a .deadlines)) (now (a .times)) (a .frames) (start .pre .0) (a .bounds)
+    (a .t1) (omega (arith, start .pre .0 .room, start .pre .1 .0, start .pre .1 .1)) (c7 .numbers .ensures)
+    (c6 .before .before .first-unnamed .ensures) (c6 .enum-told .given .1) (c5 .before .before .first-mistimed .ensures)
+    (c5 .enum-told2 .given .1) (c4 .before .before .first-early .ensures) (c4 .enum-told3 .given .1)
+    (c3 .before .before .first-late .ensures) (c3 .enum-told4 .given .1) (c2 .last-stop .ensures) (c1 .first-crowded .ensures)
+    (c .before .before .k5 .given .1) (c .refused5 .ensures)
 
 starts-by-frame-requires : tie.Need-starts-by-frame-requires
-starts-by-frame-requires c κs = omega (arith, c .before .before .before .before .before .before .before .before .before .before .before .before .before .before .before .before .before .before .before .before .before .before .before .before .before .before .before .before .before .before .before .before .before .before .before .before .before .before .before .pre .0 .room, c .before .before .before .before .before .before .before .before .before .before .before .before .before .before .before .before .before .before .before .before .before .before .before .before .before .before .before .before .before .before .before .before .before .before .before .before .before .before .before .pre .1 .0, c .before .before .before .before .before .before .before .before .before .before .before .before .before .before .before .before .before .before .before .before .before .before .before .before .before .before .before .before .before .before .before .before .before .before .before .before .before .before .before .pre .1 .1)
+starts-by-frame-requires c κs =
+    let start = c .before .before .before .before .before .before .before .before .before .before .before .before .before .before .before .before .before .before .before .before .before .before .before .before .before .before .before .before .before .before .before .before .before .before .before .before .before .before .before in
+    omega (arith, start .pre .0 .room, start .pre .1 .0, start .pre .1 .1)
 
 returns-6 : tie.Need-returns-6
-returns-6 c = judged-passed (now (c .before .before .before .before .before .before .before .before .before .before .before .before .before .before .before .before .before .before .before .before .before .before .before .before .before .before .before .before .before .before .before .before .before .before .before .before .before .before .before .before .args .tasks)) (now (c .before .before .before .before .before .before .before .before .before .before .before .before .before .before .before .before .before .before .before .before .before .before .before .before .before .before .before .before .before .before .before .before .before .before .before .before .before .before .before .before .args .releases)) (now (c .before .before .before .before .before .before .before .before .before .before .before .before .before .before .before .before .before .before .before .before .before .before .before .before .before .before .before .before .before .before .before .before .before .before .before .before .before .before .before .before .args .deadlines)) (now (c .before .before .before .before .before .before .before .before .before .before .before .before .before .before .before .before .before .before .before .before .before .before .before .before .before .before .before .before .before .before .before .before .before .before .before .before .before .before .before .before .args .times)) (c .before .before .before .before .before .before .before .before .before .before .before .before .before .before .before .before .before .before .before .before .before .before .before .before .before .before .before .before .before .before .before .before .before .before .before .before .before .before .before .before .args .frames) (c .before .before .before .before .before .before .before .before .before .before .before .before .before .before .before .before .before .before .before .before .before .before .before .before .before .before .before .before .before .before .before .before .before .before .before .before .before .before .before .before .pre .0) (c .before .before .before .before .before .before .before .before .before .before .before .before .before .before .before .before .before .before .before .before .before .before .before .before .before .before .before .before .before .before .before .before .before .before .before .before .before .before .before .before .args .bounds) (c .before .before .before .before .before .before .before .before .before .before .before .before .before .before .before .before .before .before .before .before .before .before .before .before .before .before .before .before .before .before .before .before .before .before .before .before .before .before .before .before .args .t1) (omega (arith, c .before .before .before .before .before .before .before .before .before .before .before .before .before .before .before .before .before .before .before .before .before .before .before .before .before .before .before .before .before .before .before .before .before .before .before .before .before .before .before .before .pre .0 .room, c .before .before .before .before .before .before .before .before .before .before .before .before .before .before .before .before .before .before .before .before .before .before .before .before .before .before .before .before .before .before .before .before .before .before .before .before .before .before .before .before .pre .1 .0, c .before .before .before .before .before .before .before .before .before .before .before .before .before .before .before .before .before .before .before .before .before .before .before .before .before .before .before .before .before .before .before .before .before .before .before .before .before .before .before .before .pre .1 .1)) (c .before .before .before .before .before .before .before .before .before .before .before .before .before .before .before .before .before .before .before .before .before .before .before .before .before .before .before .before .before .before .before .before .before .before .before .before .numbers .ensures) (c .before .before .before .before .before .before .before .before .before .before .before .before .before .before .before .before .before .before .before .before .before .before .before .before .before .before .before .before .before .before .before .before .before .before .first-unnamed .ensures) (c .before .before .before .before .before .before .before .before .before .before .before .before .before .before .before .before .before .before .before .before .before .before .before .before .before .before .before .before .before .before .before .before .enum-told .given .1) (c .before .before .before .before .before .before .before .before .before .before .before .before .before .before .before .before .before .before .before .before .before .before .before .before .before .before .before .first-mistimed .ensures) (c .before .before .before .before .before .before .before .before .before .before .before .before .before .before .before .before .before .before .before .before .before .before .before .before .before .enum-told2 .given .1) (c .before .before .before .before .before .before .before .before .before .before .before .before .before .before .before .before .before .before .before .before .before .first-early .ensures) (c .before .before .before .before .before .before .before .before .before .before .before .before .before .before .before .before .before .before .before .enum-told3 .given .1) (c .before .before .before .before .before .before .before .before .before .before .before .before .before .before .before .first-late .ensures) (c .before .before .before .before .before .before .before .before .before .before .before .before .before .enum-told4 .given .1) (c .before .before .before .before .before .before .before .before .before .before .last-stop .ensures) (c .before .before .before .before .before .before .first-crowded .ensures) (c .before .before .before .before .enum-told5 .given .1) refl (c .starts-by-frame .ensures)
+returns-6 c =
+    let c1 = c .before .before .before .before in
+    let c2 = c1 .before .before .before .before .before .before in
+    let c3 = c2 .before .before .before in
+    let c4 = c3 .before .before .before .before .before .before in
+    let c5 = c4 .before .before .before .before .before .before in
+    let c6 = c5 .before .before .before .before .before .before .before in
+    let c7 = c6 .before .before .before .before in
+    let start = c7 .before .before .before .before in
+    let a = start .args in
+    judged-passed (now (a .tasks)) (now (a .releases)) (now (a .deadlines)) (now (a .times)) (a .frames) (start .pre .0)
+    (a .bounds) (a .t1) (omega (arith, start .pre .0 .room, start .pre .1 .0, start .pre .1 .1)) (c7 .numbers .ensures)
+    (c6 .before .before .first-unnamed .ensures) (c6 .enum-told .given .1) (c5 .before .before .first-mistimed .ensures)
+    (c5 .enum-told2 .given .1) (c4 .before .before .first-early .ensures) (c4 .enum-told3 .given .1)
+    (c3 .before .before .first-late .ensures) (c3 .enum-told4 .given .1) (c2 .last-stop .ensures)
+    (c1 .before .before .first-crowded .ensures) (c1 .enum-told5 .given .1) refl (c .starts-by-frame .ensures)
 
 pub by-rows-spec : {M : Type 1} → statement M
 by-rows-spec =

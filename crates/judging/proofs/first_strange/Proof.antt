@@ -17,7 +17,8 @@ use Rattle.judging.proofs.first_strange.Statement.{statement}
 use Rattle.judging.proofs.first_strange.Tie as tie
 
 abbrev Inv-loop : tie.InvT-loop
-Inv-loop nodes begins ends senders opens closes controls k₀ k = (k ≤ controls) × (firstBad (controlsSame (controlIn nodes begins ends) (controlIn senders opens closes)) (upTo k) ≡ none)
+Inv-loop nodes begins ends senders opens closes controls k₀ k =
+    (k ≤ controls) × (firstBad (controlsSame (controlIn nodes begins ends) (controlIn senders opens closes)) (upTo k) ≡ none)
 
 abbrev μ-loop : tie.MeasureT-loop
 μ-loop nodes begins ends senders opens closes controls k₀ k = controls - k
@@ -27,14 +28,31 @@ loop-holds c = (search needs, refl)
 
 returns : tie.Need-returns Inv-loop μ-loop
 unfolding controlsSame sameControl controlIn
-returns c = scan-hit (controlsSame (controlIn (now (c .before .before .before .before .before .before .before .before .before .before .args .nodes)) (now (c .before .before .before .before .before .before .before .before .before .before .args .begins)) (now (c .before .before .before .before .before .before .before .before .before .before .args .ends))) (controlIn (now (c .before .before .before .before .before .before .before .before .before .before .args .senders)) (now (c .before .before .before .before .before .before .before .before .before .before .args .opens)) (now (c .before .before .before .before .before .before .before .before .before .before .args .closes)))) (c .before .before .before .before .before .before .before .before .before .loop .inv .1) (c .before .before .before .before .before .before .before .before .loop-test .taken) (sym (c .before .same-control .ensures) ∙ not-true _ (c .if1 .taken))
+returns c =
+    let c1 = c .before .before .before .before .before .before .before .before in
+    let a = c1 .before .before .args in
+    scan-hit (controlsSame (controlIn (now (a .nodes)) (now (a .begins)) (now (a .ends)))
+    (controlIn (now (a .senders)) (now (a .opens)) (now (a .closes)))) (c1 .before .loop .inv .1) (c1 .loop-test .taken)
+    (sym (c .before .same-control .ensures) ∙ not-true _ (c .if1 .taken))
 
 loop-again : tie.Need-loop-again Inv-loop μ-loop
 unfolding controlsSame sameControl controlIn
-loop-again c = (omega (arith, c .before .before .before .before .before .before .before .before .loop-test .taken), firstBad-upTo-more (controlsSame (controlIn (now (c .before .before .before .before .before .before .before .before .before .before .args .nodes)) (now (c .before .before .before .before .before .before .before .before .before .before .args .begins)) (now (c .before .before .before .before .before .before .before .before .before .before .args .ends))) (controlIn (now (c .before .before .before .before .before .before .before .before .before .before .args .senders)) (now (c .before .before .before .before .before .before .before .before .before .before .args .opens)) (now (c .before .before .before .before .before .before .before .before .before .before .args .closes)))) _ (c .before .before .before .before .before .before .before .before .before .loop .inv .1) (sym (c .before .same-control .ensures) ∙ not-false _ (c .if1 .left)))
+loop-again c =
+    let c1 = c .before .before .before .before .before .before .before .before in
+    let a = c1 .before .before .args in (
+      omega (arith, c1 .loop-test .taken),
+      firstBad-upTo-more
+          (controlsSame (controlIn (now (a .nodes)) (now (a .begins)) (now (a .ends)))
+          (controlIn (now (a .senders)) (now (a .opens)) (now (a .closes)))) _ (c1 .before .loop .inv .1)
+          (sym (c .before .same-control .ensures) ∙ not-false _ (c .if1 .left)),
+    )
 
 returns-2 : tie.Need-returns-2 Inv-loop μ-loop
-returns-2 c = scan-end (controlsSame (controlIn (now (c .before .before .args .nodes)) (now (c .before .before .args .begins)) (now (c .before .before .args .ends))) (controlIn (now (c .before .before .args .senders)) (now (c .before .before .args .opens)) (now (c .before .before .args .closes)))) (c .before .loop .inv .1) (c .loop-test .left) (c .before .loop .inv .0)
+returns-2 c =
+    let a = c .before .before .args in
+    scan-end (controlsSame (controlIn (now (a .nodes)) (now (a .begins)) (now (a .ends)))
+    (controlIn (now (a .senders)) (now (a .opens)) (now (a .closes)))) (c .before .loop .inv .1) (c .loop-test .left)
+    (c .before .loop .inv .0)
 
 pub first-strange-spec : {M : Type 1} → statement M
 first-strange-spec =

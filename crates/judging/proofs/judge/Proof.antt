@@ -13,25 +13,71 @@ use Rattle.judging.proofs.judge.Tie as tie
 
 returns : tie.Need-returns
 unfolding lineJudged controlsOn framesOn boundsOn
-returns c = wrong-header (c .before .before .before .before .before .before .before .args .t2 .task) (c .before .before .before .before .before .before .before .args .t2 .release) (c .before .before .before .before .before .before .before .args .t2 .deadline) (c .before .before .before .before .before .before .before .args .t2 .frames) (timeIn (c .before .before .before .before .before .before .before .args .t2 .time)) (c .before .before .before .before .before .before .before .args .t2 .nodes) (c .before .before .before .before .before .before .before .args .t2 .starts) (c .before .before .before .before .before .before .before .args .t2 .stops) (c .before .before .before .before .before .before .before .args .t2 .controls) (boundsOn (c .before .before .before .before .before .before .before .args .t2)) (c .before .before .before .before .before .before .before .args .t1) (c .before .before .header-right .ensures) (not-true _ (c .before .if1 .taken)) (c .refused .ensures)
+returns c =
+    let a = c .before .before .before .before .before .before .before .args in
+    wrong-header (a .t2 .task) (a .t2 .release) (a .t2 .deadline) (a .t2 .frames) (timeIn (a .t2 .time)) (a .t2 .nodes)
+    (a .t2 .starts) (a .t2 .stops) (a .t2 .controls) (boundsOn (a .t2)) (a .t1) (c .before .before .header-right .ensures)
+    (not-true _ (c .before .if1 .taken)) (c .refused .ensures)
 
 first-strange-requires : tie.Need-first-strange-requires
-first-strange-requires c κs = c .before .before .before .before .before .before .before .before .before .before .before .before .before .before .pre .1
+first-strange-requires c κs =
+    let start = c .before .before .before .before .before .before .before .before .before .before .before .before .before .before
+    in
+    start .pre .1
 
 add-t25 : tie.Need-add-t25
-add-t25 c = let e = spot-at (firstBad (controlsSame (controlIn (c .before .before .before .before .before .before .before .before .before .before .before .before .before .before .before .before .before .before .args .t1 .nodes) (c .before .before .before .before .before .before .before .before .before .before .before .before .before .before .before .before .before .before .args .t1 .begins) (c .before .before .before .before .before .before .before .before .before .before .before .before .before .before .before .before .before .before .args .t1 .ends)) (controlIn (c .before .before .before .before .before .before .before .before .before .before .before .before .before .before .before .before .before .before .args .t2 .nodes) (c .before .before .before .before .before .before .before .before .before .before .before .before .before .before .before .before .before .before .args .t2 .starts) (c .before .before .before .before .before .before .before .before .before .before .before .before .before .before .before .before .before .before .args .t2 .stops))) (upTo (c .before .before .before .before .before .before .before .before .before .before .before .before .before .before .before .before .before .before .args .t2 .controls))) (c .before .before .before .first-strange .ensures) (c .before .k .given .1) in let w = firstBad-upTo-within (controlsSame (controlIn (c .before .before .before .before .before .before .before .before .before .before .before .before .before .before .before .before .before .before .args .t1 .nodes) (c .before .before .before .before .before .before .before .before .before .before .before .before .before .before .before .before .before .before .args .t1 .begins) (c .before .before .before .before .before .before .before .before .before .before .before .before .before .before .before .before .before .before .args .t1 .ends)) (controlIn (c .before .before .before .before .before .before .before .before .before .before .before .before .before .before .before .before .before .before .args .t2 .nodes) (c .before .before .before .before .before .before .before .before .before .before .before .before .before .before .before .before .before .before .args .t2 .starts) (c .before .before .before .before .before .before .before .before .before .before .before .before .before .before .before .before .before .before .args .t2 .stops))) (c .before .before .before .before .before .before .before .before .before .before .before .before .before .before .before .before .before .before .args .t2 .controls) (c .before .k .given .0 .0) e in omega (arith, w, c .before .before .before .before .before .before .before .before .before .before .before .before .before .before .before .before .before .before .pre .1)
+add-t25 c =
+    let c1 = c .before .before .before in
+    let start = c1 .before .before .before .before .before .before .before .before .before .before .before .before .before .before .before in
+    let a = start .args in
+    let e = spot-at (firstBad (controlsSame (controlIn (a .t1 .nodes) (a .t1 .begins) (a .t1 .ends))
+    (controlIn (a .t2 .nodes) (a .t2 .starts) (a .t2 .stops))) (upTo (a .t2 .controls))) (c1 .first-strange .ensures)
+    (c .before .k .given .1) in
+    let w = firstBad-upTo-within (controlsSame (controlIn (a .t1 .nodes) (a .t1 .begins) (a .t1 .ends))
+    (controlIn (a .t2 .nodes) (a .t2 .starts) (a .t2 .stops))) (a .t2 .controls) (c .before .k .given .0 .0) e in
+    omega (arith, w, start .pre .1)
 
 returns-2 : tie.Need-returns-2
 unfolding lineJudged controlsOn framesOn boundsOn
-returns-2 c = strange-control (c .before .before .before .before .before .before .before .before .before .before .before .before .before .before .before .before .before .before .before .args .t2 .task) (c .before .before .before .before .before .before .before .before .before .before .before .before .before .before .before .before .before .before .before .args .t2 .release) (c .before .before .before .before .before .before .before .before .before .before .before .before .before .before .before .before .before .before .before .args .t2 .deadline) (c .before .before .before .before .before .before .before .before .before .before .before .before .before .before .before .before .before .before .before .args .t2 .frames) (timeIn (c .before .before .before .before .before .before .before .before .before .before .before .before .before .before .before .before .before .before .before .args .t2 .time)) (c .before .before .before .before .before .before .before .before .before .before .before .before .before .before .before .before .before .before .before .args .t2 .nodes) (c .before .before .before .before .before .before .before .before .before .before .before .before .before .before .before .before .before .before .before .args .t2 .starts) (c .before .before .before .before .before .before .before .before .before .before .before .before .before .before .before .before .before .before .before .args .t2 .stops) (c .before .before .before .before .before .before .before .before .before .before .before .before .before .before .before .before .before .before .before .args .t2 .controls) (boundsOn (c .before .before .before .before .before .before .before .before .before .before .before .before .before .before .before .before .before .before .before .args .t2)) (c .before .before .before .before .before .before .before .before .before .before .before .before .before .before .before .before .before .before .before .args .t1) (c .before .before .before .before .before .before .before .before .before .before .before .before .before .before .header-right .ensures) (not-false _ (c .before .before .before .before .before .before .before .before .before .before .before .before .before .if1 .left)) (c .before .before .before .before .first-strange .ensures) (c .before .before .k .given .1) (c .refused2 .ensures)
+returns-2 c =
+    let c1 = c .before .before .before .before in
+    let c2 = c1 .before .before .before .before .before .before .before .before .before in
+    let a = c2 .before .before .before .before .before .before .args in
+    strange-control (a .t2 .task) (a .t2 .release) (a .t2 .deadline) (a .t2 .frames) (timeIn (a .t2 .time)) (a .t2 .nodes)
+    (a .t2 .starts) (a .t2 .stops) (a .t2 .controls) (boundsOn (a .t2)) (a .t1) (c2 .before .header-right .ensures)
+    (not-false _ (c2 .if1 .left)) (c1 .first-strange .ensures) (c .before .before .k .given .1) (c .refused2 .ensures)
 
 by-rows-requires : tie.Need-by-rows-requires
 unfolding lineJudged controlsOn framesOn boundsOn
-by-rows-requires c κs = (c .before .before .before .before .before .before .before .before .before .before .before .before .before .before .before .before .before .before .before .before .before .before .pre .0, (omega (arith, control-count (c .before .before .before .before .before .before .before .before .before .before .before .before .before .before .before .before .before .before .before .before .before .before .args .t2 .task) (c .before .before .before .before .before .before .before .before .before .before .before .before .before .before .before .before .before .before .before .before .before .before .args .t2 .release) (c .before .before .before .before .before .before .before .before .before .before .before .before .before .before .before .before .before .before .before .before .before .before .args .t2 .deadline) (c .before .before .before .before .before .before .before .before .before .before .before .before .before .before .before .before .before .before .before .before .before .before .args .t2 .frames) (timeIn (c .before .before .before .before .before .before .before .before .before .before .before .before .before .before .before .before .before .before .before .before .before .before .args .t2 .time)) (c .before .before .before .before .before .before .before .before .before .before .before .before .before .before .before .before .before .before .before .before .before .before .args .t2 .nodes) (c .before .before .before .before .before .before .before .before .before .before .before .before .before .before .before .before .before .before .before .before .before .before .args .t2 .starts) (c .before .before .before .before .before .before .before .before .before .before .before .before .before .before .before .before .before .before .before .before .before .before .args .t2 .stops) (c .before .before .before .before .before .before .before .before .before .before .before .before .before .before .before .before .before .before .before .before .before .before .args .t2 .controls) (boundsOn (c .before .before .before .before .before .before .before .before .before .before .before .before .before .before .before .before .before .before .before .before .before .before .args .t2)) (c .before .before .before .before .before .before .before .before .before .before .before .before .before .before .before .before .before .before .before .before .before .before .args .t1) (c .before .before .before .before .before .before .before .before .before .before .before .before .before .before .before .before .before .header-right .ensures) (not-false _ (c .before .before .before .before .before .before .before .before .before .before .before .before .before .before .before .before .if1 .left)), c .before .before .before .before .before .before .before .before .before .before .before .before .before .before .before .before .before .before .before .before .before .before .pre .1), row-count (c .before .before .before .before .before .before .before .before .before .before .before .before .before .before .before .before .before .before .before .before .before .before .args .t2 .task) (c .before .before .before .before .before .before .before .before .before .before .before .before .before .before .before .before .before .before .before .before .before .before .args .t2 .release) (c .before .before .before .before .before .before .before .before .before .before .before .before .before .before .before .before .before .before .before .before .before .before .args .t2 .deadline) (c .before .before .before .before .before .before .before .before .before .before .before .before .before .before .before .before .before .before .before .before .before .before .args .t2 .frames) (timeIn (c .before .before .before .before .before .before .before .before .before .before .before .before .before .before .before .before .before .before .before .before .before .before .args .t2 .time)) (c .before .before .before .before .before .before .before .before .before .before .before .before .before .before .before .before .before .before .before .before .before .before .args .t2 .nodes) (c .before .before .before .before .before .before .before .before .before .before .before .before .before .before .before .before .before .before .before .before .before .before .args .t2 .starts) (c .before .before .before .before .before .before .before .before .before .before .before .before .before .before .before .before .before .before .before .before .before .before .args .t2 .stops) (c .before .before .before .before .before .before .before .before .before .before .before .before .before .before .before .before .before .before .before .before .before .before .args .t2 .controls) (boundsOn (c .before .before .before .before .before .before .before .before .before .before .before .before .before .before .before .before .before .before .before .before .before .before .args .t2)) (c .before .before .before .before .before .before .before .before .before .before .before .before .before .before .before .before .before .before .before .before .before .before .args .t1) (c .before .before .before .before .before .before .before .before .before .before .before .before .before .before .before .before .before .header-right .ensures) (not-false _ (c .before .before .before .before .before .before .before .before .before .before .before .before .before .before .before .before .if1 .left))))
+by-rows-requires c κs =
+    let c1 = c .before .before .before .before .before .before .before .before .before .before .before .before .before .before .before .before in
+    let c2 = c1 .before in
+    let start = c2 .before .before .before .before .before in
+    let a = start .args in (
+      start .pre .0,
+      (
+        omega (
+          arith,
+          control-count (a .t2 .task) (a .t2 .release) (a .t2 .deadline) (a .t2 .frames)
+              (timeIn (a .t2 .time)) (a .t2 .nodes) (a .t2 .starts) (a .t2 .stops) (a .t2 .controls) (boundsOn (a .t2)) (a .t1)
+              (c2 .header-right .ensures) (not-false _ (c1 .if1 .left)),
+          start .pre .1,
+        ),
+        row-count (a .t2 .task) (a .t2 .release)
+            (a .t2 .deadline) (a .t2 .frames) (timeIn (a .t2 .time)) (a .t2 .nodes) (a .t2 .starts) (a .t2 .stops) (a .t2 .controls)
+            (boundsOn (a .t2)) (a .t1) (c2 .header-right .ensures) (not-false _ (c1 .if1 .left)),
+      ),
+    )
 
 returns-3 : tie.Need-returns-3
 unfolding lineJudged controlsOn framesOn boundsOn
-returns-3 c = same-controls (c .before .before .before .before .before .before .before .before .before .before .before .before .before .before .before .before .before .before .before .before .before .before .before .args .t2 .task) (c .before .before .before .before .before .before .before .before .before .before .before .before .before .before .before .before .before .before .before .before .before .before .before .args .t2 .release) (c .before .before .before .before .before .before .before .before .before .before .before .before .before .before .before .before .before .before .before .before .before .before .before .args .t2 .deadline) (c .before .before .before .before .before .before .before .before .before .before .before .before .before .before .before .before .before .before .before .before .before .before .before .args .t2 .frames) (timeIn (c .before .before .before .before .before .before .before .before .before .before .before .before .before .before .before .before .before .before .before .before .before .before .before .args .t2 .time)) (c .before .before .before .before .before .before .before .before .before .before .before .before .before .before .before .before .before .before .before .before .before .before .before .args .t2 .nodes) (c .before .before .before .before .before .before .before .before .before .before .before .before .before .before .before .before .before .before .before .before .before .before .before .args .t2 .starts) (c .before .before .before .before .before .before .before .before .before .before .before .before .before .before .before .before .before .before .before .before .before .before .before .args .t2 .stops) (c .before .before .before .before .before .before .before .before .before .before .before .before .before .before .before .before .before .before .before .before .before .before .before .args .t2 .controls) (boundsOn (c .before .before .before .before .before .before .before .before .before .before .before .before .before .before .before .before .before .before .before .before .before .before .before .args .t2)) (c .before .before .before .before .before .before .before .before .before .before .before .before .before .before .before .before .before .before .before .before .before .before .before .args .t1) (c .before .before .before .before .before .before .before .before .before .before .before .before .before .before .before .before .before .before .header-right .ensures) (not-false _ (c .before .before .before .before .before .before .before .before .before .before .before .before .before .before .before .before .before .if1 .left)) (c .before .before .before .before .before .before .before .before .first-strange .ensures) (c .before .before .before .before .before .before .enum-told .given .1) (c .by-rows .ensures)
+returns-3 c =
+    let c1 = c .before .before .before .before .before .before in
+    let c2 = c1 .before .before .before .before .before .before .before .before .before .before .before in
+    let a = c2 .before .before .before .before .before .before .args in
+    same-controls (a .t2 .task) (a .t2 .release) (a .t2 .deadline) (a .t2 .frames) (timeIn (a .t2 .time)) (a .t2 .nodes)
+    (a .t2 .starts) (a .t2 .stops) (a .t2 .controls) (boundsOn (a .t2)) (a .t1) (c2 .before .header-right .ensures)
+    (not-false _ (c2 .if1 .left)) (c1 .before .before .first-strange .ensures) (c1 .enum-told .given .1) (c .by-rows .ensures)
 
 pub judge-spec : {M : Type 1} → statement M
 judge-spec =

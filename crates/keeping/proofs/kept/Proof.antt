@@ -7,21 +7,41 @@ use Rattle.keeping.proofs.kept.Tie as tie
 
 modules-requires : tie.Need-modules-requires
 unfolding sendersOf
-modules-requires c κs = rw (c .before .before .before .before .before .before .before .before .before .before .of .ensures)
+modules-requires c κs =
+    let c1 = c .before .before .before .before .before .before .before .before .before .before in
+    rw (c1 .of .ensures)
 
 tasks-requires : tie.Need-tasks-requires
 unfolding sendersOf
-tasks-requires c κs = (c .before .before .before .before .before .before .before .before .before .before .before .before .before .pre .0, rw (c .before .before .before .before .before .before .before .before .before .before .before .before .of .ensures))
+tasks-requires c κs =
+    let c1 = c .before .before .before .before .before .before .before .before .before .before .before .before in
+    (c1 .before .pre .0, rw (c1 .of .ensures))
 
 controls-requires : tie.Need-controls-requires
-controls-requires c κs = c .before .before .before .before .before .before .before .before .before .before .before .before .before .before .pre .1 .0
+controls-requires c κs =
+    let start = c .before .before .before .before .before .before .before .before .before .before .before .before .before .before
+    in
+    start .pre .1 .0
 
 cast-t19 : tie.Need-cast-t19
-cast-t19 c = omega (arith, c .before .before .before .before .before .before .before .before .before .before .before .before .before .before .before .before .pre .1 .1)
+cast-t19 c =
+    let start = c .before .before .before .before .before .before .before .before .before .before .before .before .before .before .before .before in
+    omega (arith, start .pre .1 .1)
 
 returns : tie.Need-returns
 unfolding keptFrom
-returns c = rw (c .before .before .before .before .modules .ensures, c .before .before .before .modes .ensures, c .before .before .tasks .ensures, c .before .controls .ensures, c .before .before .before .before .before .before .before .before .before .before .before .before .runs .ensures, c .before .before .before .before .before .before .before .not-begun .ensures)
+returns c =
+    let c1 = c .before .before .before in
+    let c2 = c1 .before .before .before .before in
+    let c3 = c2 .before .before .before .before .before in
+    rw (
+      c1 .before .modules .ensures,
+      c1 .modes .ensures,
+      c .before .before .tasks .ensures,
+      c .before .controls .ensures,
+      c3 .runs .ensures,
+      c2 .not-begun .ensures,
+    )
 
 pub kept-spec : {M : Type 1} → statement M
 kept-spec =

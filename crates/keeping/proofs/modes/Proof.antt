@@ -38,7 +38,14 @@ returns : tie.Need-returns Inv-loop μ-loop
 unfolding modesOf
 returns c =
     let l = c .before .before .loop in
-    rw (c .mode-count .ensures .0, filled-all 32 0 (l .inv .1) (l .inv .0) (c .before .loop-test .left), filled-all 32 0 (l .inv .2) (l .inv .0) (c .before .loop-test .left), filled-all 32 0 (l .inv .3) (l .inv .0) (c .before .loop-test .left))
+    rw (
+      c .mode-count .ensures .0,
+      filled-all 32 0 (l .inv .1) (l .inv .0) (c .before .loop-test .left),
+      filled-all 32 0
+          (l .inv .2) (l .inv .0) (c .before .loop-test .left),
+      filled-all 32 0 (l .inv .3) (l .inv .0)
+          (c .before .loop-test .left),
+    )
 
 pub modes-spec : {M : Type 1} → statement M
 modes-spec =

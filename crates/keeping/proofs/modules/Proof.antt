@@ -26,17 +26,23 @@ loop-holds c = (search needs, filled-none, filled-none)
 loop-again : tie.Need-loop-again Inv-loop μ-loop
 unfolding moduleLaid moduleNode
 loop-again c =
+    let start = c .before .before .before in
     let l = c .before .before .loop in (
       search needs,
       filled-turn (l .inv .1) (ap (λ (x : Module). x .node .0) (c .module-at .ensures)),
-      filled-turn (l .inv .2) (by-number-at (isSending (seen (c .before .before .before .args .p))) (l .m) false (c .before .before .before .pre) (omega arith)),
+      filled-turn (l .inv .2) (by-number-at (isSending (seen (start .args .p))) (l .m) false (start .pre) (omega arith)),
     )
 
 returns : tie.Need-returns Inv-loop μ-loop
 unfolding modulesOf
 returns c =
     let l = c .before .before .loop in
-    rw (c .module-count .ensures .0, filled-all 16 0 (l .inv .1) (l .inv .0) (c .before .loop-test .left), filled-all 16 false (l .inv .2) (l .inv .0) (c .before .loop-test .left))
+    rw (
+      c .module-count .ensures .0,
+      filled-all 16 0 (l .inv .1) (l .inv .0) (c .before .loop-test .left),
+      filled-all 16 false
+          (l .inv .2) (l .inv .0) (c .before .loop-test .left),
+    )
 
 pub modules-spec : {M : Type 1} → statement M
 modules-spec =

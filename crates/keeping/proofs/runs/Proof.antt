@@ -18,22 +18,59 @@ loop-holds : tie.Need-loop-holds Inv-loop μ-loop
 loop-holds c = stored-none (seen (c .before .args .p)) (c .invocation-count .ensures .0)
 
 div-runs : tie.Need-div-runs Inv-loop μ-loop
-div-runs c = names (seen (c .before .before .before .before .before .before .before .before .args .p)) (c .before .before .before .before .before .before .before .before .pre) (c .before .before .before .before .before .before .loop .left - 1) (omega (arith, c .before .before .before .before .before .before .loop .inv .within, c .before .before .before .before .before .loop-test .taken)) _ (c .before .before .before .before .invocation-at .ensures) .rate
+div-runs c =
+    let c1 = c .before .before .before .before in
+    let c2 = c1 .before .before in
+    let start = c2 .before .before in
+    names (seen (start .args .p)) (start .pre) (c2 .loop .left - 1)
+    (omega (arith, c2 .loop .inv .within, c1 .before .loop-test .taken)) _ (c1 .invocation-at .ensures) .rate
 
 mul-runs : tie.Need-mul-runs Inv-loop μ-loop
-mul-runs c = let n = names (seen (c .before .before .before .before .before .before .before .before .before .args .p)) (c .before .before .before .before .before .before .before .before .before .pre) (c .before .before .before .before .before .before .before .loop .left - 1) (omega (arith, c .before .before .before .before .before .before .before .loop .inv .within, c .before .before .before .before .before .before .loop-test .taken)) _ (c .before .before .before .before .before .invocation-at .ensures) in omega (arith, n .mode, c .place2 .ensures)
+mul-runs c =
+    let c1 = c .before .before .before .before .before in
+    let c2 = c1 .before .before in
+    let start = c2 .before .before in
+    let n = names (seen (start .args .p)) (start .pre) (c2 .loop .left - 1)
+    (omega (arith, c2 .loop .inv .within, c1 .before .loop-test .taken)) _ (c1 .invocation-at .ensures) in
+    omega (arith, n .mode, c .place2 .ensures)
 
 add-runs : tie.Need-add-runs Inv-loop μ-loop
-add-runs c = let n = names (seen (c .before .before .before .before .before .before .before .before .before .before .args .p)) (c .before .before .before .before .before .before .before .before .before .before .pre) (c .before .before .before .before .before .before .before .before .loop .left - 1) (omega (arith, c .before .before .before .before .before .before .before .before .loop .inv .within, c .before .before .before .before .before .before .before .loop-test .taken)) _ (c .before .before .before .before .before .before .invocation-at .ensures) in omega (arith, n .mode, n .task, c .before .place2 .ensures, c .place3 .ensures)
+add-runs c =
+    let c1 = c .before .before .before .before .before .before in
+    let c2 = c1 .before .before in
+    let start = c2 .before .before in
+    let n = names (seen (start .args .p)) (start .pre) (c2 .loop .left - 1)
+    (omega (arith, c2 .loop .inv .within, c1 .before .loop-test .taken)) _ (c1 .invocation-at .ensures) in
+    omega (arith, n .mode, n .task, c .before .place2 .ensures, c .place3 .ensures)
 
 mul-runs-2 : tie.Need-mul-runs-2 Inv-loop μ-loop
-mul-runs-2 c = let n = names (seen (c .before .before .before .before .before .before .before .before .before .before .args .p)) (c .before .before .before .before .before .before .before .before .before .before .pre) (c .before .before .before .before .before .before .before .before .loop .left - 1) (omega (arith, c .before .before .before .before .before .before .before .before .loop .inv .within, c .before .before .before .before .before .before .before .loop-test .taken)) _ (c .before .before .before .before .before .before .invocation-at .ensures) in omega (arith, n .mode, n .task, c .before .place2 .ensures, c .place3 .ensures)
+mul-runs-2 c =
+    let c1 = c .before .before .before .before .before .before in
+    let c2 = c1 .before .before in
+    let start = c2 .before .before in
+    let n = names (seen (start .args .p)) (start .pre) (c2 .loop .left - 1)
+    (omega (arith, c2 .loop .inv .within, c1 .before .loop-test .taken)) _ (c1 .invocation-at .ensures) in
+    omega (arith, n .mode, n .task, c .before .place2 .ensures, c .place3 .ensures)
 
 array-write-runs : tie.Need-array-write-runs Inv-loop μ-loop
-array-write-runs c = let n = names (seen (c .before .before .before .before .before .before .before .before .before .before .args .p)) (c .before .before .before .before .before .before .before .before .before .before .pre) (c .before .before .before .before .before .before .before .before .loop .left - 1) (omega (arith, c .before .before .before .before .before .before .before .before .loop .inv .within, c .before .before .before .before .before .before .before .loop-test .taken)) _ (c .before .before .before .before .before .before .invocation-at .ensures) in omega (arith, n .mode, n .task, c .before .place2 .ensures, c .place3 .ensures)
+array-write-runs c =
+    let c1 = c .before .before .before .before .before .before in
+    let c2 = c1 .before .before in
+    let start = c2 .before .before in
+    let n = names (seen (start .args .p)) (start .pre) (c2 .loop .left - 1)
+    (omega (arith, c2 .loop .inv .within, c1 .before .loop-test .taken)) _ (c1 .invocation-at .ensures) in
+    omega (arith, n .mode, n .task, c .before .place2 .ensures, c .place3 .ensures)
 
 loop-again : tie.Need-loop-again Inv-loop μ-loop
-loop-again c = stored-turn (seen (c .before .before .before .before .before .before .before .before .before .before .args .p)) (c .before .before .before .before .before .before .invocation-at .result) (c .before .before .before .before .before .before .before .before .before .before .pre) (c .before .before .before .before .before .before .before .before .loop .inv) (c .before .before .before .before .before .before .before .loop-test .taken) (c .before .before .before .before .before .before .invocation-at .ensures) (c .before .before .before .before .mode-at .ensures ∙ ap (λ k. modeLaid (theMode (seen (c .before .before .before .before .before .before .before .before .before .before .args .p)) k)) (c .before .before .before .before .before .place .ensures)) (c .before .place2 .ensures) (c .place3 .ensures)
+loop-again c =
+    let c1 = c .before .before .before .before in
+    let c2 = c1 .before .before in
+    let start = c2 .before .before .before .before in
+    let a = start .args in
+    stored-turn (seen (a .p)) (c2 .invocation-at .result) (start .pre) (c2 .before .before .loop .inv)
+    (c2 .before .loop-test .taken) (c2 .invocation-at .ensures)
+    (c1 .mode-at .ensures ∙ ap (λ k. modeLaid (theMode (seen (a .p)) k)) (c1 .before .place .ensures))
+    (c .before .place2 .ensures) (c .place3 .ensures)
 
 returns : tie.Need-returns Inv-loop μ-loop
 returns c = stored-all (seen (c .before .before .before .args .p)) (c .before .loop .inv) (c .loop-test .left)

@@ -29,25 +29,41 @@ loop-holds c = (search needs, filled-none, filled-none, filled-none, filled-none
 
 cast-sizes : tie.Need-cast-sizes Inv-loop μ-loop
 unfolding taskLaid
-cast-sizes c = record { fits = size-small (seen (c .before .before .before .before .args .p)) (c .before .before .before .before .pre .0) (c .before .before .before .loop .t) _ (ap (λ (x : Task). x .size .0) (c .before .task-at .ensures)) }
+cast-sizes c =
+    let c1 = c .before .before .before in
+    let start = c1 .before in
+    record {
+      fits = size-small (seen (start .args .p)) (start .pre .0) (c1 .loop .t) _
+          (ap (λ (x : Task). x .size .0) (c .before .task-at .ensures));
+    }
 
 loop-again : tie.Need-loop-again Inv-loop μ-loop
 unfolding taskLaid taskHome taskSize taskWorst
 loop-again c =
-    let l = c .before .before .before .loop in
+    let c1 = c .before .before .before in
+    let start = c1 .before in
+    let l = c1 .loop in
     let e = c .before .task-at .ensures in (
       search needs,
       filled-turn (l .inv .1) (ap (λ (x : Task). x .home .0) e),
       filled-turn (l .inv .2) (ap (λ (x : Task). x .size .0) e),
       filled-turn (l .inv .3) (ap (λ (x : Task). x .worst .0) e),
-      filled-turn (l .inv .4) (by-number-at (isBusTask (seen (c .before .before .before .before .args .p))) (l .t) false (c .before .before .before .before .pre .1) (omega arith)),
+      filled-turn (l .inv .4) (by-number-at (isBusTask (seen (start .args .p))) (l .t) false (start .pre .1) (omega arith)),
     )
 
 returns : tie.Need-returns Inv-loop μ-loop
 unfolding tasksOf
 returns c =
     let l = c .before .before .loop in
-    rw (c .task-count .ensures .0, filled-all 32 0 (l .inv .1) (l .inv .0) (c .before .loop-test .left), filled-all 32 0 (l .inv .2) (l .inv .0) (c .before .loop-test .left), filled-all 32 0 (l .inv .3) (l .inv .0) (c .before .loop-test .left), filled-all 32 false (l .inv .4) (l .inv .0) (c .before .loop-test .left))
+    rw (
+      c .task-count .ensures .0,
+      filled-all 32 0 (l .inv .1) (l .inv .0) (c .before .loop-test .left),
+      filled-all 32 0
+          (l .inv .2) (l .inv .0) (c .before .loop-test .left),
+      filled-all 32 0 (l .inv .3) (l .inv .0)
+          (c .before .loop-test .left),
+      filled-all 32 false (l .inv .4) (l .inv .0) (c .before .loop-test .left),
+    )
 
 pub tasks-spec : {M : Type 1} → statement M
 tasks-spec =

@@ -8,13 +8,52 @@ use Rattle.line.proofs.framed.Statement.{statement}
 use Rattle.line.proofs.framed.Tie as tie
 
 of-requires : tie.Need-of-requires
-of-requires c κs = (runs-few (seen (c .args .p)) (c .pre .0) (c .args .runs) _ (c .pre .1 .1 .0 .1) (c .pre .1 .1 .0 .2), (period-short (seen (c .args .p)) (c .pre .0) (c .args .runs) _ (c .pre .1 .1 .0 .1) (c .pre .1 .1 .0 .2) (c .pre .1 .0 .0) (c .pre .1 .0 .1), all-fair (seen (c .args .p)) (c .pre .0) (c .args .runs) _ (c .pre .1 .1 .0 .1) (c .pre .1 .1 .0 .2) (c .pre .1 .0 .0) (c .pre .1 .0 .1)))
+of-requires c κs = (
+  runs-few (seen (c .args .p)) (c .pre .0) (c .args .runs) _ (c .pre .1 .1 .0 .1) (c .pre .1 .1 .0 .2),
+  (
+    period-short (seen (c .args .p)) (c .pre .0) (c .args .runs) _ (c .pre .1 .1 .0 .1) (c .pre .1 .1 .0 .2)
+        (c .pre .1 .0 .0) (c .pre .1 .0 .1),
+    all-fair (seen (c .args .p)) (c .pre .0) (c .args .runs) _ (c .pre .1 .1 .0 .1)
+        (c .pre .1 .1 .0 .2) (c .pre .1 .0 .0) (c .pre .1 .0 .1),
+  ),
+)
 
 returns : tie.Need-returns
-returns c = lays-refused TooManyFrames _ _ (c .refused .ensures) (nine (seen (c .before .before .before .args .p)) (c .before .before .before .pre .0) (c .before .before .before .args .runs) _ (c .before .before .before .pre .1 .1 .0 .1) (c .before .before .before .pre .1 .1 .0 .2) _ (c .before .before .of .ensures) (c .before .before .before .pre .1 .1 .1) (c .before .if1 .taken))
+returns c =
+    let start = c .before .before .before in
+    let a = start .args in
+    lays-refused TooManyFrames _ _ (c .refused .ensures)
+    (nine (seen (a .p)) (start .pre .0) (a .runs) _ (start .pre .1 .1 .0 .1) (start .pre .1 .1 .0 .2) _
+    (c .before .before .of .ensures) (start .pre .1 .1 .1) (c .before .if1 .taken))
 
 closed-requires : tie.Need-closed-requires
-closed-requires c κs = (c .before .before .before .before .before .before .pre .0, (c .before .before .before .before .before .before .pre .1 .1 .0 .0, ((c .before .before .before .before .before .before .pre .1 .1 .0 .2, period-short (seen (c .before .before .before .before .before .before .args .p)) (c .before .before .before .before .before .before .pre .0) (c .before .before .before .before .before .before .args .runs) _ (c .before .before .before .before .before .before .pre .1 .1 .0 .1) (c .before .before .before .before .before .before .pre .1 .1 .0 .2) (c .before .before .before .before .before .before .pre .1 .0 .0) (c .before .before .before .before .before .before .pre .1 .0 .1)), ((sym (frames-laid (seen (c .before .before .before .before .before .before .args .p)) (c .before .before .before .before .before .before .pre .0) (c .before .before .before .before .before .before .args .runs) _ (c .before .before .before .before .before .before .pre .1 .1 .0 .1) (c .before .before .before .before .before .before .pre .1 .1 .0 .2) _ (c .before .before .before .before .before .of .ensures)), few-frames (seen (c .before .before .before .before .before .before .args .p)) (c .before .before .before .before .before .before .pre .0) (c .before .before .before .before .before .before .args .runs) _ (c .before .before .before .before .before .before .pre .1 .1 .0 .1) (c .before .before .before .before .before .before .pre .1 .1 .0 .2) _ (c .before .before .before .before .before .of .ensures) (c .before .before .before .before .if1 .left)), onward (seen (c .before .before .before .before .before .before .args .p)) (c .before .before .before .before .before .before .pre .0) (c .before .before .before .before .before .before .args .runs) _ (c .before .before .before .before .before .before .pre .1 .1 .0 .1) (c .before .before .before .before .before .before .pre .1 .1 .0 .2) _ (c .before .before .before .before .before .of .ensures) (c .before .before .before .before .before .before .pre .1 .1 .1) (c .before .before .before .before .if1 .left)))))
+closed-requires c κs =
+    let c1 = c .before .before .before .before in
+    let c2 = c1 .before in
+    let start = c2 .before in
+    let a = start .args in (
+      start .pre .0,
+      (
+        start .pre .1 .1 .0 .0,
+        (
+          (
+            start .pre .1 .1 .0 .2,
+            period-short (seen (a .p)) (start .pre .0) (a .runs) _
+                (start .pre .1 .1 .0 .1) (start .pre .1 .1 .0 .2) (start .pre .1 .0 .0) (start .pre .1 .0 .1),
+          ),
+          (
+            (
+              sym (frames-laid (seen (a .p)) (start .pre .0) (a .runs) _ (start .pre .1 .1 .0 .1) (start .pre .1 .1 .0 .2) _
+                  (c2 .of .ensures)),
+              few-frames (seen (a .p)) (start .pre .0) (a .runs) _ (start .pre .1 .1 .0 .1) (start .pre .1 .1 .0 .2)
+                  _ (c2 .of .ensures) (c1 .if1 .left),
+            ),
+            onward (seen (a .p)) (start .pre .0) (a .runs) _ (start .pre .1 .1 .0 .1)
+                (start .pre .1 .1 .0 .2) _ (c2 .of .ensures) (start .pre .1 .1 .1) (c1 .if1 .left),
+          ),
+        ),
+      ),
+    )
 
 pub framed-spec : {M : Type 1} → statement M
 framed-spec = tie.close (tie.spec of-requires (λ c κs. search needs) returns closed-requires (λ c. search needs))

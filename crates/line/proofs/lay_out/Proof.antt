@@ -4,13 +4,21 @@ use Rattle.line.proofs.lay_out.Statement.{statement}
 use Rattle.line.proofs.lay_out.Tie as tie
 
 cycled-requires : tie.Need-cycled-requires
-cycled-requires c κs = sound-kept (c .before .before .before .before .args .s .now) (c .before .before .read .result) (c .before .before .read .ensures) (c .enum-told .given .1)
+cycled-requires c κs =
+    let c1 = c .before .before in
+    sound-kept (c1 .before .before .args .s .now) (c1 .read .result) (c1 .read .ensures) (c .enum-told .given .1)
 
 returns : tie.Need-returns
-returns c = sound-laid (c .before .before .before .before .before .args .s .now) (c .before .before .before .read .result) (c .before .before .before .read .ensures) _ (c .before .enum-told .given .1) (c .cycled .ensures)
+returns c =
+    let c1 = c .before .before .before in
+    sound-laid (c1 .before .before .args .s .now) (c1 .read .result) (c1 .read .ensures) _ (c .before .enum-told .given .1)
+    (c .cycled .ensures)
 
 returns-2 : tie.Need-returns-2
-returns-2 c = refused-laid (c .before .before .before .before .before .before .args .s .now) (c .before .before .before .before .read .result) (c .before .before .before .before .read .ensures) _ _ (c .before .before .answer .given .1) (c .refused .ensures)
+returns-2 c =
+    let c1 = c .before .before .before .before in
+    refused-laid (c1 .before .before .args .s .now) (c1 .read .result) (c1 .read .ensures) _ _
+    (c .before .before .answer .given .1) (c .refused .ensures)
 
 pub lay-out-spec : {M : Type 1} → statement M
 lay-out-spec =

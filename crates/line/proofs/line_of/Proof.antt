@@ -16,10 +16,12 @@ cast-gap c =
 returns : tie.Need-returns
 unfolding seen busSeen
 returns c =
-    let b = c .before .before .before .before .before .before .before in
+    let c1 = c .before .before .before .before .before .before .before in
+    let b = c1 in
     let g = b .before .before in
     let s = g .before .before in
-    line-is (seen (s .args .p)) (s .pre .1 .0 .0) (g .gap-time .ensures .0) (s .pre .1 .0 .1) (b .message-times .ensures) (s .pre .1 .1 .0)
+    line-is (seen (s .args .p)) (s .pre .1 .0 .0) (g .gap-time .ensures .0) (s .pre .1 .0 .1) (b .message-times .ensures)
+    (s .pre .1 .1 .0)
     (sym (s .pre .1 .1 .1 .0)) (s .pre .1 .1 .1 .1)
 
 pub line-of-spec : {M : Type 1} → statement M

@@ -7,24 +7,53 @@ use Rattle.linetable.proofs.placed_table.Statement.{statement}
 use Rattle.linetable.proofs.placed_table.Tie as tie
 
 place-all-requires : tie.Need-place-all-requires
-place-all-requires c κs = ((few-frames (c .before .before .before .before .before .before .before .before .before .before .args .t1) (c .before .before .before .before .before .before .before .before .before .before .pre), times-long (c .before .before .before .before .before .before .before .before .before .before .args .t1) (c .before .before .before .before .before .before .before .before .before .before .pre)), deadlines-rising (c .before .before .before .before .before .before .before .before .before .before .args .t1) (c .before .before .before .before .before .before .before .before .before .before .pre))
+place-all-requires c κs =
+    let start = c .before .before .before .before .before .before .before .before .before .before in
+    let a = start .args in
+    ((few-frames (a .t1) (start .pre), times-long (a .t1) (start .pre)), deadlines-rising (a .t1) (start .pre))
 
 bytes-needed-requires : tie.Need-bytes-needed-requires
-bytes-needed-requires c κs = (few-controls (c .before .before .before .before .before .before .before .before .before .before .before .before .before .args .t1) (c .before .before .before .before .before .before .before .before .before .before .before .before .before .pre), few-frames (c .before .before .before .before .before .before .before .before .before .before .before .before .before .args .t1) (c .before .before .before .before .before .before .before .before .before .before .before .before .before .pre))
+bytes-needed-requires c κs =
+    let start = c .before .before .before .before .before .before .before .before .before .before .before .before .before in
+    let a = start .args in
+    (few-controls (a .t1) (start .pre), few-frames (a .t1) (start .pre))
 
 returns : tie.Need-returns
 unfolding all-placed
-returns c = λ s. short-made (c .before .before .before .before .before .before .before .before .before .before .before .before .before .before .before .before .args .t1) (c .before .before .before .before .before .place-all .result) (all-placed (c .before .before .before .before .before .before .before .before .before .before .before .before .before .before .before .before .args .t1) s (c .before .before .before .before .before .place-all .result) (c .before .before .before .before .before .place-all .ensures) (c .before .before .before .enum-told .given .1)) _ (c .before .before .before .before .before .before .before .before .before .before .before .before .before .before .before .before .args .buf .now) (c .before .before .bytes-needed .ensures .0) (c .before .if1 .taken) (c .refused .ensures)
+returns c =
+    let c1 = c .before .before .before in
+    let c2 = c1 .before .before in
+    let a = c2 .before .before .before .before .before .before .before .before .before .before .before .args in
+    λ s. short-made (a .t1) (c2 .place-all .result)
+    (all-placed (a .t1) s (c2 .place-all .result) (c2 .place-all .ensures) (c1 .enum-told .given .1)) _ (a .buf .now)
+    (c .before .before .bytes-needed .ensures .0) (c .before .if1 .taken) (c .refused .ensures)
 
 written-requires : tie.Need-written-requires
-written-requires c κs = (all-placed (c .before .before .before .before .before .before .before .before .before .before .before .before .before .before .before .before .args .t1) (c .before .before .before .before .before .before .before .before .before .before .before .before .before .before .before .before .pre) (c .before .before .before .before .before .place-all .result) (c .before .before .before .before .before .place-all .ensures) (c .before .before .before .enum-told .given .1), omega (arith, c .before .before .bytes-needed .ensures .0, c .before .if1 .left))
+written-requires c κs =
+    let c1 = c .before .before .before in
+    let c2 = c1 .before .before in
+    let start = c2 .before .before .before .before .before .before .before .before .before .before .before in (
+      all-placed (start .args .t1) (start .pre) (c2 .place-all .result) (c2 .place-all .ensures) (c1 .enum-told .given .1),
+      omega (arith, c .before .before .bytes-needed .ensures .0, c .before .if1 .left),
+    )
 
 returns-2 : tie.Need-returns-2
 unfolding all-placed
-returns-2 c = λ s. written-made (c .before .before .before .before .before .before .before .before .before .before .before .before .before .before .before .before .before .before .before .args .t1) (c .before .before .before .before .before .before .before .before .place-all .result) (all-placed (c .before .before .before .before .before .before .before .before .before .before .before .before .before .before .before .before .before .before .before .args .t1) s (c .before .before .before .before .before .before .before .before .place-all .result) (c .before .before .before .before .before .before .before .before .place-all .ensures) (c .before .before .before .before .before .before .enum-told .given .1)) _ (c .before .before .before .before .before .before .before .before .before .before .before .before .before .before .before .before .before .before .before .args .buf .now) _ _ (c .before .before .before .before .before .bytes-needed .ensures .0) (c .before .before .before .before .if1 .left) (c .before .before .written .ensures)
+returns-2 c =
+    let c1 = c .before .before .before .before in
+    let c2 = c1 .before .before .before .before in
+    let a = c2 .before .before .before .before .before .before .before .before .before .before .before .args in
+    λ s. written-made (a .t1) (c2 .place-all .result)
+    (all-placed (a .t1) s (c2 .place-all .result) (c2 .place-all .ensures) (c1 .before .before .enum-told .given .1)) _
+    (a .buf .now) _ _ (c1 .before .bytes-needed .ensures .0) (c1 .if1 .left) (c .before .before .written .ensures)
 
 returns-3 : tie.Need-returns-3
-returns-3 c = λ s. makes-refused _ _ (c .before .before .before .before .before .before .before .before .before .before .before .before .before .before .before .args .buf .now) _ _ (c .refused2 .ensures) refl (no-room (c .before .before .before .before .before .before .before .before .before .before .before .before .before .before .before .args .t1) s (c .before .before .before .before .place-all .result) (c .before .before .before .before .place-all .ensures) _ (length (c .before .before .before .before .before .before .before .before .before .before .before .before .before .before .before .args .buf .now)) (c .before .before .outcome .given .1))
+returns-3 c =
+    let c1 = c .before .before .before .before in
+    let a = c1 .before .before .before .before .before .before .before .before .before .before .before .args in
+    λ s. makes-refused _ _ (a .buf .now) _ _ (c .refused2 .ensures) refl
+    (no-room (a .t1) s (c1 .place-all .result) (c1 .place-all .ensures) _ (length (a .buf .now))
+    (c .before .before .outcome .given .1))
 
 pub placed-table-spec : {M : Type 1} → statement M
 placed-table-spec =

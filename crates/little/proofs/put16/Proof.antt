@@ -9,8 +9,9 @@ use Rattle.little.proofs.put16.Tie as tie
 
 returns : tie.Need-returns
 returns c =
-    let a = c .before .before .before .before .before .before .before .before .before .args in
-    rw (c .before .before .store2 .ensures, c .before .before .before .before .before .before .store .ensures) (stored-sets (now (a .buf)) (a .at) (bytes 2 (a .x)))
+    let c1 = c .before .before .before .before .before .before in
+    let a = c1 .before .before .before .args in
+    rw (c .before .before .store2 .ensures, c1 .store .ensures) (stored-sets (now (a .buf)) (a .at) (bytes 2 (a .x)))
 
 pub put16-spec : {M : Type 1} → statement M
 put16-spec =

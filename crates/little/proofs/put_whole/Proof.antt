@@ -26,12 +26,19 @@ slice-write-buf-4 c =
     let a = c .args in
     let one = set (now (a .buf)) (a .at) (a .x % 256) in
     let two = set one (a .at + 1) (a .x / 256 % 256) in
-    omega (arith, length-set (now (a .buf)) (a .at) (a .x % 256), length-set one (a .at + 1) (a .x / 256 % 256), length-set two (a .at + 2) (a .x / 256 / 256 % 256))
+    omega (
+      arith,
+      length-set (now (a .buf)) (a .at) (a .x % 256),
+      length-set one (a .at + 1) (a .x / 256 % 256),
+      length-set two
+          (a .at + 2) (a .x / 256 / 256 % 256),
+    )
 
 returns : tie.Need-returns
 returns c =
     let a = c .args in
-    ap (λ (i : ℕ). set (set (set (set (now (a .buf)) i (a .x % 256)) (a .at + 1) (a .x / 256 % 256)) (a .at + 2) (a .x / 256 / 256 % 256)) (a .at + 3) (a .x / 256 / 256 / 256 % 256)) (sym (add-zero (a .at)))
+    ap (λ (i : ℕ). set (set (set (set (now (a .buf)) i (a .x % 256)) (a .at + 1) (a .x / 256 % 256)) (a .at + 2)
+    (a .x / 256 / 256 % 256)) (a .at + 3) (a .x / 256 / 256 / 256 % 256)) (sym (add-zero (a .at)))
     ∙ stored-sets (now (a .buf)) (a .at) (bytes 4 (a .x))
 
 pub put-whole-spec : {M : Type 1} → statement M

@@ -33,7 +33,10 @@ returns c =
     omega (arith, number-added 2 (now (a .s)) (a .at), ap (λ (k : ℕ). getD (now (a .s)) k 0) (add-zero (a .at)))
 
 returns-2 : tie.Need-returns-2
-returns-2 c = let a = c .before .before .before .before .before .before .args in omega (arith, number-added 2 (now (a .s)) (a .at))
+returns-2 c =
+    let start = c .before .before .before .before .before .before in
+    let a = start .args in
+    omega (arith, number-added 2 (now (a .s)) (a .at))
 
 pub read16-spec : {M : Type 1} → statement M
 read16-spec =

@@ -8,16 +8,36 @@ use Rattle.maker.proofs.made.Statement.{statement}
 use Rattle.maker.proofs.made.Tie as tie
 
 returns : tie.Need-returns
-returns c = made-says (c .before .before .before .before .args .plan .now) (c .before .before .before .before .args .lent) _ (c .before .before .before .before .args .buf .now) _ (makes-refused TooFewRows _ (c .before .before .before .before .args .buf .now) _ _ (c .refused .ensures) refl (too-few-rows (c .before .before .before .before .args .plan .now) (c .before .before .before .before .args .lent) (length (c .before .before .before .before .args .buf .now)) (c .before .if1 .taken)))
+returns c =
+    let a = c .before .before .before .before .args in
+    made-says (a .plan .now) (a .lent) _ (a .buf .now) _
+    (makes-refused TooFewRows _ (a .buf .now) _ _ (c .refused .ensures) refl
+    (too-few-rows (a .plan .now) (a .lent) (length (a .buf .now)) (c .before .if1 .taken)))
 
 placed-table-requires : tie.Need-placed-table-requires
-placed-table-requires c κs = plan-sound (c .before .before .before .before .before .before .before .args .plan .now) (c .before .before .before .before .before .before .before .args .lent) (length (c .before .before .before .before .before .before .before .args .buf .now)) (c .before .before .before .before .if1 .left) (c .before .before .before .lay-out .result) (c .before .before .before .lay-out .ensures) (c .before .enum-told .given .1) .stands
+placed-table-requires c κs =
+    let c1 = c .before .before .before in
+    let a = c1 .before .before .before .before .args in
+    plan-sound (a .plan .now) (a .lent) (length (a .buf .now)) (c1 .before .if1 .left) (c1 .lay-out .result)
+    (c1 .lay-out .ensures) (c .before .enum-told .given .1) .stands
 
 returns-2 : tie.Need-returns-2
-returns-2 c = placed-made (c .before .before .before .before .before .before .before .before .before .before .args .plan .now) (c .before .before .before .before .before .before .before .before .before .before .args .lent) (c .before .before .before .before .before .before .lay-out .result) _ (c .before .before .before .before .before .before .before .before .before .before .args .buf .now) _ (plan-sound (c .before .before .before .before .before .before .before .before .before .before .args .plan .now) (c .before .before .before .before .before .before .before .before .before .before .args .lent) (length (c .before .before .before .before .before .before .before .before .before .before .args .buf .now)) (c .before .before .before .before .before .before .before .if1 .left) (c .before .before .before .before .before .before .lay-out .result) (c .before .before .before .before .before .before .lay-out .ensures) (c .before .before .before .before .enum-told .given .1)) (c .before .before .placed-table .ensures)
+returns-2 c =
+    let c1 = c .before .before .before .before in
+    let c2 = c1 .before .before in
+    let a = c2 .before .before .before .before .args in
+    placed-made (a .plan .now) (a .lent) (c2 .lay-out .result) _ (a .buf .now) _
+    (plan-sound (a .plan .now) (a .lent) (length (a .buf .now)) (c2 .before .if1 .left) (c2 .lay-out .result)
+    (c2 .lay-out .ensures) (c1 .enum-told .given .1)) (c .before .before .placed-table .ensures)
 
 returns-3 : tie.Need-returns-3
-returns-3 c = made-says (c .before .before .before .before .before .before .before .before .args .plan .now) (c .before .before .before .before .before .before .before .before .args .lent) _ (c .before .before .before .before .before .before .before .before .args .buf .now) _ (makes-refused _ _ (c .before .before .before .before .before .before .before .before .args .buf .now) _ _ (c .refused2 .ensures) refl (plan-refused (c .before .before .before .before .before .before .before .before .args .plan .now) (c .before .before .before .before .before .before .before .before .args .lent) (length (c .before .before .before .before .before .before .before .before .args .buf .now)) (c .before .before .before .before .before .if1 .left) (c .before .before .before .before .lay-out .result) (c .before .before .before .before .lay-out .ensures) _ (c .before .before .answer .given .1)))
+returns-3 c =
+    let c1 = c .before .before .before .before in
+    let a = c1 .before .before .before .before .args in
+    made-says (a .plan .now) (a .lent) _ (a .buf .now) _
+    (makes-refused _ _ (a .buf .now) _ _ (c .refused2 .ensures) refl
+    (plan-refused (a .plan .now) (a .lent) (length (a .buf .now)) (c1 .before .if1 .left) (c1 .lay-out .result)
+    (c1 .lay-out .ensures) _ (c .before .before .answer .given .1)))
 
 pub made-spec : {M : Type 1} → statement M
 made-spec =

@@ -30,21 +30,31 @@ element-copy-out-key-2 : tie.Need-element-copy-out-key-2 Inv-loop μ-loop
 element-copy-out-key-2 c = omega (arith, c .before .before .loop .inv .within, c .before .before .before .pre .room)
 
 add-low : tie.Need-add-low Inv-loop μ-loop
-add-low c = omega (arith, c .before .before .before .before .before .loop .inv .within, c .before .before .before .before .before .before .pre .room)
+add-low c =
+    let c1 = c .before .before .before .before .before in
+    omega (arith, c1 .loop .inv .within, c1 .before .pre .room)
 
 loop-less : tie.Need-loop-less Inv-loop μ-loop
 loop-less c = omega (arith, c .before .before .before .before .loop-test .taken)
 
 loop-again : tie.Need-loop-again Inv-loop μ-loop
 unfolding keyAt
-loop-again c = bracket-up _ _ _ _ (c .before .before .before .before .before .before .pre) (c .before .before .before .before .before .loop .low) (c .before .before .before .before .before .loop .high) _ (c .before .before .before .before .before .loop .inv) (omega arith) (omega (arith, c .before .before .before .before .loop-test .taken)) (omega (arith, c .before .key .ensures, c .if1 .taken))
+loop-again c =
+    let c1 = c .before .before .before .before in
+    let c2 = c1 .before in
+    bracket-up _ _ _ _ (c2 .before .pre) (c2 .loop .low) (c2 .loop .high) _ (c2 .loop .inv) (omega arith)
+    (omega (arith, c1 .loop-test .taken)) (omega (arith, c .before .key .ensures, c .if1 .taken))
 
 loop-less-2 : tie.Need-loop-less-2 Inv-loop μ-loop
 loop-less-2 c = omega (arith, c .before .before .before .before .loop-test .taken)
 
 loop-again-2 : tie.Need-loop-again-2 Inv-loop μ-loop
 unfolding keyAt
-loop-again-2 c = bracket-down _ _ _ _ (c .before .before .before .before .before .before .pre) (c .before .before .before .before .before .loop .low) (c .before .before .before .before .before .loop .high) _ (c .before .before .before .before .before .loop .inv) (omega arith) (omega (arith, c .before .before .before .before .loop-test .taken)) (omega (arith, c .before .key .ensures, c .if1 .left))
+loop-again-2 c =
+    let c1 = c .before .before .before .before in
+    let c2 = c1 .before in
+    bracket-down _ _ _ _ (c2 .before .pre) (c2 .loop .low) (c2 .loop .high) _ (c2 .loop .inv) (omega arith)
+    (omega (arith, c1 .loop-test .taken)) (omega (arith, c .before .key .ensures, c .if1 .left))
 
 returns : tie.Need-returns Inv-loop μ-loop
 returns c = bracket-end _ _ _ _ (c .before .loop .low) (c .before .loop .high) (c .before .loop .inv) (c .loop-test .left)

@@ -14,7 +14,8 @@ use Rattle.naming.proofs.first_unnamed.Statement.{statement}
 use Rattle.naming.proofs.first_unnamed.Tie as tie
 
 abbrev Inv-loop : tie.InvT-loop
-Inv-loop numbers frames rows named₀ k₀ named k = (k ≤ rows) × (named ≡ marks numbers k) × (firstBad (isNew numbers frames) (upTo k) ≡ none)
+Inv-loop numbers frames rows named₀ k₀ named k =
+    (k ≤ rows) × (named ≡ marks numbers k) × (firstBad (isNew numbers frames) (upTo k) ≡ none)
 
 abbrev μ-loop : tie.MeasureT-loop
 μ-loop numbers frames rows named₀ k₀ named k = rows - k
@@ -23,16 +24,35 @@ loop-holds : tie.Need-loop-holds Inv-loop μ-loop
 loop-holds c = (search needs, refl, refl)
 
 returns : tie.Need-returns Inv-loop μ-loop
-returns c = scan-hit (isNew (now (c .before .before .before .before .args .numbers)) (c .before .before .before .before .args .frames)) (c .before .before .before .loop .inv .2) (c .before .before .loop-test .taken) (new-past (now (c .before .before .before .before .args .numbers)) (c .before .before .before .before .args .frames) (c .before .before .before .loop .k) (c .if1 .taken))
+returns c =
+    let c1 = c .before .before .before in
+    let a = c1 .before .args in
+    scan-hit (isNew (now (a .numbers)) (a .frames)) (c1 .loop .inv .2) (c .before .before .loop-test .taken)
+    (new-past (now (a .numbers)) (a .frames) (c1 .loop .k) (c .if1 .taken))
 
 returns-2 : tie.Need-returns-2 Inv-loop μ-loop
-returns-2 c = scan-hit (isNew (now (c .before .before .before .before .before .args .numbers)) (c .before .before .before .before .before .args .frames)) (c .before .before .before .before .loop .inv .2) (c .before .before .before .loop-test .taken) (new-again (now (c .before .before .before .before .before .args .numbers)) (c .before .before .before .before .before .args .frames) (c .before .before .before .before .loop .k) (c .before .before .before .before .loop .inv .1) (c .before .if1 .left) (c .if2 .taken))
+returns-2 c =
+    let c1 = c .before .before .before in
+    let c2 = c1 .before in
+    let a = c2 .before .args in
+    scan-hit (isNew (now (a .numbers)) (a .frames)) (c2 .loop .inv .2) (c1 .loop-test .taken)
+    (new-again (now (a .numbers)) (a .frames) (c2 .loop .k) (c2 .loop .inv .1) (c .before .if1 .left) (c .if2 .taken))
 
 loop-again : tie.Need-loop-again Inv-loop μ-loop
-loop-again c = (omega (arith, c .before .before .before .loop-test .taken), marks-more (now (c .before .before .before .before .before .args .numbers)) (c .before .before .before .before .before .args .frames) (c .before .before .before .before .loop .k) (c .before .before .before .before .loop .inv .1), firstBad-upTo-more (isNew (now (c .before .before .before .before .before .args .numbers)) (c .before .before .before .before .before .args .frames)) (c .before .before .before .before .loop .k) (c .before .before .before .before .loop .inv .2) (new-first (now (c .before .before .before .before .before .args .numbers)) (c .before .before .before .before .before .args .frames) (c .before .before .before .before .loop .k) (c .before .before .before .before .loop .inv .1) (c .before .if1 .left) (c .if2 .left)))
+loop-again c =
+    let c1 = c .before .before .before in
+    let c2 = c1 .before in
+    let a = c2 .before .args in (
+      omega (arith, c1 .loop-test .taken),
+      marks-more (now (a .numbers)) (a .frames) (c2 .loop .k) (c2 .loop .inv .1),
+      firstBad-upTo-more (isNew (now (a .numbers)) (a .frames)) (c2 .loop .k) (c2 .loop .inv .2)
+          (new-first (now (a .numbers)) (a .frames) (c2 .loop .k) (c2 .loop .inv .1) (c .before .if1 .left) (c .if2 .left)),
+    )
 
 returns-3 : tie.Need-returns-3 Inv-loop μ-loop
-returns-3 c = scan-end (isNew (now (c .before .before .args .numbers)) (c .before .before .args .frames)) (c .before .loop .inv .2) (c .loop-test .left) (c .before .loop .inv .0)
+returns-3 c =
+    let a = c .before .before .args in
+    scan-end (isNew (now (a .numbers)) (a .frames)) (c .before .loop .inv .2) (c .loop-test .left) (c .before .loop .inv .0)
 
 pub first-unnamed-spec : {M : Type 1} → statement M
 first-unnamed-spec =

@@ -10,7 +10,10 @@ has-key-requires : tie.Need-has-key-requires
 has-key-requires c κs = c .before .pre .room
 
 returns : tie.Need-returns
-returns c = look-found _ _ _ _ _ (c .before .before .before .pre) (c .before .before .key .ensures) _ (c .before .before .before .fits .task .fits) (c .before .has-key .ensures) (c .if1 .taken)
+returns c =
+    let c1 = c .before .before .before in
+    look-found _ _ _ _ _ (c1 .pre) (c .before .before .key .ensures) _ (c1 .fits .task .fits) (c .before .has-key .ensures)
+    (c .if1 .taken)
 
 before-requires : tie.Need-before-requires
 before-requires c κs = c .before .before .before .pre
@@ -19,10 +22,16 @@ has-key-requires-2 : tie.Need-has-key-requires-2
 has-key-requires-2 c κs = c .before .before .before .before .pre .room
 
 returns-2 : tie.Need-returns-2
-returns-2 c = look-found _ _ _ _ _ (c .before .before .before .before .before .before .pre) (c .before .before .before .before .before .key .ensures) _ (c .before .before .before .before .before .before .fits .task .fits) (c .before .has-key2 .ensures) (c .if2 .taken)
+returns-2 c =
+    let c1 = c .before .before .before .before .before in
+    let c2 = c1 .before in
+    look-found _ _ _ _ _ (c2 .pre) (c1 .key .ensures) _ (c2 .fits .task .fits) (c .before .has-key2 .ensures) (c .if2 .taken)
 
 returns-3 : tie.Need-returns-3
-returns-3 c = look-missed _ _ _ _ _ (c .before .before .before .before .before .before .pre) (c .before .before .before .before .before .key .ensures) (c .before .before .before2 .ensures) (c .before .has-key2 .ensures) (c .if2 .left)
+returns-3 c =
+    let c1 = c .before .before .before .before .before in
+    look-missed _ _ _ _ _ (c1 .before .pre) (c1 .key .ensures) (c .before .before .before2 .ensures)
+    (c .before .has-key2 .ensures) (c .if2 .left)
 
 pub number-of-spec : {M : Type 1} → statement M
 number-of-spec =

@@ -12,7 +12,8 @@ use Rattle.naming.proofs.numbers.Statement.{statement}
 use Rattle.naming.proofs.numbers.Tie as tie
 
 abbrev Inv-loop : tie.InvT-loop
-Inv-loop tasks deadlines frames senders dues rows found₀ k₀ found k = (k ≤ rows) × (found ≡ stores (replicate 256 0) (numberAt tasks deadlines frames senders dues) k)
+Inv-loop tasks deadlines frames senders dues rows found₀ k₀ found k =
+    (k ≤ rows) × (found ≡ stores (replicate 256 0) (numberAt tasks deadlines frames senders dues) k)
 
 abbrev μ-loop : tie.MeasureT-loop
 μ-loop tasks deadlines frames senders dues rows found₀ k₀ found k = rows - k
@@ -25,7 +26,9 @@ number-of-requires c κs = c .before .before .before .before .pre .0
 
 loop-again : tie.Need-loop-again Inv-loop μ-loop
 unfolding numberAt
-loop-again c = (omega (arith, c .before .before .before .loop-test .taken), stores-turn _ _ _ (c .before .before .before .before .loop .inv .1) (c .number-of .ensures))
+loop-again c =
+    let c1 = c .before .before .before in
+    (omega (arith, c1 .loop-test .taken), stores-turn _ _ _ (c1 .before .loop .inv .1) (c .number-of .ensures))
 
 returns : tie.Need-returns Inv-loop μ-loop
 returns c = let e : c .before .loop .k ≡ c .before .before .args .rows = omega arith in rw (c .before .loop .inv .1, e)

@@ -20,10 +20,24 @@ loop-holds : tie.Need-loop-holds Inv-loop μ-loop
 loop-holds c = (search needs, refl)
 
 loop-again : tie.Need-loop-again Inv-loop μ-loop
-loop-again c = (omega (arith, c .before .before .before .loop-test .taken), spread-more (now (c .before .before .before .before .before .args .numbers)) (now (c .before .before .before .before .before .args .starts)) (c .before .before .before .before .loop .k) (c .before .before .before .before .loop .inv .1) (c .if1 .taken))
+loop-again c =
+    let c1 = c .before .before .before in
+    let c2 = c1 .before in
+    let a = c2 .before .args in (
+      omega (arith, c1 .loop-test .taken),
+      spread-more (now (a .numbers)) (now (a .starts)) (c2 .loop .k) (c2 .loop .inv .1)
+          (c .if1 .taken),
+    )
 
 loop-again-2 : tie.Need-loop-again-2 Inv-loop μ-loop
-loop-again-2 c = (omega (arith, c .before .before .before .loop-test .taken), spread-past (now (c .before .before .before .before .before .args .numbers)) (now (c .before .before .before .before .before .args .starts)) (c .before .before .before .before .loop .k) (c .before .before .before .before .loop .inv .1) (c .if1 .left))
+loop-again-2 c =
+    let c1 = c .before .before .before in
+    let c2 = c1 .before in
+    let a = c2 .before .args in (
+      omega (arith, c1 .loop-test .taken),
+      spread-past (now (a .numbers)) (now (a .starts)) (c2 .loop .k) (c2 .loop .inv .1)
+          (c .if1 .left),
+    )
 
 returns : tie.Need-returns Inv-loop μ-loop
 returns c = let e : c .before .loop .k ≡ c .before .before .args .rows = omega arith in rw (c .before .loop .inv .1, e)

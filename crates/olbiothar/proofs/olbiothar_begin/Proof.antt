@@ -5,7 +5,11 @@ use Rattle.olbiothar.proofs.olbiothar_begin.Statement.{statement}
 use Rattle.olbiothar.proofs.olbiothar_begin.Tie as tie
 
 returns : tie.Need-returns
-returns c = begun-from (c .before .before .before .before .before .before .args .plan .now) (c .before .before .before .before .before .before .args .table .now) (c .before .before .begin .result) _ (c .before .before .before .changes-for .ensures) (c .before .before .begin .ensures) (c .answer-begun .ensures) refl
+returns c =
+    let c1 = c .before .before in
+    let a = c1 .before .before .before .before .args in
+    begun-from (a .plan .now) (a .table .now) (c1 .begin .result) _ (c1 .before .changes-for .ensures) (c1 .begin .ensures)
+    (c .answer-begun .ensures) refl
 
 pub olbiothar-begin-spec : {M : Type 1} → statement M
 olbiothar-begin-spec = tie.close (tie.spec (λ c κs. search needs) (λ c κs. search needs) (λ c κs. search needs) returns)

@@ -164,7 +164,10 @@ abbrev Changed : Slot 5
 Changed = shrRefTo (4 ∷ []) tt (plain (λ _. Array u8 16))
 
 abbrev stayed : Stays (tick.ended .signature .params) (tick.ended .kept)
-stayed = (stay-ref (0 ∷ []) tt (plain (λ _. T.the-row)), (stay-dropped Results kept, (stay-dropped Flags kept, (stay-dropped Modes kept, (stay-dropped Changed kept, tt)))))
+stayed = (
+  stay-ref (0 ∷ []) tt (plain (λ _. T.the-row)),
+  (stay-dropped Results kept, (stay-dropped Flags kept, (stay-dropped Modes kept, (stay-dropped Changed kept, tt)))),
+)
 
 abbrev pointer : RefT (List ℕ) → Val
 pointer r = vptr (r .ptr .0) (r .ptr .1)
@@ -186,7 +189,8 @@ respelled : (r : Answered) (v : Val) → Is R.the-row r (v ∷ []) → Is R.the-
 respelled r v is = subst (λ (z : Val). Is R.the-row r (z ∷ [])) (spelled r v is) is
 
 nodes-spelled : (ns : List Node) (w : Val) → Is Nodes ns (w ∷ []) → w ≡ nodes-mach ns
-nodes-spelled ns w is = ap only (LL.array-laws N.the-field N′.the-field-laws 8 .tells (field ns) (w ∷ []) (nodes-out ns (w ∷ []) is))
+nodes-spelled ns w is =
+    ap only (LL.array-laws N.the-field N′.the-field-laws 8 .tells (field ns) (w ∷ []) (nodes-out ns (w ∷ []) is))
 
 nodes-again : (ns : List Node) (w : Val) → Is Nodes ns (w ∷ []) → Is Nodes ns (nodes-mach ns ∷ [])
 nodes-again ns w is = subst (λ (z : Val). Is Nodes ns (z ∷ [])) (nodes-spelled ns w is) is
@@ -421,12 +425,35 @@ module _ {M : Type 1} (𝓤 : URA M) (H : Heap 𝓤) (A : Atoms 𝓤) (W : Given
 olbiothar-tick-meets : {M : Type 1} (𝓤 : URA M) (H : Heap 𝓤) (A : Atoms 𝓤) (W : Given 𝓤 H A) (at-mem : Memory → SProp 𝓤) (run : Routine → Fun 𝓤) (𝓣 : Tables 𝓤 H) → Triple 𝓤 (𝓣 .C #turn) (Turning 𝓤 H A at-mem run) → Triple 𝓤 (𝓣 .C #move) (Moving 𝓤 H A at-mem run)
     → Meets 𝓤 H A tick.signature (WpFn 𝓤 H (𝓣 .C) (𝓣 .Λ) code.function) (tick.spec 𝓤 H A at-mem run)
 olbiothar-tick-meets 𝓤 H A W at-mem run 𝓣 known-turn known-move =
-    walk-meets 𝓤 H A tick.ended stayed W (goes-ref 𝓤 H A W 5 0 tt (plain (λ _. T.the-row)), (goes-dropped 𝓤 H A W 5 Results kept (λ κs x f. refl), (goes-dropped 𝓤 H A W 5 Flags kept (λ κs x f. refl), (goes-dropped 𝓤 H A W 5 Modes kept (λ κs x f. refl), (goes-dropped 𝓤 H A W 5 Changed kept (λ κs x f. refl), tt))))) (tick.clauses 𝓤 H A at-mem run)
+    walk-meets 𝓤 H A tick.ended stayed W (
+      goes-ref 𝓤 H A W 5 0 tt (plain (λ _. T.the-row)),
+      (
+        goes-dropped 𝓤 H A W 5 Results kept (λ κs x f. refl),
+        (
+          goes-dropped 𝓤 H A W 5 Flags kept (λ κs x f. refl),
+          (goes-dropped 𝓤 H A W 5 Modes kept (λ κs x f. refl), (goes-dropped 𝓤 H A W 5 Changed kept (λ κs x f. refl), tt)),
+        ),
+      ),
+    )
+    (tick.clauses 𝓤 H A at-mem run)
     (WpFn 𝓤 H (𝓣 .C) (𝓣 .Λ) code.function) (WpFn-mono 𝓤 H (W .laws) 𝓣 code.function)
-    (walked 𝓤 H A tick.ended stayed (tick.clauses 𝓤 H A at-mem run) (WpFn 𝓤 H (𝓣 .C) (𝓣 .Λ) code.function) (λ κs. (ptr-vals, (ptr-vals, (ptr-vals, (ptr-vals, (ptr-vals, tt))))))
-    (λ κs. (mut-tells (named 0) (κs .0) T.the-row, (shr-tells (named 1) (κs .1 .0) (Array u64 32), (shr-tells (named 2) (κs .1 .1 .0) (Array u8 32), (shr-tells (named 3) (κs .1 .1 .1 .0) (Array u8 16), (shr-tells (named 4) (κs .1 .1 .1 .1 .0) (Array u8 16), tt))))))
-    (λ κs qs bounds a _ _. via 𝓤 _ (fst∗ 𝓤 _ (emp 𝓤)) (walk 𝓤 H A W at-mem run (κs .0) (κs .1 .0) (κs .1 .1 .0) (κs .1 .1 .1 .0) (κs .1 .1 .1 .1 .0) (qs .0) (qs .1 .0) (qs .1 .1 .0) (qs .1 .1 .1 .0) (qs .1 .1 .1 .1 .0)
-    (a .0 .ptr .0) (a .0 .ptr .1) (a .0 .name) (a .0 .now) (a .1 .0) (a .1 .1 .0) (a .1 .1 .1 .0) (a .1 .1 .1 .1 .0) 𝓣 (fmOf 𝓤 H (W .laws) 𝓣) known-turn known-move)))
+    (walked 𝓤 H A tick.ended stayed (tick.clauses 𝓤 H A at-mem run) (WpFn 𝓤 H (𝓣 .C) (𝓣 .Λ) code.function)
+    (λ κs. (ptr-vals, (ptr-vals, (ptr-vals, (ptr-vals, (ptr-vals, tt))))))
+    (λ κs. (
+      mut-tells (named 0) (κs .0) T.the-row,
+      (
+        shr-tells (named 1) (κs .1 .0) (Array u64 32),
+        (
+          shr-tells (named 2) (κs .1 .1 .0) (Array u8 32),
+          (shr-tells (named 3) (κs .1 .1 .1 .0) (Array u8 16), (shr-tells (named 4) (κs .1 .1 .1 .1 .0) (Array u8 16), tt)),
+        ),
+      ),
+    ))
+    (λ κs qs bounds a _ _. via 𝓤 _ (fst∗ 𝓤 _ (emp 𝓤))
+    (walk 𝓤 H A W at-mem run (κs .0) (κs .1 .0) (κs .1 .1 .0) (κs .1 .1 .1 .0) (κs .1 .1 .1 .1 .0) (qs .0) (qs .1 .0)
+    (qs .1 .1 .0) (qs .1 .1 .1 .0) (qs .1 .1 .1 .1 .0)
+    (a .0 .ptr .0) (a .0 .ptr .1) (a .0 .name) (a .0 .now) (a .1 .0) (a .1 .1 .0) (a .1 .1 .1 .0) (a .1 .1 .1 .1 .0) 𝓣
+    (fmOf 𝓤 H (W .laws) 𝓣) known-turn known-move)))
 
 pub olbiothar-tick-spec : {M : Type 1} → stated.statement M
 unfolding code.routine tablesOf
@@ -434,5 +461,7 @@ olbiothar-tick-spec 𝓤 H 𝓜 𝓖 𝓡 =
     entered 𝓤 H (tripleOf 𝓤 H (𝓖 .A) tick.signature (tick.spec 𝓤 H (𝓖 .A) (𝓜 .mem) (𝓡 .run)))
     (tables 𝓤 H 𝓜 𝓡 code.env .C) (tables 𝓤 H 𝓜 𝓡 code.env .Λ) #tick code.function (code.unfolded 𝓤 H 𝓜 𝓡)
     (olbiothar-tick-meets 𝓤 H (𝓖 .A) (givenOf 𝓤 H 𝓜 𝓖) (𝓜 .mem) (𝓡 .run) (tablesOf 𝓤 H 𝓜 (tables 𝓤 H 𝓜 𝓡 code.env))
-    (cited 𝓤 H (Turning 𝓤 H (𝓖 .A) (𝓜 .mem) (𝓡 .run)) 𝓜 𝓡 code.env #turn turn-def.routine code.calls-turning·turn-for (turn-thm.met 𝓤 H 𝓜 𝓖 𝓡))
-    (cited 𝓤 H (Moving 𝓤 H (𝓖 .A) (𝓜 .mem) (𝓡 .run)) 𝓜 𝓡 code.env #move move-def.routine code.calls-station·nodes-turned (move-thm.met 𝓤 H 𝓜 𝓖 𝓡)))
+    (cited 𝓤 H (Turning 𝓤 H (𝓖 .A) (𝓜 .mem) (𝓡 .run)) 𝓜 𝓡 code.env #turn turn-def.routine code.calls-turning·turn-for
+    (turn-thm.met 𝓤 H 𝓜 𝓖 𝓡))
+    (cited 𝓤 H (Moving 𝓤 H (𝓖 .A) (𝓜 .mem) (𝓡 .run)) 𝓜 𝓡 code.env #move move-def.routine code.calls-station·nodes-turned
+    (move-thm.met 𝓤 H 𝓜 𝓖 𝓡)))

@@ -18,13 +18,24 @@ loop-holds : tie.Need-loop-holds Inv-loop μ-loop
 loop-holds c = (search needs, refl)
 
 returns : tie.Need-returns Inv-loop μ-loop
-returns c = all-here (payloadKeeps (c .before .before .before .before .args .t1) (c .before .before .before .before .args .most)) _ _ (c .before .before .loop-test .taken) (payload-too-large (c .before .before .before .before .args .t1) _ _ _ (c .before .wide .ensures) (c .if1 .taken))
+returns c =
+    let a = c .before .before .before .before .args in
+    all-here (payloadKeeps (a .t1) (a .most)) _ _ (c .before .before .loop-test .taken)
+    (payload-too-large (a .t1) _ _ _ (c .before .wide .ensures) (c .if1 .taken))
 
 loop-again : tie.Need-loop-again Inv-loop μ-loop
-loop-again c = (search needs, all-on (payloadKeeps (c .before .before .before .before .args .t1) (c .before .before .before .before .args .most)) _ (c .before .before .before .loop .inv .1) (payload-fits (c .before .before .before .before .args .t1) _ _ _ (c .before .wide .ensures) (c .if1 .left)))
+loop-again c =
+    let c1 = c .before .before .before in
+    let a = c1 .before .args in (
+      search needs,
+      all-on (payloadKeeps (a .t1) (a .most)) _ (c1 .loop .inv .1)
+          (payload-fits (a .t1) _ _ _ (c .before .wide .ensures) (c .if1 .left)),
+    )
 
 returns-2 : tie.Need-returns-2 Inv-loop μ-loop
-returns-2 c = all-end (payloadKeeps (c .before .before .args .t1) (c .before .before .args .most)) _ _ (c .before .loop .inv .1) (c .before .loop .inv .0) (c .loop-test .left)
+returns-2 c =
+    let a = c .before .before .args in
+    all-end (payloadKeeps (a .t1) (a .most)) _ _ (c .before .loop .inv .1) (c .before .loop .inv .0) (c .loop-test .left)
 
 pub controls-fit-spec : {M : Type 1} → statement M
 controls-fit-spec =

@@ -19,7 +19,9 @@ abbrev μ-loop : tie.MeasureT-loop
 
 cast-none : tie.Need-cast-none Inv-loop μ-loop
 unfolding seen taskLaid
-cast-none c = record { fits = no-time-small (seen (c .before .before .before .before .args .t1)) (c .before .before .before .before .pre) _ (c .before .sending-time .ensures .0) }
+cast-none c =
+    let start = c .before .before .before .before in
+    record { fits = no-time-small (seen (start .args .t1)) (start .pre) _ (c .before .sending-time .ensures .0) }
 
 loop-holds : tie.Need-loop-holds Inv-loop μ-loop
 loop-holds c = (search needs, stores-none _ (taskTime (seen (c .before .before .before .before .args .t1))))
@@ -27,20 +29,31 @@ loop-holds c = (search needs, stores-none _ (taskTime (seen (c .before .before .
 cast-time : tie.Need-cast-time Inv-loop μ-loop
 unfolding seen taskLaid
 cast-time c =
-    let p = c .before .before .before .before .before .before .before .before .before .args .t1 in
-    let w : c .before .before .before .before .loop .t < length (seen p .tasks) = omega arith in
-    record { fits = time-small (seen p) (c .before .before .before .before .before .before .before .before .before .pre) _ _ _ (size-of p _ w) (c .before .sending-time2 .ensures .0) }
+    let c1 = c .before .before .before .before in
+    let start = c1 .before .before .before .before .before in
+    let p = start .args .t1 in
+    let w : c1 .loop .t < length (seen p .tasks) = omega arith in
+    record { fits = time-small (seen p) (start .pre) _ _ _ (size-of p _ w) (c .before .sending-time2 .ensures .0) }
 
 loop-again : tie.Need-loop-again Inv-loop μ-loop
 unfolding seen taskLaid
 loop-again c =
-    let p = c .before .before .before .before .before .before .before .before .before .args .t1 in
-    let w : c .before .before .before .before .loop .t < length (seen p .tasks) = omega arith in
-    (search needs, stores-turn _ (taskTime (seen p)) _ (c .before .before .before .before .loop .inv .1) (time-of (seen p) _ _ _ (size-of p _ w) (c .before .sending-time2 .ensures .0)))
+    let c1 = c .before .before .before .before in
+    let a = c1 .before .before .before .before .before .args in
+    let p = a .t1 in
+    let w : c1 .loop .t < length (seen p .tasks) = omega arith in (
+      search needs,
+      stores-turn _ (taskTime (seen p)) _ (c1 .loop .inv .1)
+          (time-of (seen p) _ _ _ (size-of p _ w) (c .before .sending-time2 .ensures .0)),
+    )
 
 returns : tie.Need-returns Inv-loop μ-loop
 unfolding seen taskLaid
-returns c = times-stored (seen (c .before .before .before .before .before .before .args .t1)) _ _ _ _ (c .before .before .before .sending-time .ensures .0) (c .before .before .before .before .task-count .ensures .0) (c .before .before .before .before .task-count .ensures .1) (c .before .loop .inv .1) (c .before .loop .inv .0) (c .loop-test .left)
+returns c =
+    let c1 = c .before .before .before in
+    let c2 = c1 .before in
+    times-stored (seen (c2 .before .before .args .t1)) _ _ _ _ (c1 .sending-time .ensures .0) (c2 .task-count .ensures .0)
+    (c2 .task-count .ensures .1) (c .before .loop .inv .1) (c .before .loop .inv .0) (c .loop-test .left)
 
 pub message-times-spec : {M : Type 1} → statement M
 message-times-spec =

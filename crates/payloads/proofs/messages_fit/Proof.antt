@@ -25,19 +25,32 @@ loop-holds c = (search needs, refl)
 returns : tie.Need-returns Inv-loop μ-loop
 unfolding seen busSeen taskLaid
 returns c =
-    let p = c .before .before .before .before .before .args .t1 in
-    let w : c .before .before .before .loop .t < length (seen p .tasks) = omega arith in
-    rw (← (c .before .before .before .before .task-count .ensures .0)) (all-here (messageKeeps (c .before .before .before .before .before .args .t2) (seen p)) _ _ (c .before .before .loop-test .taken) (message-test _ (seen p) _ _ _ (size-of p _ w) (c .before .message-keeps .ensures) ∙ not-true _ (c .if1 .taken)))
+    let c1 = c .before .before .before in
+    let a = c1 .before .before .args in
+    let p = a .t1 in
+    let w : c1 .loop .t < length (seen p .tasks) = omega arith in
+    rw (← (c1 .before .task-count .ensures .0))
+    (all-here (messageKeeps (a .t2) (seen p)) _ _ (c .before .before .loop-test .taken)
+    (message-test _ (seen p) _ _ _ (size-of p _ w) (c .before .message-keeps .ensures) ∙ not-true _ (c .if1 .taken)))
 
 loop-again : tie.Need-loop-again Inv-loop μ-loop
 unfolding seen busSeen taskLaid
 loop-again c =
-    let p = c .before .before .before .before .before .args .t1 in
-    let w : c .before .before .before .loop .t < length (seen p .tasks) = omega arith in
-    (search needs, all-on (messageKeeps (c .before .before .before .before .before .args .t2) (seen p)) _ (c .before .before .before .loop .inv .1) (message-test _ (seen p) _ _ _ (size-of p _ w) (c .before .message-keeps .ensures) ∙ not-false _ (c .if1 .left)))
+    let c1 = c .before .before .before in
+    let a = c1 .before .before .args in
+    let p = a .t1 in
+    let w : c1 .loop .t < length (seen p .tasks) = omega arith in (
+      search needs,
+      all-on (messageKeeps (a .t2) (seen p)) _ (c1 .loop .inv .1)
+          (message-test _ (seen p) _ _ _ (size-of p _ w) (c .before .message-keeps .ensures) ∙ not-false _ (c .if1 .left)),
+    )
 
 returns-2 : tie.Need-returns-2 Inv-loop μ-loop
-returns-2 c = rw (← (c .before .before .task-count .ensures .0)) (all-end (messageKeeps (c .before .before .before .args .t2) (seen (c .before .before .before .args .t1))) _ _ (c .before .loop .inv .1) (c .before .loop .inv .0) (c .loop-test .left))
+returns-2 c =
+    let a = c .before .before .before .args in
+    rw (← (c .before .before .task-count .ensures .0))
+    (all-end (messageKeeps (a .t2) (seen (a .t1))) _ _ (c .before .loop .inv .1) (c .before .loop .inv .0)
+    (c .loop-test .left))
 
 pub messages-fit-spec : {M : Type 1} → statement M
 messages-fit-spec =

@@ -23,10 +23,12 @@ returns c = any-here (flagAt (c .before .before .before .args .t1)) _ _ (c .befo
 
 loop-again : tie.Need-loop-again Inv-loop μ-loop
 unfolding flagAt
-loop-again c = (search needs, any-on (flagAt (c .before .before .before .args .t1)) _ (c .before .before .loop .inv .1) (c .if1 .left))
+loop-again c =
+    (search needs, any-on (flagAt (c .before .before .before .args .t1)) _ (c .before .before .loop .inv .1) (c .if1 .left))
 
 returns-2 : tie.Need-returns-2 Inv-loop μ-loop
-returns-2 c = any-end (flagAt (c .before .before .args .t1)) _ _ (c .before .loop .inv .1) (c .before .loop .inv .0) (c .loop-test .left)
+returns-2 c =
+    any-end (flagAt (c .before .before .args .t1)) _ _ (c .before .loop .inv .1) (c .before .loop .inv .0) (c .loop-test .left)
 
 pub some-bus-task-spec : {M : Type 1} → statement M
 some-bus-task-spec =

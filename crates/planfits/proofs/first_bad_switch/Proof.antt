@@ -25,7 +25,9 @@ loop-holds c = (search needs, refl)
 returns : tie.Need-returns Inv-loop μ-loop
 unfolding modeLaid
 returns c =
-    bad-part-hit modeSeen switchDivides _ _ _ (omega (arith, c .before .before .before .before .before .good .0 .1 .0 .1)) (modeLaid noMode) (c .before .before .before .loop-test .taken) (c .before .before .before .before .loop .inv .1)
+    let c1 = c .before .before .before in
+    bad-part-hit modeSeen switchDivides _ _ _ (omega (arith, c1 .before .before .good .0 .1 .0 .1)) (modeLaid noMode)
+    (c1 .loop-test .taken) (c1 .before .loop .inv .1)
     (sym (c .before .switch-divides .ensures) ∙ not-true _ (c .if1 .taken))
 
 loop-again : tie.Need-loop-again Inv-loop μ-loop
@@ -38,7 +40,8 @@ loop-again c = (
 
 returns-2 : tie.Need-returns-2 Inv-loop μ-loop
 returns-2 c =
-    bad-part-end modeSeen switchDivides _ _ _ (omega (arith, c .before .before .good .0 .1 .0 .1)) (c .before .loop .inv .0) (c .loop-test .left) (c .before .loop .inv .1)
+    bad-part-end modeSeen switchDivides _ _ _ (omega (arith, c .before .before .good .0 .1 .0 .1)) (c .before .loop .inv .0)
+    (c .loop-test .left) (c .before .loop .inv .1)
 
 pub first-bad-switch-spec : {M : Type 1} → statement M
 first-bad-switch-spec =

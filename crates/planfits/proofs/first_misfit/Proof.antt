@@ -27,9 +27,19 @@ loop-holds c = (search needs, refl)
 returns : tie.Need-returns Inv-loop μ-loop
 unfolding invocationLaid modeLaid taskLaid
 returns c =
-    met-upTo (fitsAt (seen (c .before .before .before .before .before .before .before .before .before .before .before .before .before .before .args .t1))) (length (seen (c .before .before .before .before .before .before .before .before .before .before .before .before .before .before .args .t1) .invocations)) (c .before .before .before .before .before .before .before .before .before .before .loop .k) (omega arith) (c .before .before .before .before .before .before .before .before .before .before .loop .inv .1)
-    (fits-at (c .before .before .before .before .before .before .before .before .before .before .before .before .before .before .args .t1) (sizes (c .before .before .before .before .before .before .before .before .before .before .before .before .before .before .args .t1) _ (c .before .before .before .before .before .before .before .before .before .before .before .before .before .before .good .0)) _ (c .before .before .before .before .before .before .before .before .before .before .loop .k) _ _ (omega arith) refl
-    (c .before .before .before .before .mode-if .ensures ∙ rw (c .before .before .before .before .before .before .before .place .ensures, c .before .before .before .before .before .before .before .before .before .before .before .before .before .mode-count .ensures .0)) (c .before .before .task-if .ensures ∙ rw (c .before .before .before .before .before .before .place2 .ensures, c .before .before .before .before .before .before .before .before .before .before .before .before .task-count .ensures .0))
+    let c1 = c .before .before .before .before in
+    let c2 = c1 .before .before .before in
+    let c3 = c2 .before .before .before in
+    let c4 = c3 .before .before .before in
+    let c5 = c4 .before in
+    let a = c5 .args in
+    met-upTo (fitsAt (seen (a .t1))) (length (seen (a .t1) .invocations)) (c3 .loop .k) (omega arith) (c3 .loop .inv .1)
+    (fits-at (a .t1) (sizes (a .t1) _ (c5 .good .0)) _ (c3 .loop .k) _ _ (omega arith) refl
+    (c1 .mode-if .ensures ∙ rw (c2 .place .ensures, c4 .mode-count .ensures .0))
+    (c .before .before .task-if .ensures ∙ rw (
+      c1 .before .before .place2 .ensures,
+      c3 .before .before .task-count .ensures .0,
+    ))
     ∙ sym (c .before .fits-its-mode .ensures) ∙ not-true _ (c .if1 .taken))
 
 loop-again : tie.Need-loop-again Inv-loop μ-loop
@@ -44,7 +54,9 @@ loop-again c = (
 
 returns-2 : tie.Need-returns-2 Inv-loop μ-loop
 returns-2 c =
-    none-upTo (fitsAt (seen (c .before .before .before .before .before .args .t1))) (length (seen (c .before .before .before .before .before .args .t1) .invocations)) (c .before .loop .k) (omega arith) (omega arith) (c .before .loop .inv .1)
+    let a = c .before .before .before .before .before .args in
+    none-upTo (fitsAt (seen (a .t1))) (length (seen (a .t1) .invocations)) (c .before .loop .k) (omega arith) (omega arith)
+    (c .before .loop .inv .1)
 
 pub first-misfit-spec : {M : Type 1} → statement M
 first-misfit-spec =

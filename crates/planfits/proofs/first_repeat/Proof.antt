@@ -17,13 +17,16 @@ use Rattle.planfits.proofs.first_repeat.Statement.{statement}
 use Rattle.planfits.proofs.first_repeat.Tie as tie
 
 abbrev Inv-loop : tie.InvT-loop
-Inv-loop count invocations later earlier₀ earlier = (earlier ≤ later) × (any (sameRun (getD (map invocationSeen (take count invocations)) later noInvocation)) (take earlier (map invocationSeen (take count invocations))) ≡ false)
+Inv-loop count invocations later earlier₀ earlier =
+    (earlier ≤ later) × (any (sameRun (getD (map invocationSeen (take count invocations)) later noInvocation))
+    (take earlier (map invocationSeen (take count invocations))) ≡ false)
 
 abbrev μ-loop : tie.MeasureT-loop
 μ-loop count invocations later earlier₀ earlier = later - earlier
 
 abbrev Inv-pairs : tie.InvT-pairs
-Inv-pairs count invocations later₀ later = (later ≤ count) × (firstBad (isFreshIn (map invocationSeen (take count invocations))) (upTo later) ≡ none)
+Inv-pairs count invocations later₀ later =
+    (later ≤ count) × (firstBad (isFreshIn (map invocationSeen (take count invocations))) (upTo later) ≡ none)
 
 abbrev μ-pairs : tie.MeasureT-pairs
 μ-pairs count invocations later₀ later = count - later
@@ -54,8 +57,11 @@ returns c = none-upTo _ _ _ (c .before .pairs .inv .0) (c .pairs-test .left) (c 
 returns-2 : tie.Need-returns-2 Inv-loop μ-loop Inv-pairs μ-pairs
 unfolding invocationLaid
 returns-2 c =
-    met-upTo _ _ _ (c .before .before .before .before .before .before .pairs-test .taken) (c .before .before .before .before .before .before .before .pairs .inv .1)
-    (pair-met _ _ _ (omega (arith, c .before .before .before .before .before .before .before .before .good .0 .1 .0 .1)) (c .before .before .before .before .before .before .pairs-test .taken) _ _ (c .before .before .before .before .loop-test .taken) (c .before .same-run .ensures) (c .if1 .taken))
+    let c1 = c .before .before .before .before in
+    let c2 = c1 .before .before in
+    met-upTo _ _ _ (c2 .pairs-test .taken) (c2 .before .pairs .inv .1)
+    (pair-met _ _ _ (omega (arith, c2 .before .before .good .0 .1 .0 .1)) (c2 .pairs-test .taken) _ _ (c1 .loop-test .taken)
+    (c .before .same-run .ensures) (c .if1 .taken))
 
 pub first-repeat-spec : {M : Type 1} → statement M
 first-repeat-spec =

@@ -9,11 +9,22 @@ first-without-mode-requires c κs = c .before .before .before .mode-count .ensur
 
 add-t12 : tie.Need-add-t12
 add-t12 c =
-    omega (arith, c .if1 .taken, c .before .before .before .before .before .before .module-count .ensures .1, c .before .before .before .before .before .mode-count .ensures .1, c .before .before .before .before .task-count .ensures .1, c .before .before .before .invocation-count .ensures .1)
+    let c1 = c .before .before .before in
+    omega (
+      arith,
+      c .if1 .taken,
+      c1 .before .before .before .module-count .ensures .1,
+      c1 .before .before .mode-count .ensures .1,
+      c1 .before .task-count .ensures .1,
+      c1 .invocation-count .ensures .1,
+    )
 
 returns : tie.Need-returns
 returns c =
-    unfit-module (c .before .before .before .before .before .before .before .args .p) _ _ _ _ (c .before .before .before .before .before .before .module-count .ensures .0) (c .before .before .before .before .before .mode-count .ensures .0) (c .before .before .before .before .task-count .ensures .0) (c .before .before .before .invocation-count .ensures .0)
+    let c1 = c .before .before .before in
+    let c2 = c1 .before .before .before in
+    unfit-module (c2 .before .args .p) _ _ _ _ (c2 .module-count .ensures .0) (c1 .before .before .mode-count .ensures .0)
+    (c1 .before .task-count .ensures .0) (c1 .invocation-count .ensures .0)
     _ (c .before .first-without-mode .ensures) (c .if1 .taken)
 
 first-bad-switch-requires : tie.Need-first-bad-switch-requires
@@ -21,16 +32,34 @@ first-bad-switch-requires c κs = c .before .before .before .before .before .mod
 
 add-t13 : tie.Need-add-t13
 add-t13 c =
-    omega (arith, c .before .before .before .before .before .before .before .before .module-count .ensures .1, c .before .before .before .before .before .before .before .mode-count .ensures .1, c .before .before .before .before .before .before .task-count .ensures .1, c .before .before .before .before .before .invocation-count .ensures .1)
+    let c1 = c .before .before .before .before .before in
+    omega (
+      arith,
+      c1 .before .before .before .module-count .ensures .1,
+      c1 .before .before .mode-count .ensures .1,
+      c1 .before .task-count .ensures .1,
+      c1 .invocation-count .ensures .1,
+    )
 
 add-t14 : tie.Need-add-t14
 add-t14 c =
-    omega (arith, c .if2 .taken, c .before .before .before .before .before .before .before .before .module-count .ensures .1, c .before .before .before .before .before .before .before .mode-count .ensures .1, c .before .before .before .before .before .before .task-count .ensures .1, c .before .before .before .before .before .invocation-count .ensures .1)
+    let c1 = c .before .before .before .before .before in
+    omega (
+      arith,
+      c .if2 .taken,
+      c1 .before .before .before .module-count .ensures .1,
+      c1 .before .before .mode-count .ensures .1,
+      c1 .before .task-count .ensures .1,
+      c1 .invocation-count .ensures .1,
+    )
 
 returns-2 : tie.Need-returns-2
 returns-2 c =
-    unfit-mode (c .before .before .before .before .before .before .before .before .before .args .p) _ _ _ _ (c .before .before .before .before .before .before .before .before .module-count .ensures .0) (c .before .before .before .before .before .before .before .mode-count .ensures .0) (c .before .before .before .before .before .before .task-count .ensures .0) (c .before .before .before .before .before .invocation-count .ensures .0)
-    _ (c .before .before .before .first-without-mode .ensures)
+    let c1 = c .before .before .before in
+    let c2 = c1 .before .before .before in
+    unfit-mode (c2 .before .before .before .args .p) _ _ _ _ (c2 .before .before .module-count .ensures .0)
+    (c2 .before .mode-count .ensures .0) (c2 .task-count .ensures .0) (c1 .before .before .invocation-count .ensures .0)
+    _ (c1 .first-without-mode .ensures)
     _ (c .before .before .if1 .left) (c .before .first-bad-switch .ensures) (c .if2 .taken)
 
 first-repeat-requires : tie.Need-first-repeat-requires
@@ -38,33 +67,74 @@ first-repeat-requires c κs = c .before .before .before .before .before .before 
 
 add-t17 : tie.Need-add-t17
 add-t17 c =
-    omega (arith, c .before .before .before .before .before .before .before .before .before .before .before .before .before .module-count .ensures .1, c .before .before .before .before .before .before .before .before .before .before .before .before .mode-count .ensures .1, c .before .before .before .before .before .before .before .before .before .before .before .task-count .ensures .1, c .before .before .before .before .before .before .before .before .before .before .invocation-count .ensures .1)
+    let c1 = c .before .before .before .before .before .before .before .before .before .before in
+    omega (
+      arith,
+      c1 .before .before .before .module-count .ensures .1,
+      c1 .before .before .mode-count .ensures .1,
+      c1 .before .task-count .ensures .1,
+      c1 .invocation-count .ensures .1,
+    )
 
 add-t18 : tie.Need-add-t18
 add-t18 c =
-    omega (arith, c .before .before .before .before .before .before .before .before .before .before .before .before .before .module-count .ensures .1, c .before .before .before .before .before .before .before .before .before .before .before .before .mode-count .ensures .1, c .before .before .before .before .before .before .before .before .before .before .before .task-count .ensures .1, c .before .before .before .before .before .before .before .before .before .before .invocation-count .ensures .1)
+    let c1 = c .before .before .before .before .before .before .before .before .before .before in
+    omega (
+      arith,
+      c1 .before .before .before .module-count .ensures .1,
+      c1 .before .before .mode-count .ensures .1,
+      c1 .before .task-count .ensures .1,
+      c1 .invocation-count .ensures .1,
+    )
 
 add-t19 : tie.Need-add-t19
 add-t19 c =
-    omega (arith, c .before .before .before .before .before .before .before .before .before .before .before .before .before .module-count .ensures .1, c .before .before .before .before .before .before .before .before .before .before .before .before .mode-count .ensures .1, c .before .before .before .before .before .before .before .before .before .before .before .task-count .ensures .1, c .before .before .before .before .before .before .before .before .before .before .invocation-count .ensures .1)
+    let c1 = c .before .before .before .before .before .before .before .before .before .before in
+    omega (
+      arith,
+      c1 .before .before .before .module-count .ensures .1,
+      c1 .before .before .mode-count .ensures .1,
+      c1 .before .task-count .ensures .1,
+      c1 .invocation-count .ensures .1,
+    )
 
 add-t20 : tie.Need-add-t20
 add-t20 c =
-    omega (arith, c .if3 .taken, c .before .before .before .before .before .before .before .before .before .before .before .before .before .module-count .ensures .1, c .before .before .before .before .before .before .before .before .before .before .before .before .mode-count .ensures .1, c .before .before .before .before .before .before .before .before .before .before .before .task-count .ensures .1, c .before .before .before .before .before .before .before .before .before .before .invocation-count .ensures .1)
+    let c1 = c .before .before .before .before .before .before .before .before .before .before in
+    omega (
+      arith,
+      c .if3 .taken,
+      c1 .before .before .before .module-count .ensures .1,
+      c1 .before .before .mode-count .ensures .1,
+      c1 .before .task-count .ensures .1,
+      c1 .invocation-count .ensures .1,
+    )
 
 returns-3 : tie.Need-returns-3
 returns-3 c =
-    unfit-invocation (c .before .before .before .before .before .before .before .before .before .before .before .before .before .before .args .p) _ _ _ _ (c .before .before .before .before .before .before .before .before .before .before .before .before .before .module-count .ensures .0) (c .before .before .before .before .before .before .before .before .before .before .before .before .mode-count .ensures .0) (c .before .before .before .before .before .before .before .before .before .before .before .task-count .ensures .0) (c .before .before .before .before .before .before .before .before .before .before .invocation-count .ensures .0)
-    _ (c .before .before .before .before .before .before .before .before .first-without-mode .ensures)
-    _ (c .before .before .before .before .before .before .before .if1 .left) (c .before .before .before .before .before .before .first-bad-switch .ensures)
-    _ _ _ (c .before .before .before .before .before .if2 .left) (c .before .lower .ensures) (c .before .before .before .first-misfit .ensures) (c .before .before .first-repeat .ensures) (c .if3 .taken)
+    let c1 = c .before .before .before in
+    let c2 = c1 .before .before .before in
+    let c3 = c2 .before .before .before .before in
+    let c4 = c3 .before .before .before in
+    unfit-invocation (c4 .before .args .p) _ _ _ _ (c4 .module-count .ensures .0) (c3 .before .before .mode-count .ensures .0)
+    (c3 .before .task-count .ensures .0) (c3 .invocation-count .ensures .0)
+    _ (c2 .before .before .first-without-mode .ensures)
+    _ (c2 .before .if1 .left) (c2 .first-bad-switch .ensures)
+    _ _ _ (c1 .before .before .if2 .left) (c .before .lower .ensures) (c1 .first-misfit .ensures)
+    (c .before .before .first-repeat .ensures) (c .if3 .taken)
 
 returns-4 : tie.Need-returns-4
 returns-4 c =
-    all-fit (c .before .before .before .before .before .before .before .before .before .before .before .before .before .before .args .p) _ _ _ _ (c .before .before .before .before .before .before .before .before .before .before .before .before .before .module-count .ensures .0) (c .before .before .before .before .before .before .before .before .before .before .before .before .mode-count .ensures .0) (c .before .before .before .before .before .before .before .before .before .before .before .task-count .ensures .0) (c .before .before .before .before .before .before .before .before .before .before .invocation-count .ensures .0)
-    _ (c .before .before .before .before .before .before .before .before .first-without-mode .ensures)
-    _ (c .before .before .before .before .before .before .before .if1 .left) (c .before .before .before .before .before .before .first-bad-switch .ensures)
-    _ _ _ (c .before .before .before .before .before .if2 .left) (c .before .lower .ensures) (c .before .before .before .first-misfit .ensures) (c .before .before .first-repeat .ensures) (c .if3 .left)
+    let c1 = c .before .before .before in
+    let c2 = c1 .before .before .before in
+    let c3 = c2 .before .before .before .before in
+    let c4 = c3 .before .before .before in
+    all-fit (c4 .before .args .p) _ _ _ _ (c4 .module-count .ensures .0) (c3 .before .before .mode-count .ensures .0)
+    (c3 .before .task-count .ensures .0) (c3 .invocation-count .ensures .0)
+    _ (c2 .before .before .first-without-mode .ensures)
+    _ (c2 .before .if1 .left) (c2 .first-bad-switch .ensures)
+    _ _ _ (c1 .before .before .if2 .left) (c .before .lower .ensures) (c1 .first-misfit .ensures)
+    (c .before .before .first-repeat .ensures) (c .if3 .left)
 
 pub first-unfit-spec : {M : Type 1} → statement M
 first-unfit-spec =

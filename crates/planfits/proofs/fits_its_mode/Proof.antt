@@ -7,7 +7,15 @@ use Rattle.planfits.proofs.fits_its_mode.Tie as tie
 returns : tie.Need-returns
 unfolding fitsThese modeSeen taskSeen
 returns c =
-    rw (c .both3 .ensures, c .before .both2 .ensures, c .before .before .before .before .before .both .ensures, c .before .before .before .before .before .before .divides2 .ensures, c .before .before .before .before .before .before .before .divides .ensures, c .before .before .before .before .before .before .before .before .quotient .ensures)
+    let c1 = c .before .before .before .before .before in
+    rw (
+      c .both3 .ensures,
+      c .before .both2 .ensures,
+      c1 .both .ensures,
+      c1 .before .divides2 .ensures,
+      c1 .before .before .divides .ensures,
+      c1 .before .before .before .quotient .ensures,
+    )
 
 pub fits-its-mode-spec : {M : Type 1} → statement M
 fits-its-mode-spec =

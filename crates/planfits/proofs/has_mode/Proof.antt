@@ -26,7 +26,9 @@ loop-holds c = (search needs, refl)
 returns : tie.Need-returns Inv-loop μ-loop
 unfolding hasModeIn isHome modeSeen modeLaid
 returns c =
-    sym (any-part-hit modeSeen (isHome _) _ _ _ (omega (arith, c .before .before .before .before .before .good .0 .1 .0 .1)) (modeLaid noMode) (c .before .before .before .loop-test .taken) (eq-eqb _ _ (sym (c .before .place .ensures) ∙ c .if1 .taken)))
+    let c1 = c .before .before .before in
+    sym (any-part-hit modeSeen (isHome _) _ _ _ (omega (arith, c1 .before .before .good .0 .1 .0 .1)) (modeLaid noMode)
+    (c1 .loop-test .taken) (eq-eqb _ _ (sym (c .before .place .ensures) ∙ c .if1 .taken)))
 
 loop-again : tie.Need-loop-again Inv-loop μ-loop
 unfolding isHome modeSeen modeLaid
@@ -39,7 +41,8 @@ loop-again c = (
 returns-2 : tie.Need-returns-2 Inv-loop μ-loop
 unfolding hasModeIn
 returns-2 c =
-    sym (any-part-end modeSeen (isHome _) _ _ _ (omega (arith, c .before .before .good .0 .1 .0 .1)) (c .before .loop .inv .0) (c .loop-test .left) (c .before .loop .inv .1))
+    sym (any-part-end modeSeen (isHome _) _ _ _ (omega (arith, c .before .before .good .0 .1 .0 .1)) (c .before .loop .inv .0)
+    (c .loop-test .left) (c .before .loop .inv .1))
 
 pub has-mode-spec : {M : Type 1} → statement M
 has-mode-spec =

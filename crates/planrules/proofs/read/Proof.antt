@@ -12,7 +12,8 @@ returns c = c .judged .ensures
 
 returns-2 : tie.Need-returns-2
 returns-2 c =
-    way-broken _ _ _ _ (sym (c .before .before .before .before .gather .ensures) ∙ with-outcome _ _ (c .before .before .outcome .given .1)) (c .refused .ensures)
+    way-broken _ _ _ _ (sym (c .before .before .before .before .gather .ensures) ∙ with-outcome _ _
+    (c .before .before .outcome .given .1)) (c .refused .ensures)
 
 pub read-spec : {M : Type 1} → statement M
 read-spec =

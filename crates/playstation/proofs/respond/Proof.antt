@@ -6,11 +6,14 @@ use Rattle.playstation.proofs.respond.Tie as tie
 
 returns : tie.Need-returns
 unfolding answered
-returns c = c .play .ensures ∙ rw (← c .before .before .before .both .ensures, ← c .before .before .both2 .ensures, c .before .if1 .taken)
+returns c =
+    c .play .ensures ∙ rw (← c .before .before .before .both .ensures, ← c .before .before .both2 .ensures, c .before .if1 .taken)
 
 returns-2 : tie.Need-returns-2
 unfolding answered
-returns-2 c = c .not-begun .ensures ∙ rw (← c .before .before .before .before .before .both .ensures, ← c .before .before .before .before .both2 .ensures, c .before .before .before .if1 .left)
+returns-2 c =
+    let c1 = c .before .before .before in
+    c .not-begun .ensures ∙ rw (← c1 .before .before .both .ensures, ← c1 .before .both2 .ensures, c1 .if1 .left)
 
 pub respond-spec : {M : Type 1} → statement M
 respond-spec =

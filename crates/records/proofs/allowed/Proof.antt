@@ -5,10 +5,14 @@ use Rattle.records.proofs.allowed.Statement.{statement}
 use Rattle.records.proofs.allowed.Tie as tie
 
 returns : tie.Need-returns
-returns c = rw (← c .before .before .before .before .known .ensures, c .before .before .before .if1 .taken, c .before .enum-told .given .1) (c .plan-follows .ensures)
+returns c =
+    let c1 = c .before .before .before in
+    rw (← c1 .before .known .ensures, c1 .if1 .taken, c .before .enum-told .given .1) (c .plan-follows .ensures)
 
 returns-2 : tie.Need-returns-2
-returns-2 c = rw (← c .before .before .before .before .known .ensures, c .before .before .before .if1 .taken, c .before .enum-told2 .given .1) (c .table-follows .ensures)
+returns-2 c =
+    let c1 = c .before .before .before in
+    rw (← c1 .before .known .ensures, c1 .if1 .taken, c .before .enum-told2 .given .1) (c .table-follows .ensures)
 
 returns-3 : tie.Need-returns-3
 returns-3 c = rw (← c .before .known .ensures, c .if1 .left)

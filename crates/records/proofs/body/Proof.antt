@@ -28,7 +28,9 @@ module _ (s : List ℕ) (start end : ℕ) where
       rw (drop-of-length-le s past, take-nil {A = ℕ} (end - start))
 
 returns-2 : tie.Need-returns-2
-returns-2 c = let a = c .before .before .before .before .args in cut (now (a .s)) (a .start) (a .end) (c .before .before .if2 .left)
+returns-2 c =
+    let a = c .before .before .before .before .args in
+    cut (now (a .s)) (a .start) (a .end) (c .before .before .if2 .left)
 
 returns-3 : tie.Need-returns-3
 returns-3 c =

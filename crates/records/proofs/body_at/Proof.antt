@@ -27,7 +27,10 @@ returns c = rw (sym (c .before .before .before .before .next .ensures), c .befor
 
 returns-2 : tie.Need-returns-2
 unfolding bodyAt
-returns-2 c = rw (sym (c .before .before .next .ensures)) (c .body2 .ensures ∙ none (now (c .before .before .before .before .args .s)) (c .before .before .next .result) (c .before .match .keys2))
+returns-2 c =
+    let c1 = c .before .before in
+    rw (sym (c1 .next .ensures)) (c .body2 .ensures ∙ none (now (c1 .before .before .args .s)) (c1 .next .result)
+    (c .before .match .keys2))
 
 pub body-at-spec : {M : Type 1} → statement M
 body-at-spec =

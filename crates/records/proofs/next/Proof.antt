@@ -15,19 +15,57 @@ returns c = simp (le-ltb _ _ (c .if1 .taken))
 
 returns-2 : tie.Need-returns-2
 unfolding nextAt
-returns-2 c = simp (lt-ltb _ _ (c .before .before .before .before .before .if1 .left), sym (c .before .before .before .allowed .ensures) ∙ c .before .before .if2 .taken, eq-eqb _ _ (c .before .if3 .taken), eq-eqb _ _ (c .if4 .taken))
+returns-2 c =
+    let c1 = c .before .before .before in
+    simp (
+      lt-ltb _ _ (c1 .before .before .if1 .left),
+      sym (c1 .allowed .ensures) ∙ c .before .before .if2 .taken,
+      eq-eqb _ _
+          (c .before .if3 .taken),
+      eq-eqb _ _ (c .if4 .taken),
+    )
 
 returns-3 : tie.Need-returns-3
 unfolding nextAt
-returns-3 c = simp (lt-ltb _ _ (c .before .before .before .before .before .if1 .left), sym (c .before .before .before .allowed .ensures) ∙ c .before .before .if2 .taken, eq-eqb _ _ (c .before .if3 .taken), ne-eqb _ _ (c .if4 .left))
+returns-3 c =
+    let c1 = c .before .before .before in
+    simp (
+      lt-ltb _ _ (c1 .before .before .if1 .left),
+      sym (c1 .allowed .ensures) ∙ c .before .before .if2 .taken,
+      eq-eqb _ _
+          (c .before .if3 .taken),
+      ne-eqb _ _ (c .if4 .left),
+    )
 
 returns-4 : tie.Need-returns-4
 unfolding nextAt
-returns-4 c = simp (lt-ltb _ _ (c .before .before .before .before .before .before .if1 .left), sym (c .before .before .before .before .allowed .ensures) ∙ c .before .before .before .if2 .taken, ne-eqb _ _ (c .before .before .if3 .left), sym (known-length _ (both-left _ _ (sym (c .before .before .before .before .allowed .ensures) ∙ c .before .before .before .if2 .taken))) ∙ sym (c .before .body-length .ensures), le-leb _ _ (c .if5 .taken))
+returns-4 c =
+    let c1 = c .before .before .before in
+    let c2 = c1 .before in
+    simp (
+      lt-ltb _ _ (c2 .before .before .if1 .left),
+      sym (c2 .allowed .ensures) ∙ c1 .if2 .taken,
+      ne-eqb _ _
+          (c .before .before .if3 .left),
+      sym (known-length _ (both-left _ _ (sym (c2 .allowed .ensures) ∙ c1 .if2 .taken)))
+          ∙ sym (c .before .body-length .ensures),
+      le-leb _ _ (c .if5 .taken),
+    )
 
 returns-5 : tie.Need-returns-5
 unfolding nextAt
-returns-5 c = simp (lt-ltb _ _ (c .before .before .before .before .before .before .if1 .left), sym (c .before .before .before .before .allowed .ensures) ∙ c .before .before .before .if2 .taken, ne-eqb _ _ (c .before .before .if3 .left), sym (known-length _ (both-left _ _ (sym (c .before .before .before .before .allowed .ensures) ∙ c .before .before .before .if2 .taken))) ∙ sym (c .before .body-length .ensures), lt-leb _ _ (c .if5 .left))
+returns-5 c =
+    let c1 = c .before .before .before in
+    let c2 = c1 .before in
+    simp (
+      lt-ltb _ _ (c2 .before .before .if1 .left),
+      sym (c2 .allowed .ensures) ∙ c1 .if2 .taken,
+      ne-eqb _ _
+          (c .before .before .if3 .left),
+      sym (known-length _ (both-left _ _ (sym (c2 .allowed .ensures) ∙ c1 .if2 .taken)))
+          ∙ sym (c .before .body-length .ensures),
+      lt-leb _ _ (c .if5 .left),
+    )
 
 returns-6 : tie.Need-returns-6
 unfolding nextAt

@@ -18,13 +18,30 @@ abbrev μ-loop : tie.MeasureT-loop
 μ-loop number start count by₀ j₀ by j = j
 
 loop-again : tie.Need-loop-again Inv-loop μ-loop
-loop-again c = (search needs, search needs, c .before .before .before .before .before .loop .inv .2 ∙ rw (c .before .before .place .ensures) (scatter-on (c .before .before .before .before .before .before .args .number .now) (c .before .before .before .before .before .before .args .start .now) _ _ (c .before .before .before .before .loop-test .taken)))
+loop-again c =
+    let c1 = c .before .before .before .before in
+    let a = c1 .before .before .args in (
+      search needs,
+      search needs,
+      c1 .before .loop .inv .2 ∙ rw (c .before .before .place .ensures)
+          (scatter-on (a .number .now) (a .start .now) _ _ (c1 .loop-test .taken)),
+    )
 
 loop-again-2 : tie.Need-loop-again-2 Inv-loop μ-loop
-loop-again-2 c = (search needs, search needs, c .before .before .before .before .loop .inv .2 ∙ scatter-past (c .before .before .before .before .before .args .number .now) (c .before .before .before .before .before .args .start .now) _ _ _ (c .before .before .before .loop-test .taken) (c .before .before .before .before .loop .inv .1) (c .before .place .ensures) (c .if1 .left))
+loop-again-2 c =
+    let c1 = c .before .before .before in
+    let c2 = c1 .before in
+    let a = c2 .before .args in (
+      search needs,
+      search needs,
+      c2 .loop .inv .2 ∙ scatter-past (a .number .now) (a .start .now) _ _ _ (c1 .loop-test .taken)
+          (c2 .loop .inv .1) (c .before .place .ensures) (c .if1 .left),
+    )
 
 returns : tie.Need-returns Inv-loop μ-loop
-returns c = scatter-end (c .before .before .args .number .now) (c .before .before .args .start .now) _ _ (c .loop-test .left) ∙ sym (c .before .loop .inv .2)
+returns c =
+    let a = c .before .before .args in
+    scatter-end (a .number .now) (a .start .now) _ _ (c .loop-test .left) ∙ sym (c .before .loop .inv .2)
 
 pub starts-by-number-spec : {M : Type 1} → statement M
 starts-by-number-spec =

@@ -12,19 +12,37 @@ use Rattle.rows.proofs.table_rows.Tie as tie
 
 abbrev Inv-loop : tie.InvT-loop
 Inv-loop task deadline time number start count tasks₀ deadlines₀ stops₀ j₀ tasks deadlines stops j =
-    (j ≤ count) × (tasks ≡ stores (replicate 256 0) (taskAt task number) j) × (deadlines ≡ stores (replicate 256 0) (taskAt deadline number) j)
+    (j ≤ count) × (tasks ≡ stores (replicate 256 0) (taskAt task number) j) ×
+    (deadlines ≡ stores (replicate 256 0) (taskAt deadline number) j)
     × (stops ≡ stores (replicate 256 0) (stopAt task time number start) j)
 
 abbrev μ-loop : tie.MeasureT-loop
 μ-loop task deadline time number start count tasks₀ deadlines₀ stops₀ j₀ tasks deadlines stops j = count - j
 
 loop-holds : tie.Need-loop-holds Inv-loop μ-loop
-loop-holds c = (search needs, stores-none _ (taskAt (c .args .task .now) (c .args .number .now)), stores-none _ (taskAt (c .args .deadline .now) (c .args .number .now)), stores-none _ (stopAt (c .args .task .now) (c .args .time .now) (c .args .number .now) (c .args .start .now)))
+loop-holds c = (
+  search needs,
+  stores-none _ (taskAt (c .args .task .now) (c .args .number .now)),
+  stores-none _
+      (taskAt (c .args .deadline .now) (c .args .number .now)),
+  stores-none _
+      (stopAt (c .args .task .now) (c .args .time .now) (c .args .number .now) (c .args .start .now)),
+)
 
 loop-again : tie.Need-loop-again Inv-loop μ-loop
 unfolding taskAt stopAt
 loop-again c =
-    (search needs, stores-turn _ (taskAt (c .before .before .before .before .before .before .before .before .args .task .now) (c .before .before .before .before .before .before .before .before .args .number .now)) _ (c .before .before .before .before .before .before .before .loop .inv .1) (c .before .before .before .before .task-of .ensures), stores-turn _ (taskAt (c .before .before .before .before .before .before .before .before .args .deadline .now) (c .before .before .before .before .before .before .before .before .args .number .now)) _ (c .before .before .before .before .before .before .before .loop .inv .2) (c .before .before .deadline-of .ensures), stores-turn _ (stopAt (c .before .before .before .before .before .before .before .before .args .task .now) (c .before .before .before .before .before .before .before .before .args .time .now) (c .before .before .before .before .before .before .before .before .args .number .now) (c .before .before .before .before .before .before .before .before .args .start .now)) _ (c .before .before .before .before .before .before .before .loop .inv .3) (rw (c .stop-of .ensures, c .before .before .before .before .task-of .ensures)))
+    let c1 = c .before .before .before .before in
+    let c2 = c1 .before .before .before in
+    let a = c2 .before .args in (
+      search needs,
+      stores-turn _ (taskAt (a .task .now) (a .number .now)) _ (c2 .loop .inv .1) (c1 .task-of .ensures),
+      stores-turn
+          _ (taskAt (a .deadline .now) (a .number .now)) _ (c2 .loop .inv .2) (c .before .before .deadline-of .ensures),
+      stores-turn
+          _ (stopAt (a .task .now) (a .time .now) (a .number .now) (a .start .now)) _ (c2 .loop .inv .3)
+          (rw (c .stop-of .ensures, c1 .task-of .ensures)),
+    )
 
 returns : tie.Need-returns Inv-loop μ-loop
 unfolding tableRows

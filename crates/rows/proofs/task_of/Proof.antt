@@ -14,7 +14,9 @@ returns : tie.Need-returns
 returns c = rw (c .before .before .place .ensures)
 
 returns-2 : tie.Need-returns-2
-returns-2 c = getD-past (c .before .before .args .task .now) 256 _ _ (c .before .before .pre) (c .before .place .ensures) (c .if1 .left)
+returns-2 c =
+    let start = c .before .before in
+    getD-past (start .args .task .now) 256 _ _ (start .pre) (c .before .place .ensures) (c .if1 .left)
 
 pub task-of-spec : {M : Type 1} → statement M
 task-of-spec = tie.close (tie.spec (λ c κs. search needs) (λ c. search needs) returns returns-2)

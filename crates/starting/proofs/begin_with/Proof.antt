@@ -9,15 +9,28 @@ use Rattle.starting.proofs.begin_with.Statement.{statement}
 use Rattle.starting.proofs.begin_with.Tie as tie
 
 cast-t9 : tie.Need-cast-t9
-cast-t9 c = let a = c .before .before .before .before .before .before .before .args in let w : _ < 16 = firstBad-upTo-within (startTest (a .starting) (a .kept .modules .count) (a .kept .modes .count) (a .kept .modes .homes)) 16 _ (sym (c .before .before .before .wrong-start .ensures) ∙ ap foundOf (c .before .m .given .1)) in omega arith
+cast-t9 c =
+    let c1 = c .before .before .before in
+    let a = c1 .before .before .before .before .args in
+    let w : _ < 16 = firstBad-upTo-within (startTest (a .starting) (a .kept .modules .count) (a .kept .modes .count)
+    (a .kept .modes .homes)) 16 _ (sym (c1 .wrong-start .ensures) ∙ ap foundOf (c .before .m .given .1)) in
+    omega arith
 
 returns : tie.Need-returns
 unfolding begunBy wrongStart
-returns c = let a = c .before .before .before .before .before .before .before .before .args in c .refused .ensures ∙ ap (begunAt (a .kept) (a .starting)) (sym (ap foundOf (c .before .before .m .given .1)) ∙ c .before .before .before .before .wrong-start .ensures)
+returns c =
+    let c1 = c .before .before .before .before in
+    let a = c1 .before .before .before .before .args in
+    c .refused .ensures ∙ ap (begunAt (a .kept) (a .starting))
+    (sym (ap foundOf (c .before .before .m .given .1)) ∙ c1 .wrong-start .ensures)
 
 returns-2 : tie.Need-returns-2
 unfolding begunBy wrongStart
-returns-2 c = let a = c .before .before .before .before .before .before .before .args in rw (c .started .ensures) (ap (begunAt (a .kept) (a .starting)) (sym (ap foundOf (c .before .enum-told .given .1)) ∙ c .before .before .before .wrong-start .ensures))
+returns-2 c =
+    let c1 = c .before .before .before in
+    let a = c1 .before .before .before .before .args in
+    rw (c .started .ensures) (ap (begunAt (a .kept) (a .starting))
+    (sym (ap foundOf (c .before .enum-told .given .1)) ∙ c1 .wrong-start .ensures))
 
 pub begin-with-spec : {M : Type 1} → statement M
 begin-with-spec =

@@ -6,7 +6,15 @@ returns : tie.Need-returns
 returns c = rw (c .enum-told .given .1)
 
 returns-2 : tie.Need-returns-2
-returns-2 c = rw (c .before .before .before .before .before .before .before .start .given .1, c .both2 .ensures, c .before .both .ensures, c .before .before .byte-at .ensures .0, c .before .before .before .place .ensures)
+returns-2 c =
+    let c1 = c .before .before .before in
+    rw (
+      c1 .before .before .before .before .start .given .1,
+      c .both2 .ensures,
+      c .before .both .ensures,
+      c .before .before .byte-at .ensures .0,
+      c1 .place .ensures,
+    )
 
 pub holds-own-spec : {M : Type 1} → statement M
 holds-own-spec =

@@ -16,11 +16,14 @@ loop-holds c = (search needs, passed-none)
 
 loop-again : tie.Need-loop-again Inv-loop μ-loop
 unfolding startTest
-loop-again c = (search needs, passed-turn (c .before .before .before .before .loop .inv .1) (c .before .holds-own .ensures) (c .if1 .taken))
+loop-again c =
+    (search needs, passed-turn (c .before .before .before .before .loop .inv .1) (c .before .holds-own .ensures) (c .if1 .taken))
 
 returns : tie.Need-returns Inv-loop μ-loop
 unfolding startTest
-returns c = passed-hit (c .before .before .before .before .loop .inv .1) (c .before .before .before .loop-test .taken) (c .before .holds-own .ensures) (c .if1 .left)
+returns c =
+    let c1 = c .before .before .before in
+    passed-hit (c1 .before .loop .inv .1) (c1 .loop-test .taken) (c .before .holds-own .ensures) (c .if1 .left)
 
 returns-2 : tie.Need-returns-2 Inv-loop μ-loop
 returns-2 c = passed-end (c .before .loop .inv .1) (c .before .loop .inv .0) (c .loop-test .left)

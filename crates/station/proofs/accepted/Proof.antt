@@ -7,7 +7,11 @@ use Rattle.station.proofs.accepted.Tie as tie
 
 returns : tie.Need-returns
 returns c =
-    λ nodes valued. accepted-way _ _ _ valued (c .before .before .before .before .before .before .before .before .before .before .before .before .before .pre) (c .before .before .before .before .before .before .before .ends-now .ensures) (c .before .before .before .before .before .moves .ensures .0) (c .before .before .before .before .what-lands .ensures) (c .before .before .is-idle .ensures) (c .before .before .before .before .before .moves .ensures .1)
+    let c1 = c .before .before .before .before in
+    let c2 = c1 .before in
+    let start = c2 .before .before .before .before .before .before .before .before in
+    λ nodes valued. accepted-way _ _ _ valued (start .pre) (c2 .before .before .ends-now .ensures) (c2 .moves .ensures .0)
+    (c1 .what-lands .ensures) (c .before .before .is-idle .ensures) (c2 .moves .ensures .1)
 
 pub accepted-spec : {M : Type 1} → statement M
 accepted-spec =

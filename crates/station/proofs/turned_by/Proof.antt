@@ -12,8 +12,9 @@ accepted-requires c κs = sym (ap judgedOf (c .enum-told .given .1)) ∙ c .befo
 
 returns : tie.Need-returns
 returns c =
+    let c1 = c .before .before in
     λ nodes valued. rw (c .at-rest .ensures)
-    (refused-way _ _ _ valued (c .before .before .x .given .0 .0) (sym (ap judgedOf (c .before .before .x .given .1)) ∙ c .before .before .before .before .refused .ensures) _)
+    (refused-way _ _ _ valued (c1 .x .given .0 .0) (sym (ap judgedOf (c1 .x .given .1)) ∙ c1 .before .before .refused .ensures) _)
 
 returns-2 : tie.Need-returns-2
 returns-2 c = c .accepted .ensures

@@ -8,7 +8,10 @@ use Rattle.stationbus.proofs.bytes_after.Statement.{statement}
 use Rattle.stationbus.proofs.bytes_after.Tie as tie
 
 returns : tie.Need-returns
-returns c = let a = c .before .before .args in stores-idle (a .bytes) (modeByteRule (now (a .sends)) (now (a .nodes)) (numberAt (now (a .modes))) (now (a .senders)) (a .bytes) (foundOf (a .row))) 16 0 (λ k w. rw (c .enum-told .given .1))
+returns c =
+    let a = c .before .before .args in
+    stores-idle (a .bytes) (modeByteRule (now (a .sends)) (now (a .nodes)) (numberAt (now (a .modes))) (now (a .senders))
+    (a .bytes) (foundOf (a .row))) 16 0 (λ k w. rw (c .enum-told .given .1))
 
 returns-2 : tie.Need-returns-2
 returns-2 c = rw (c .before .before .before .before .row .given .1) (c .bytes-from .ensures ∙ rw (c .before .byte-at .ensures .0))

@@ -19,11 +19,17 @@ loop-holds c = (search needs, passed-none)
 
 returns : tie.Need-returns Inv-loop μ-loop
 unfolding rowWith hasOther
-returns c = passed-hit (c .before .before .before .loop .inv .1) (c .before .before .loop-test .taken) refl (rw (← c .before .number-at .ensures, eq-eqb _ _ (c .if1 .taken)))
+returns c =
+    passed-hit (c .before .before .before .loop .inv .1) (c .before .before .loop-test .taken) refl
+    (rw (← c .before .number-at .ensures, eq-eqb _ _ (c .if1 .taken)))
 
 loop-again : tie.Need-loop-again Inv-loop μ-loop
 unfolding hasOther
-loop-again c = (search needs, passed-turn (c .before .before .before .loop .inv .1) refl (rw (← c .before .number-at .ensures, ne-eqb _ _ (c .if1 .left))))
+loop-again c = (
+  search needs,
+  passed-turn (c .before .before .before .loop .inv .1) refl
+      (rw (← c .before .number-at .ensures, ne-eqb _ _ (c .if1 .left))),
+)
 
 returns-2 : tie.Need-returns-2 Inv-loop μ-loop
 unfolding rowWith

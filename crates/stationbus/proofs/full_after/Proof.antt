@@ -7,7 +7,16 @@ returns : tie.Need-returns
 returns c = rw (c .enum-told .given .1)
 
 returns-2 : tie.Need-returns-2
-returns-2 c = rw (c .before .before .before .before .before .before .before .before .before .before .row .given .1) (c .has-message .ensures ∙ rw (c .before .number-at .ensures, c .before .before .before .byte-at3 .ensures .0, c .before .before .before .before .byte-at2 .ensures .0, c .before .before .before .before .before .before .before .byte-at .ensures .0))
+returns-2 c =
+    let c1 = c .before .before .before in
+    let c2 = c1 .before .before .before .before in
+    rw (c2 .before .before .before .row .given .1)
+    (c .has-message .ensures ∙ rw (
+      c .before .number-at .ensures,
+      c1 .byte-at3 .ensures .0,
+      c1 .before .byte-at2 .ensures .0,
+      c2 .byte-at .ensures .0,
+    ))
 
 pub full-after-spec : {M : Type 1} → statement M
 full-after-spec =

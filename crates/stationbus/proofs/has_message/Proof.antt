@@ -11,10 +11,22 @@ use Rattle.stationbus.proofs.has_message.Statement.{statement}
 use Rattle.stationbus.proofs.has_message.Tie as tie
 
 returns : tie.Need-returns
-returns c = let a = c .before .before .before .before .before .before .args in message-yes (getD (now (a .bus)) (a .task) false) (ltb 0 (periodAt (now (a .runs)) (a .mode) (a .task))) (divides (periodAt (now (a .runs)) (a .mode) (a .task)) (a .deadline)) (c .before .before .both .ensures ∙ rw (c .before .before .before .flag-at .ensures, c .before .before .before .before .before .period-at .ensures)) (c .before .if1 .taken) (c .divides .ensures ∙ rw (c .before .before .before .before .before .period-at .ensures))
+returns c =
+    let c1 = c .before .before .before in
+    let c2 = c1 .before .before in
+    let a = c2 .before .args in
+    message-yes (getD (now (a .bus)) (a .task) false) (ltb 0 (periodAt (now (a .runs)) (a .mode) (a .task)))
+    (divides (periodAt (now (a .runs)) (a .mode) (a .task)) (a .deadline))
+    (c .before .before .both .ensures ∙ rw (c1 .flag-at .ensures, c2 .period-at .ensures)) (c .before .if1 .taken)
+    (c .divides .ensures ∙ rw (c2 .period-at .ensures))
 
 returns-2 : tie.Need-returns-2
-returns-2 c = let a = c .before .before .before .before .before .args in message-no (getD (now (a .bus)) (a .task) false) (ltb 0 (periodAt (now (a .runs)) (a .mode) (a .task))) (divides (periodAt (now (a .runs)) (a .mode) (a .task)) (a .deadline)) (c .before .both .ensures ∙ rw (c .before .before .flag-at .ensures, c .before .before .before .before .period-at .ensures)) (c .if1 .left)
+returns-2 c =
+    let c1 = c .before .before .before .before in
+    let a = c1 .before .args in
+    message-no (getD (now (a .bus)) (a .task) false) (ltb 0 (periodAt (now (a .runs)) (a .mode) (a .task)))
+    (divides (periodAt (now (a .runs)) (a .mode) (a .task)) (a .deadline))
+    (c .before .both .ensures ∙ rw (c .before .before .flag-at .ensures, c1 .period-at .ensures)) (c .if1 .left)
 
 pub has-message-spec : {M : Type 1} → statement M
 has-message-spec =

@@ -10,16 +10,33 @@ use Rattle.stationbus.proofs.held_after.Statement.{statement}
 use Rattle.stationbus.proofs.held_after.Tie as tie
 
 returns : tie.Need-returns
-returns c = let a = c .before .before .args in
+returns c =
+    let a = c .before .before .args in
     let size : length (a .held) ≡ 128 = search needs in
-    let e : a .held ≡ stores (a .held) (heldRule (now (a .sends)) (now (a .nodes)) (now (a .bytes)) (now (a .senders)) (a .held) (foundOf (a .row))) 128 = stores-idle (a .held) (heldRule (now (a .sends)) (now (a .nodes)) (now (a .bytes)) (now (a .senders)) (a .held) (foundOf (a .row))) 128 0 (λ k w. rw (c .enum-told .given .1)) in
-    (e, stores-within (a .held) (heldRule (now (a .sends)) (now (a .nodes)) (now (a .bytes)) (now (a .senders)) (a .held) (foundOf (a .row))) 128 0 size e)
+    let e : a .held ≡ stores (a .held) (heldRule (now (a .sends)) (now (a .nodes)) (now (a .bytes)) (now (a .senders)) (a .held)
+    (foundOf (a .row))) 128 = stores-idle (a .held)
+    (heldRule (now (a .sends)) (now (a .nodes)) (now (a .bytes)) (now (a .senders)) (a .held) (foundOf (a .row))) 128 0
+    (λ k w. rw (c .enum-told .given .1)) in (
+      e,
+      stores-within (a .held) (heldRule (now (a .sends)) (now (a .nodes)) (now (a .bytes)) (now (a .senders)) (a .held)
+          (foundOf (a .row))) 128 0 size e,
+    )
 
 returns-2 : tie.Need-returns-2
-returns-2 c = let a = c .before .before .before .before .before .before .args in
+returns-2 c =
+    let c1 = c .before .before .before .before in
+    let a = c1 .before .before .args in
     let size : length (a .held) ≡ 128 = search needs in
-    let e : c .held-from .result ≡ stores (a .held) (heldRule (now (a .sends)) (now (a .nodes)) (now (a .bytes)) (now (a .senders)) (a .held) (foundOf (a .row))) 128 = c .held-from .ensures ∙ ap (λ s. stores (a .held) (heldAt (now (a .sends)) (now (a .nodes)) (now (a .bytes)) s (a .held)) 128) (c .before .byte-at .ensures .0) ∙ ap (λ o. stores (a .held) (heldRule (now (a .sends)) (now (a .nodes)) (now (a .bytes)) (now (a .senders)) (a .held) o) 128) (sym (ap foundOf (c .before .before .before .before .row .given .1))) in
-    (e, stores-within (a .held) (heldRule (now (a .sends)) (now (a .nodes)) (now (a .bytes)) (now (a .senders)) (a .held) (foundOf (a .row))) 128 0 size e)
+    let e : c .held-from .result ≡ stores (a .held)
+    (heldRule (now (a .sends)) (now (a .nodes)) (now (a .bytes)) (now (a .senders)) (a .held) (foundOf (a .row))) 128 =
+    c .held-from .ensures ∙ ap (λ s. stores (a .held) (heldAt (now (a .sends)) (now (a .nodes)) (now (a .bytes)) s (a .held))
+    128) (c .before .byte-at .ensures .0) ∙ ap
+    (λ o. stores (a .held) (heldRule (now (a .sends)) (now (a .nodes)) (now (a .bytes)) (now (a .senders)) (a .held) o) 128)
+    (sym (ap foundOf (c1 .row .given .1))) in (
+      e,
+      stores-within (a .held) (heldRule (now (a .sends)) (now (a .nodes)) (now (a .bytes)) (now (a .senders)) (a .held)
+          (foundOf (a .row))) 128 0 size e,
+    )
 
 pub held-after-spec : {M : Type 1} → statement M
 held-after-spec =

@@ -3,10 +3,24 @@ use Rattle.stationbus.proofs.held_at.Statement.{statement}
 use Rattle.stationbus.proofs.held_at.Tie as tie
 
 returns : tie.Need-returns
-returns c = rw (← c .before .before .before .before .before .is-byte-of .ensures, ← c .before .before .before .byte-at .ensures .0, ← c .before .before .both .ensures, c .before .if1 .taken)
+returns c =
+    let c1 = c .before .before .before in
+    rw (
+      ← c1 .before .before .is-byte-of .ensures,
+      ← c1 .byte-at .ensures .0,
+      ← c .before .before .both .ensures,
+      c .before .if1 .taken,
+    )
 
 returns-2 : tie.Need-returns-2
-returns-2 c = rw (← c .before .before .before .before .is-byte-of .ensures, ← c .before .before .byte-at .ensures .0, ← c .before .both .ensures, c .if1 .left)
+returns-2 c =
+    rw (
+      ← c .before .before .before .before .is-byte-of .ensures,
+      ← c .before .before .byte-at .ensures .0,
+      ←
+          c .before .both .ensures,
+      c .if1 .left,
+    )
 
 pub held-at-spec : {M : Type 1} → statement M
 held-at-spec =

@@ -24,7 +24,9 @@ unfolding hasOther
 loop-again c = (search needs, tested-turn (c .before .before .before .loop .inv .1) (c .both .ensures) (cc))
 
 returns-2 : tie.Need-returns-2 Inv-loop μ-loop
-returns-2 c = rw (le-leb _ _ (c .before .before .if1 .left)) (tested-end (c .before .loop .inv .1) (c .before .loop .inv .0) (c .loop-test .left))
+returns-2 c =
+    rw (le-leb _ _ (c .before .before .if1 .left))
+    (tested-end (c .before .loop .inv .1) (c .before .loop .inv .0) (c .loop-test .left))
 
 pub lacks-spec : {M : Type 1} → statement M
 lacks-spec =

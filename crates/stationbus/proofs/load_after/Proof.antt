@@ -4,7 +4,9 @@ use Rattle.stationbus.proofs.load_after.Statement.{statement}
 use Rattle.stationbus.proofs.load_after.Tie as tie
 
 returns-2 : tie.Need-returns-2
-returns-2 c = rw (c .before .before .before .before .before .row .given .1) (c .value-at .ensures ∙ rw (c .before .byte-at .ensures .0))
+returns-2 c =
+    let c1 = c .before .before .before .before .before in
+    rw (c1 .row .given .1) (c .value-at .ensures ∙ rw (c .before .byte-at .ensures .0))
 
 pub load-after-spec : {M : Type 1} → statement M
 load-after-spec =

@@ -3,7 +3,18 @@ use Rattle.stationjudge.proofs.is_allowed.Statement.{statement}
 use Rattle.stationjudge.proofs.is_allowed.Tie as tie
 
 returns-2 : tie.Need-returns-2
-returns-2 c = rw (c .before .before .before .before .before .before .before .before .before .change .given .1, c .both3 .ensures, c .before .before .both2 .ensures, c .before .before .before .both .ensures, c .before .before .before .before .byte-at .ensures .0, c .before .before .before .before .before .place .ensures, c .before .divides .ensures)
+returns-2 c =
+    let c1 = c .before .before .before in
+    let c2 = c1 .before .before .before .before .before .before in
+    rw (
+      c2 .change .given .1,
+      c .both3 .ensures,
+      c .before .before .both2 .ensures,
+      c1 .both .ensures,
+      c1 .before .byte-at .ensures .0,
+      c1 .before .before .place .ensures,
+      c .before .divides .ensures,
+    )
 
 pub is-allowed-spec : {M : Type 1} → statement M
 is-allowed-spec =

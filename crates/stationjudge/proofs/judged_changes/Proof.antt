@@ -11,16 +11,24 @@ use Rattle.stationjudge.proofs.judged_changes.Statement.{statement}
 use Rattle.stationjudge.proofs.judged_changes.Tie as tie
 
 cast-t14 : tie.Need-cast-t14
-cast-t14 c = let a = c .before .before .before .before .before .before .args in let w : _ < 16 = firstBad-upTo-within (allowedTest (a .changes) (a .modules) (a .modes) (now (a .homes)) (now (a .switches)) (now (a .running)) (now (a .ages))) 16 _ (sym (c .before .before .before .not-allowed .ensures) ∙ ap foundOf (c .before .m .given .1)) in omega arith
+cast-t14 c =
+    let c1 = c .before .before .before in
+    let a = c1 .before .before .before .args in
+    let w : _ < 16 = firstBad-upTo-within (allowedTest (a .changes) (a .modules) (a .modes) (now (a .homes)) (now (a .switches))
+    (now (a .running)) (now (a .ages))) 16 _ (sym (c1 .not-allowed .ensures) ∙ ap foundOf (c .before .m .given .1)) in
+    omega arith
 
 returns : tie.Need-returns
 returns c = rw (c .before .before2 .given .1)
 
 returns-2 : tie.Need-returns-2
-returns-2 c = rw (c .before .before .before .before .enum-told .given .1, ← c .before .before .before .not-allowed .ensures, c .before .m .given .1, zero-add)
+returns-2 c =
+    let c1 = c .before .before .before in
+    rw (c1 .before .enum-told .given .1, ← c1 .not-allowed .ensures, c .before .m .given .1, zero-add)
 
 returns-3 : tie.Need-returns-3
-returns-3 c = rw (c .before .before .before .enum-told .given .1, ← c .before .before .not-allowed .ensures, c .enum-told2 .given .1)
+returns-3 c =
+    rw (c .before .before .before .enum-told .given .1, ← c .before .before .not-allowed .ensures, c .enum-told2 .given .1)
 
 pub judged-changes-spec : {M : Type 1} → statement M
 judged-changes-spec =

@@ -11,25 +11,72 @@ use Rattle.stationjudge.proofs.judged_results.Statement.{statement}
 use Rattle.stationjudge.proofs.judged_results.Tie as tie
 
 cast-t15 : tie.Need-cast-t15
-cast-t15 c = let a = c .before .before .before .before .args in let w : _ < 32 = firstBad-upTo-within (awaitedTest (a .results) (a .tasks) (now (a .runs)) (now (a .modes)) (now (a .ages)) (now (a .homes)) (now (a .givens)) (now (a .worsts))) 32 _ (sym (c .before .before .before .not-awaited .ensures) ∙ ap foundOf (c .before .t .given .1)) in omega arith
+cast-t15 c =
+    let c1 = c .before .before .before in
+    let a = c1 .before .args in
+    let w : _ < 32 = firstBad-upTo-within (awaitedTest (a .results) (a .tasks) (now (a .runs)) (now (a .modes)) (now (a .ages))
+    (now (a .homes)) (now (a .givens)) (now (a .worsts))) 32 _
+    (sym (c1 .not-awaited .ensures) ∙ ap foundOf (c .before .t .given .1)) in
+    omega arith
 
 cast-t20 : tie.Need-cast-t20
-cast-t20 c = let a = c .before .before .before .before .before .before .before .args in let w : _ < 32 = firstBad-upTo-within (fitsTest (a .results) (now (a .sizes))) 32 _ (sym (c .before .before .before .too-large .ensures) ∙ ap foundOf (c .before .t2 .given .1)) in omega arith
+cast-t20 c =
+    let c1 = c .before .before .before in
+    let a = c1 .before .before .before .before .args in
+    let w : _ < 32 = firstBad-upTo-within (fitsTest (a .results) (now (a .sizes))) 32 _
+    (sym (c1 .too-large .ensures) ∙ ap foundOf (c .before .t2 .given .1)) in
+    omega arith
 
 cast-t25 : tie.Need-cast-t25
-cast-t25 c = let a = c .before .before .before .before .before .before .before .before .before .before .args in let w : _ < 32 = firstBad-upTo-within (inTimeTest (a .results) (a .tasks) (now (a .runs)) (now (a .modes)) (now (a .ages)) (now (a .homes)) (now (a .givens)) (now (a .worsts))) 32 _ (sym (c .before .before .before .overdue .ensures) ∙ ap foundOf (c .before .t3 .given .1)) in omega arith
+cast-t25 c =
+    let c1 = c .before .before .before in
+    let start = c1 .before .before .before .before .before .before .before in
+    let a = start .args in
+    let w : _ < 32 = firstBad-upTo-within (inTimeTest (a .results) (a .tasks) (now (a .runs)) (now (a .modes)) (now (a .ages))
+    (now (a .homes)) (now (a .givens)) (now (a .worsts))) 32 _
+    (sym (c1 .overdue .ensures) ∙ ap foundOf (c .before .t3 .given .1)) in
+    omega arith
 
 returns : tie.Need-returns
 returns c = rw (← c .before .before .before .not-awaited .ensures, c .before .t .given .1, zero-add)
 
 returns-2 : tie.Need-returns-2
-returns-2 c = rw (← c .before .before .before .before .before .before .not-awaited .ensures, c .before .before .before .before .enum-told .given .1, ← c .before .before .before .too-large .ensures, c .before .t2 .given .1, zero-add)
+returns-2 c =
+    let c1 = c .before .before .before in
+    rw (
+      ← c1 .before .before .before .not-awaited .ensures,
+      c1 .before .enum-told .given .1,
+      ← c1 .too-large .ensures,
+      c .before .t2 .given .1,
+      zero-add,
+    )
 
 returns-3 : tie.Need-returns-3
-returns-3 c = rw (← c .before .before .before .before .before .before .before .before .before .not-awaited .ensures, c .before .before .before .before .before .before .before .enum-told .given .1, ← c .before .before .before .before .before .before .too-large .ensures, c .before .before .before .before .enum-told2 .given .1, ← c .before .before .before .overdue .ensures, c .before .t3 .given .1, zero-add)
+returns-3 c =
+    let c1 = c .before .before .before in
+    let c2 = c1 .before .before .before in
+    rw (
+      ← c2 .before .before .before .not-awaited .ensures,
+      c2 .before .enum-told .given .1,
+      ← c2 .too-large .ensures,
+      c1 .before .enum-told2 .given .1,
+      ← c1 .overdue .ensures,
+      c .before .t3 .given .1,
+      zero-add,
+    )
 
 returns-4 : tie.Need-returns-4
-returns-4 c = rw (← c .before .before .before .before .before .before .before .before .not-awaited .ensures, c .before .before .before .before .before .before .enum-told .given .1, ← c .before .before .before .before .before .too-large .ensures, c .before .before .before .enum-told2 .given .1, ← c .before .before .overdue .ensures, c .enum-told3 .given .1)
+returns-4 c =
+    let c1 = c .before .before .before in
+    let c2 = c1 .before .before .before in
+    rw (
+      ← c2 .before .before .not-awaited .ensures,
+      c2 .enum-told .given .1,
+      ← c1 .before .before .too-large .ensures,
+      c1 .enum-told2 .given .1,
+      ← c .before .before .overdue .ensures,
+      c .enum-told3 .given .1,
+    )
 
 pub judged-results-spec : {M : Type 1} → statement M
 judged-results-spec =

@@ -7,7 +7,8 @@ use Rattle.stationjudge.proofs.not_allowed.Statement.{statement}
 use Rattle.stationjudge.proofs.not_allowed.Tie as tie
 
 abbrev Inv-loop : tie.InvT-loop
-Inv-loop modules modes homes switches running ages changes m₀ m = (m ≤ 16) × Passed (allowedTest changes modules modes homes switches running ages) m
+Inv-loop modules modes homes switches running ages changes m₀ m =
+    (m ≤ 16) × Passed (allowedTest changes modules modes homes switches running ages) m
 
 abbrev μ-loop : tie.MeasureT-loop
 μ-loop modules modes homes switches running ages changes m₀ m = 16 - m
@@ -16,10 +17,20 @@ loop-holds : tie.Need-loop-holds Inv-loop μ-loop
 loop-holds c = (search needs, passed-none)
 
 loop-again : tie.Need-loop-again Inv-loop μ-loop
-loop-again c = (search needs, passed-turn (c .before .before .before .before .before .before .before .before .before .loop .inv .1) (c .before .is-allowed .ensures ∙ rw (c .before .before .before .number-at .ensures, c .before .before .before .before .byte-at .ensures .0)) (c .if1 .taken))
+loop-again c =
+    let c1 = c .before .before .before in
+    let c2 = c1 .before .before .before .before .before .before in (
+      search needs,
+      passed-turn (c2 .loop .inv .1)
+          (c .before .is-allowed .ensures ∙ rw (c1 .number-at .ensures, c1 .before .byte-at .ensures .0)) (c .if1 .taken),
+    )
 
 returns : tie.Need-returns Inv-loop μ-loop
-returns c = passed-hit (c .before .before .before .before .before .before .before .before .before .loop .inv .1) (c .before .before .before .before .before .before .before .before .loop-test .taken) (c .before .is-allowed .ensures ∙ rw (c .before .before .before .number-at .ensures, c .before .before .before .before .byte-at .ensures .0)) (c .if1 .left)
+returns c =
+    let c1 = c .before .before .before in
+    let c2 = c1 .before .before .before .before .before in
+    passed-hit (c2 .before .loop .inv .1) (c2 .loop-test .taken)
+    (c .before .is-allowed .ensures ∙ rw (c1 .number-at .ensures, c1 .before .byte-at .ensures .0)) (c .if1 .left)
 
 returns-2 : tie.Need-returns-2 Inv-loop μ-loop
 returns-2 c = passed-end (c .before .loop .inv .1) (c .before .loop .inv .0) (c .loop-test .left)

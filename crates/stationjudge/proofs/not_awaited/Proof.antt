@@ -7,7 +7,8 @@ use Rattle.stationjudge.proofs.not_awaited.Statement.{statement}
 use Rattle.stationjudge.proofs.not_awaited.Tie as tie
 
 abbrev Inv-loop : tie.InvT-loop
-Inv-loop tasks runs modes ages homes givens worsts results t₀ t = (t ≤ 32) × Passed (awaitedTest results tasks runs modes ages homes givens worsts) t
+Inv-loop tasks runs modes ages homes givens worsts results t₀ t =
+    (t ≤ 32) × Passed (awaitedTest results tasks runs modes ages homes givens worsts) t
 
 abbrev μ-loop : tie.MeasureT-loop
 μ-loop tasks runs modes ages homes givens worsts results t₀ t = 32 - t
@@ -16,10 +17,18 @@ loop-holds : tie.Need-loop-holds Inv-loop μ-loop
 loop-holds c = (search needs, passed-none)
 
 loop-again : tie.Need-loop-again Inv-loop μ-loop
-loop-again c = (search needs, passed-turn (c .before .before .before .before .before .before .before .loop .inv .1) (c .before .is-awaited .ensures ∙ rw (c .before .before .before .before .run-at .ensures)) (c .if1 .taken))
+loop-again c =
+    let c1 = c .before .before .before .before in (
+      search needs,
+      passed-turn (c1 .before .before .before .loop .inv .1)
+          (c .before .is-awaited .ensures ∙ rw (c1 .run-at .ensures)) (c .if1 .taken),
+    )
 
 returns : tie.Need-returns Inv-loop μ-loop
-returns c = passed-hit (c .before .before .before .before .before .before .before .loop .inv .1) (c .before .before .before .before .before .before .loop-test .taken) (c .before .is-awaited .ensures ∙ rw (c .before .before .before .before .run-at .ensures)) (c .if1 .left)
+returns c =
+    let c1 = c .before .before .before .before in
+    passed-hit (c1 .before .before .before .loop .inv .1) (c1 .before .before .loop-test .taken)
+    (c .before .is-awaited .ensures ∙ rw (c1 .run-at .ensures)) (c .if1 .left)
 
 returns-2 : tie.Need-returns-2 Inv-loop μ-loop
 returns-2 c = passed-end (c .before .loop .inv .1) (c .before .loop .inv .0) (c .loop-test .left)

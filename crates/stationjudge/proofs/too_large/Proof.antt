@@ -15,10 +15,14 @@ loop-holds : tie.Need-loop-holds Inv-loop μ-loop
 loop-holds c = (search needs, passed-none)
 
 loop-again : tie.Need-loop-again Inv-loop μ-loop
-loop-again c = (search needs, passed-turn (c .before .before .before .before .before .loop .inv .1) (c .before .fits2 .ensures) (c .if1 .taken))
+loop-again c =
+    let c1 = c .before .before .before .before .before in
+    (search needs, passed-turn (c1 .loop .inv .1) (c .before .fits2 .ensures) (c .if1 .taken))
 
 returns : tie.Need-returns Inv-loop μ-loop
-returns c = passed-hit (c .before .before .before .before .before .loop .inv .1) (c .before .before .before .before .loop-test .taken) (c .before .fits2 .ensures) (c .if1 .left)
+returns c =
+    let c1 = c .before .before .before .before in
+    passed-hit (c1 .before .loop .inv .1) (c1 .loop-test .taken) (c .before .fits2 .ensures) (c .if1 .left)
 
 returns-2 : tie.Need-returns-2 Inv-loop μ-loop
 returns-2 c = passed-end (c .before .loop .inv .1) (c .before .loop .inv .0) (c .loop-test .left)

@@ -3,7 +3,14 @@ use Rattle.stationmoves.proofs.data_row.Statement.{statement}
 use Rattle.stationmoves.proofs.data_row.Tie as tie
 
 returns : tie.Need-returns
-returns c = rw (c .number-at3 .ensures, c .before .before .number-at2 .ensures, c .before .before .before .before .number-at .ensures, c .before .before .before .before .before .before .byte-at .ensures .0)
+returns c =
+    let c1 = c .before .before .before .before in
+    rw (
+      c .number-at3 .ensures,
+      c .before .before .number-at2 .ensures,
+      c1 .number-at .ensures,
+      c1 .before .before .byte-at .ensures .0,
+    )
 
 pub data-row-spec : {M : Type 1} → statement M
 data-row-spec =

@@ -13,13 +13,24 @@ use Rattle.stationmoves.proofs.played.Tie as tie
 returns : tie.Need-returns
 unfolding playBy
 returns c =
-    let a = c .before .before .before .before .before .before .before .before .before .before .before .before .before .before .before .before .before .before .before .before .before .before .before .before .before .before .before .before .before .before .before .args in (
-      play-made (c .one-on .ensures) (c .before .before .before .before .before .before .before .before .before .before .before .before .before .before .before .before .before .before .before .before .before .before .before .before .before .before .modes-after .ensures .0) (c .before .before .before .before .before .before .before .before .before .before .before .before .before .before .before .before .before .before .before .before .ages-after .ensures)
-          (c .before .before .before .before .before .before .before .before .bytes-after .ensures ∙ bytes-same _ (modeRule (a .changes) (a .t7 .running)) (c .before .before .before .before .before .before .before .before .before .before .before .before .before .before .before .before .before .before .before .before .before .before .before .before .before .before .modes-after .ensures .1) (a .t3 .sending) (a .t3 .sites) (a .t6 .nodes) (a .t7 .bytes) (foundOf (a .control)))
-          (c .before .before .before .before .before .before .before .before .before .before .before .before .before .before .before .before .givens-after .ensures) (c .before .before .before .before .before .before .before .before .before .before .before .before .before .before .before .before .before .before .before .before .before .before .before .before .before .before .before .before .before .out-after .ensures .0) (c .before .before .before .before .before .before .before .before .before .before .before .before .before .before .before .before .before .before .before .before .before .before .before .before .before .before .before .before .held-by .ensures .0)
-          (c .before .before .before .full-after .ensures ∙ full-same _ (modeRule (a .changes) (a .t7 .running)) (c .before .before .before .before .before .before .before .before .before .before .before .before .before .before .before .before .before .before .before .before .before .before .before .before .before .before .modes-after .ensures .1) (a .t5 .bus) (now (a .runs)) (a .t5 .homes) (now (a .carries)) (now (a .deadlines)) (a .t7 .full) (foundOf (a .message)))
-          (c .before .load-after .ensures ∙ load-same _ (outRule (a .results) (a .t7 .out)) (c .before .before .before .before .before .before .before .before .before .before .before .before .before .before .before .before .before .before .before .before .before .before .before .before .before .before .before .before .before .out-after .ensures .1) (now (a .carries)) (a .t7 .load) (foundOf (a .message))),
-      record { out = c .before .before .before .before .before .before .before .before .before .before .before .before .before .before .before .before .before .before .before .before .before .before .before .before .before .before .before .before .before .out-after .ensures .1; held = c .before .before .before .before .before .before .before .before .before .before .before .before .before .before .before .before .before .before .before .before .before .before .before .before .before .before .before .before .held-by .ensures .1 },
+    let c1 = c .before .before .before in
+    let c2 = c1 .before .before .before .before .before in
+    let c3 = c2 .before .before .before .before .before .before .before .before in
+    let c4 = c3 .before .before .before .before in
+    let c5 = c4 .before .before .before .before .before .before in
+    let c6 = c5 .before .before in
+    let c7 = c6 .before in
+    let a = c7 .before .before .args in (
+      play-made (c .one-on .ensures) (c5 .modes-after .ensures .0) (c4 .ages-after .ensures)
+          (c2 .bytes-after .ensures ∙ bytes-same _ (modeRule (a .changes) (a .t7 .running)) (c5 .modes-after .ensures .1)
+          (a .t3 .sending) (a .t3 .sites) (a .t6 .nodes) (a .t7 .bytes) (foundOf (a .control)))
+          (c3 .givens-after .ensures) (c7 .out-after .ensures .0) (c6 .held-by .ensures .0)
+          (c1 .full-after .ensures ∙ full-same _ (modeRule (a .changes) (a .t7 .running)) (c5 .modes-after .ensures .1)
+          (a .t5 .bus) (now (a .runs)) (a .t5 .homes) (now (a .carries)) (now (a .deadlines)) (a .t7 .full)
+          (foundOf (a .message)))
+          (c .before .load-after .ensures ∙ load-same _ (outRule (a .results) (a .t7 .out)) (c7 .out-after .ensures .1)
+          (now (a .carries)) (a .t7 .load) (foundOf (a .message))),
+      record { out = c7 .out-after .ensures .1; held = c6 .held-by .ensures .1 },
     )
 
 pub played-spec : {M : Type 1} → statement M

@@ -8,13 +8,27 @@ use Rattle.stationnodes.proofs.landed_after.Statement.{statement}
 use Rattle.stationnodes.proofs.landed_after.Tie as tie
 
 returns : tie.Need-returns
-returns c = let a = c .before .before .args in stores-idle (a .landed) (landedRule (a .landing) (a .n) (a .landed)) 32 0 (λ k w. rw (c .enum-told .given .1))
+returns c =
+    let a = c .before .before .args in
+    stores-idle (a .landed) (landedRule (a .landing) (a .n) (a .landed)) 32 0 (λ k w. rw (c .enum-told .given .1))
 
 returns-2 : tie.Need-returns-2
-returns-2 c = let a = c .before .before .before .before .args in let b = c .before .before .landing .given .0 in stores-idle (a .landed) (landedRule (a .landing) (a .n) (a .landed)) 32 0 (λ k w. lands-not (a .landing) (b .0) (b .1 .0) (b .1 .1 .0) (a .n) (a .landed) (c .before .before .landing .given .1) (c .if1 .taken) k)
+returns-2 c =
+    let c1 = c .before .before in
+    let a = c1 .before .before .args in
+    let b = c1 .landing .given .0 in
+    stores-idle (a .landed) (landedRule (a .landing) (a .n) (a .landed)) 32 0
+    (λ k w. lands-not (a .landing) (b .0) (b .1 .0) (b .1 .1 .0) (a .n) (a .landed) (c1 .landing .given .1) (c .if1 .taken) k)
 
 returns-3 : tie.Need-returns-3
-returns-3 c = let a = c .before .before .before .before .before .args in let b = c .before .before .before .landing .given .0 in let e : length (a .landed) ≡ 32 = search needs in c .with-place .ensures ∙ stores-one (a .landed) (landedRule (a .landing) (a .n) (a .landed)) 32 (b .0) (b .1 .1 .0) 0 e (λ k w. lands-here (a .landing) (b .0) (b .1 .0) (b .1 .1 .0) (a .n) (a .landed) (c .before .before .before .landing .given .1) (c .before .if1 .left) k)
+returns-3 c =
+    let c1 = c .before .before .before in
+    let a = c1 .before .before .args in
+    let b = c1 .landing .given .0 in
+    let e : length (a .landed) ≡ 32 = search needs in
+    c .with-place .ensures ∙ stores-one (a .landed) (landedRule (a .landing) (a .n) (a .landed)) 32 (b .0) (b .1 .1 .0) 0 e
+    (λ k w. lands-here (a .landing) (b .0) (b .1 .0) (b .1 .1 .0) (a .n) (a .landed) (c1 .landing .given .1)
+    (c .before .if1 .left) k)
 
 pub landed-after-spec : {M : Type 1} → statement M
 landed-after-spec = tie.close (tie.spec (λ c. search needs) (λ c. search needs) (λ c κs. search needs) returns returns-2 returns-3)

@@ -9,7 +9,14 @@ use Rattle.stationnodes.proofs.node_after.Tie as tie
 
 returns : tie.Need-returns
 unfolding nodeAt
-returns c = let a = c .before .before .before .before .before .args in let size : length (a .node .landed) ≡ 32 = search needs in made (c .before .before .before .landed-after .ensures) (shown-of-landed (now (a .ends)) (now (a .homes)) (now (a .nodes)) (now (a .out)) (now (a .held)) (now (a .bus)) (now (a .runs)) (a .clock) (a .n) (a .node .landed) (a .node .shown) (landedRule (a .landing) (a .n) (a .node .landed)) size (c .before .before .before .landed-after .ensures) (c .shown-after .ensures))
+returns c =
+    let a = c .before .before .before .before .before .args in
+    let size : length (a .node .landed) ≡ 32 = search needs in
+    let landed = c .before .before .before .landed-after in
+    made (landed .ensures)
+    (shown-of-landed (now (a .ends)) (now (a .homes)) (now (a .nodes)) (now (a .out)) (now (a .held)) (now (a .bus)) (now (a .runs))
+    (a .clock) (a .n) (a .node .landed) (a .node .shown) (landedRule (a .landing) (a .n) (a .node .landed)) size (landed .ensures)
+    (c .shown-after .ensures))
 
 pub node-after-spec : {M : Type 1} → statement M
 node-after-spec = tie.close (tie.spec (λ c κs. search needs) (λ c κs. search needs) returns)

@@ -7,7 +7,8 @@ use Rattle.stationnodes.proofs.nodes_after.Statement.{statement}
 use Rattle.stationnodes.proofs.nodes_after.Tie as tie
 
 abbrev Inv-loop : tie.InvT-loop
-Inv-loop landing ends homes nodes out held bus runs clock old₀ n₀ old n = (n ≤ 8) × Filled old₀ (nodeRule ends homes nodes out held bus runs clock landing old₀) n old
+Inv-loop landing ends homes nodes out held bus runs clock old₀ n₀ old n =
+    (n ≤ 8) × Filled old₀ (nodeRule ends homes nodes out held bus runs clock landing old₀) n old
 
 abbrev μ-loop : tie.MeasureT-loop
 μ-loop landing ends homes nodes out held bus runs clock old₀ n₀ old n = 8 - n
@@ -17,7 +18,9 @@ loop-holds c = (search needs, filled-none)
 
 loop-again : tie.Need-loop-again Inv-loop μ-loop
 unfolding nodeRule
-loop-again c = (search needs, filled-turn (c .before .before .before .loop .inv .1) (c .node-after .ensures ∙ rw (filled-next (c .before .before .before .loop .inv .1) noNode)))
+loop-again c =
+    let c1 = c .before .before .before in
+    (search needs, filled-turn (c1 .loop .inv .1) (c .node-after .ensures ∙ rw (filled-next (c1 .loop .inv .1) noNode)))
 
 returns : tie.Need-returns Inv-loop μ-loop
 returns c = filled-end (c .before .loop .inv .1) (c .before .loop .inv .0) (c .loop-test .left)

@@ -8,7 +8,8 @@ use Rattle.stationnodes.proofs.shown_after.Statement.{statement}
 use Rattle.stationnodes.proofs.shown_after.Tie as tie
 
 abbrev Inv-loop : tie.InvT-loop
-Inv-loop n ends homes nodes out landed held bus runs clock shown₀ t₀ shown t = (t ≤ 32) × Filled shown₀ (shownRule ends homes nodes out held bus runs clock n (numberAt landed) shown₀) t shown
+Inv-loop n ends homes nodes out landed held bus runs clock shown₀ t₀ shown t =
+    (t ≤ 32) × Filled shown₀ (shownRule ends homes nodes out held bus runs clock n (numberAt landed) shown₀) t shown
 
 abbrev μ-loop : tie.MeasureT-loop
 μ-loop n ends homes nodes out landed held bus runs clock shown₀ t₀ shown t = 32 - t
@@ -17,7 +18,9 @@ loop-holds : tie.Need-loop-holds Inv-loop μ-loop
 loop-holds c = (search needs, filled-none)
 
 loop-again : tie.Need-loop-again Inv-loop μ-loop
-loop-again c = (search needs, filled-turn (c .before .before .loop .inv .1) (c .shown-at .ensures ∙ rw (filled-next (c .before .before .loop .inv .1) 0)))
+loop-again c =
+    let c1 = c .before .before in
+    (search needs, filled-turn (c1 .loop .inv .1) (c .shown-at .ensures ∙ rw (filled-next (c1 .loop .inv .1) 0)))
 
 returns : tie.Need-returns Inv-loop μ-loop
 returns c = filled-end (c .before .loop .inv .1) (c .before .loop .inv .0) (c .loop-test .left)

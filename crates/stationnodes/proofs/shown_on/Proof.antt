@@ -8,7 +8,11 @@ use Rattle.stationnodes.proofs.shown_on.Statement.{statement}
 use Rattle.stationnodes.proofs.shown_on.Tie as tie
 
 returns-2 : tie.Need-returns-2
-returns-2 c = let a = c .before .args in let size : length (a .t1) ≡ 8 = search needs in let w : length (a .t1) ≤ a .n = omega arith in rw (List·getD-eq-default (a .t1) noNode w)
+returns-2 c =
+    let a = c .before .args in
+    let size : length (a .t1) ≡ 8 = search needs in
+    let w : length (a .t1) ≤ a .n = omega arith in
+    rw (List·getD-eq-default (a .t1) noNode w)
 
 pub shown-on-spec : {M : Type 1} → statement M
 shown-on-spec = tie.close (tie.spec (λ c. search needs) (λ c. search needs) (λ c κs. search needs) (λ c. search needs) returns-2)

@@ -15,7 +15,11 @@ loop-holds : tie.Need-loop-holds Inv-loop μ-loop
 loop-holds c = (search needs, tested-none)
 
 loop-again : tie.Need-loop-again Inv-loop μ-loop
-loop-again c = (search needs, tested-turn (c .before .before .before .before .loop .inv .1) (c .both .ensures) (c .before .is-value .ensures))
+loop-again c = (
+  search needs,
+  tested-turn (c .before .before .before .before .loop .inv .1) (c .both .ensures)
+      (c .before .is-value .ensures),
+)
 
 returns : tie.Need-returns Inv-loop μ-loop
 returns c = tested-end (c .before .loop .inv .1) (c .before .loop .inv .0) (c .loop-test .left)

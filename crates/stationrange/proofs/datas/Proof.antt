@@ -6,7 +6,8 @@ use Rattle.stationrange.proofs.datas.Statement.{statement}
 use Rattle.stationrange.proofs.datas.Tie as tie
 
 abbrev Inv-loop : tie.InvT-loop
-Inv-loop tasks period rows deadlines starts stops good₀ row₀ good row = (row ≤ 256) × Tested (dataTest tasks period rows deadlines starts stops) row good
+Inv-loop tasks period rows deadlines starts stops good₀ row₀ good row =
+    (row ≤ 256) × Tested (dataTest tasks period rows deadlines starts stops) row good
 
 abbrev μ-loop : tie.MeasureT-loop
 μ-loop tasks period rows deadlines starts stops good₀ row₀ good row = 256 - row
@@ -15,7 +16,9 @@ loop-holds : tie.Need-loop-holds Inv-loop μ-loop
 loop-holds c = (search needs, tested-none)
 
 loop-again : tie.Need-loop-again Inv-loop μ-loop
-loop-again c = (search needs, tested-turn (c .before .before .before .before .before .before .before .loop .inv .1) (c .both .ensures) (c .before .data-row .ensures))
+loop-again c =
+    let c1 = c .before .before .before .before .before .before .before in
+    (search needs, tested-turn (c1 .loop .inv .1) (c .both .ensures) (c .before .data-row .ensures))
 
 returns : tie.Need-returns Inv-loop μ-loop
 returns c = tested-end (c .before .loop .inv .1) (c .before .loop .inv .0) (c .loop-test .left)

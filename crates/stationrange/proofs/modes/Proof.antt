@@ -6,7 +6,8 @@ use Rattle.stationrange.proofs.modes.Statement.{statement}
 use Rattle.stationrange.proofs.modes.Tie as tie
 
 abbrev Inv-loop : tie.InvT-loop
-Inv-loop modules modes homes periods switches good₀ mode₀ good mode = (mode ≤ 32) × Tested (modeTest modules modes homes periods switches) mode good
+Inv-loop modules modes homes periods switches good₀ mode₀ good mode =
+    (mode ≤ 32) × Tested (modeTest modules modes homes periods switches) mode good
 
 abbrev μ-loop : tie.MeasureT-loop
 μ-loop modules modes homes periods switches good₀ mode₀ good mode = 32 - mode
@@ -15,7 +16,9 @@ loop-holds : tie.Need-loop-holds Inv-loop μ-loop
 loop-holds c = (search needs, tested-none)
 
 loop-again : tie.Need-loop-again Inv-loop μ-loop
-loop-again c = (search needs, tested-turn (c .before .before .before .before .before .before .loop .inv .1) (c .both .ensures) (c .before .thing .ensures))
+loop-again c =
+    let c1 = c .before .before .before .before .before .before in
+    (search needs, tested-turn (c1 .loop .inv .1) (c .both .ensures) (c .before .thing .ensures))
 
 returns : tie.Need-returns Inv-loop μ-loop
 returns c = tested-end (c .before .loop .inv .1) (c .before .loop .inv .0) (c .loop-test .left)

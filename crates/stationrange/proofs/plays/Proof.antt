@@ -7,7 +7,8 @@ use Rattle.stationrange.proofs.plays.Statement.{statement}
 use Rattle.stationrange.proofs.plays.Tie as tie
 
 abbrev Inv-loop : tie.InvT-loop
-Inv-loop modules modes homes periods running ages bytes good₀ m₀ good m = (m ≤ 16) × Tested (playTest modules modes homes periods running ages bytes) m good
+Inv-loop modules modes homes periods running ages bytes good₀ m₀ good m =
+    (m ≤ 16) × Tested (playTest modules modes homes periods running ages bytes) m good
 
 abbrev μ-loop : tie.MeasureT-loop
 μ-loop modules modes homes periods running ages bytes good₀ m₀ good m = 16 - m
@@ -16,7 +17,19 @@ loop-holds : tie.Need-loop-holds Inv-loop μ-loop
 loop-holds c = (search needs, tested-none)
 
 loop-again : tie.Need-loop-again Inv-loop μ-loop
-loop-again c = (search needs, tested-turn (c .before .before .before .before .before .before .before .before .before .before .before .before .loop .inv .1) (c .both .ensures) (c .before .play .ensures ∙ rw (c .before .before .before .before .before .before .if-so .ensures, c .before .before .before .before .before .before .before .byte-at2 .ensures .0, c .before .before .before .number-at .ensures, c .before .before .before .before .before .before .before .before .before .byte-at .ensures .0)))
+loop-again c =
+    let c1 = c .before .before .before in
+    let c2 = c1 .before .before .before in
+    let c3 = c2 .before .before .before in (
+      search needs,
+      tested-turn (c3 .before .before .before .loop .inv .1) (c .both .ensures)
+          (c .before .play .ensures ∙ rw (
+            c2 .if-so .ensures,
+            c2 .before .byte-at2 .ensures .0,
+            c1 .number-at .ensures,
+            c3 .byte-at .ensures .0,
+          )),
+    )
 
 returns : tie.Need-returns Inv-loop μ-loop
 returns c = tested-end (c .before .loop .inv .1) (c .before .loop .inv .0) (c .loop-test .left)

@@ -16,7 +16,8 @@ loop-holds c = (search needs, tested-none)
 
 loop-again : tie.Need-loop-again Inv-loop μ-loop
 unfolding runsTest
-loop-again c = (search needs, tested-turn (c .before .before .before .before .loop .inv .1) (c .both .ensures) (c .before .runs-of .ensures))
+loop-again c =
+    (search needs, tested-turn (c .before .before .before .before .loop .inv .1) (c .both .ensures) (c .before .runs-of .ensures))
 
 returns : tie.Need-returns Inv-loop μ-loop
 returns c = tested-end (c .before .loop .inv .1) (c .before .loop .inv .0) (c .loop-test .left)

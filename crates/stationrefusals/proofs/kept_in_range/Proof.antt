@@ -6,7 +6,16 @@ use Rattle.stationrefusals.proofs.kept_in_range.Tie as tie
 
 returns : tie.Need-returns
 unfolding keptTest
-returns c = kept-all (c .before .before .before .before .before .before .before .before .before .before .before .before .before .before .before .before .before .before .before .before .before .before .before .before .before .before .before .before .counts .ensures) (c .before .before .before .before .before .before .before .before .before .before .before .before .before .before .before .before .before .before .before .before .before .before .before .before .before .modules2 .ensures) (c .before .before .before .before .before .before .before .before .before .before .before .before .before .before .before .before .before .before .before .before .modes2 .ensures) (c .before .before .before .before .before .before .before .before .before .before .before .before .before .before .before .before .before .before .before .both .ensures) (c .before .before .before .before .before .before .before .before .before .before .before .before .before .before .tasks2 .ensures) (c .before .before .before .before .before .before .before .before .before .before .before .runs .ensures) (c .before .before .before .before .before .before .before .before .before .before .both2 .ensures) (c .before .before .before .before .before .controls2 .ensures) (c .before .before .before .before .datas .ensures) (c .before .before .before .both3 .ensures) (c .before .before .both4 .ensures) (c .before .both5 .ensures) (c .both6 .ensures)
+returns c =
+    let c1 = c .before .before .before in
+    let c2 = c1 .before .before .before .before .before .before .before in
+    let c3 = c2 .before .before .before .before in
+    let c4 = c3 .before .before .before .before .before in
+    let c5 = c4 .before .before .before .before .before .before in
+    kept-all (c5 .before .before .before .counts .ensures) (c5 .modules2 .ensures) (c4 .before .modes2 .ensures)
+    (c4 .both .ensures) (c3 .tasks2 .ensures) (c2 .before .runs .ensures) (c2 .both2 .ensures)
+    (c1 .before .before .controls2 .ensures) (c1 .before .datas .ensures) (c1 .both3 .ensures)
+    (c .before .before .both4 .ensures) (c .before .both5 .ensures) (c .both6 .ensures)
 
 pub kept-in-range-spec : {M : Type 1} → statement M
 kept-in-range-spec =

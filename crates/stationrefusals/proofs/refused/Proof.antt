@@ -7,11 +7,18 @@ use Rattle.stationrefusals.proofs.refused.Tie as tie
 
 returns : tie.Need-returns
 unfolding refusedBy
-returns c = judged-on (c .before .before .before .before .kept-in-range .ensures) (c .before .before .before .state-in-range .ensures) (c .before .before .both .ensures) (c .before .if1 .taken) (c .judged .ensures)
+returns c =
+    let c1 = c .before .before .before in
+    judged-on (c1 .before .kept-in-range .ensures) (c1 .state-in-range .ensures) (c .before .before .both .ensures)
+    (c .before .if1 .taken) (c .judged .ensures)
 
 returns-2 : tie.Need-returns-2
 unfolding refusedBy
-returns-2 c = let a = c .before .before .before .before .args in refused-out (judgedBy (a .results) (a .changes) (a .modules) (a .modes) (a .tasks) (a .play) (now (a .runs))) (c .before .before .before .kept-in-range .ensures) (c .before .before .state-in-range .ensures) (c .before .both .ensures) (c .if1 .left)
+returns-2 c =
+    let c1 = c .before .before .before in
+    let a = c1 .before .args in
+    refused-out (judgedBy (a .results) (a .changes) (a .modules) (a .modes) (a .tasks) (a .play) (now (a .runs)))
+    (c1 .kept-in-range .ensures) (c .before .before .state-in-range .ensures) (c .before .both .ensures) (c .if1 .left)
 
 pub refused-spec : {M : Type 1} → statement M
 refused-spec =

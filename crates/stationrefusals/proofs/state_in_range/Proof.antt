@@ -7,7 +7,15 @@ use Rattle.stationrefusals.proofs.state_in_range.Tie as tie
 
 returns : tie.Need-returns
 unfolding stateTest
-returns c = let a = c .before .before .before .before .before .before .before .before .before .before .before .before .before .before .before .before .before .before .before .before .args in state-all (leb (a .t4 .clock .0) (a .period .0)) (c .before .before .before .before .before .before .before .before .before .before .before .before .before .before .before .before .before .before .is-value .ensures) (c .before .before .before .before .before .before .before .before .before .before .before .before .before .before .before .before .before .both .ensures) (c .before .before .before .before .before .before .before .before .before .plays .ensures) (c .before .before .before .before .before .before .boxes .ensures) (c .before .before .before .bytes-in-range .ensures) (c .before .before .both2 .ensures) (c .before .both3 .ensures) (c .both4 .ensures)
+returns c =
+    let c1 = c .before .before .before in
+    let c2 = c1 .before .before .before in
+    let c3 = c2 .before .before .before in
+    let c4 = c3 .before .before .before .before .before .before .before .before in
+    let a = c4 .before .before .before .args in
+    state-all (leb (a .t4 .clock .0) (a .period .0)) (c4 .before .is-value .ensures) (c4 .both .ensures) (c3 .plays .ensures)
+    (c2 .boxes .ensures) (c1 .bytes-in-range .ensures) (c .before .before .both2 .ensures) (c .before .both3 .ensures)
+    (c .both4 .ensures)
 
 pub state-in-range-spec : {M : Type 1} → statement M
 state-in-range-spec =

@@ -3,7 +3,14 @@ use Rattle.stationruns.proofs.run_at.Statement.{statement}
 use Rattle.stationruns.proofs.run_at.Tie as tie
 
 returns : tie.Need-returns
-returns c = rw (c .number-at .ensures, c .before .before .period-at .ensures, c .before .before .before .byte-at2 .ensures .0, c .before .before .before .before .before .byte-at .ensures .0)
+returns c =
+    let c1 = c .before .before .before in
+    rw (
+      c .number-at .ensures,
+      c .before .before .period-at .ensures,
+      c1 .byte-at2 .ensures .0,
+      c1 .before .before .byte-at .ensures .0,
+    )
 
 pub run-at-spec : {M : Type 1} → statement M
 run-at-spec =

@@ -16,7 +16,17 @@ loop-holds : tie.Need-loop-holds Inv-loop μ-loop
 loop-holds c = (search needs, filled-none)
 
 loop-again : tie.Need-loop-again Inv-loop μ-loop
-loop-again c = (search needs, filled-turn (c .before .before .before .before .before .before .before .loop .inv .1) (c .age-at .ensures ∙ rw (c .before .number-at .ensures, c .before .before .byte-at .ensures .0, filled-next (c .before .before .before .before .before .before .before .loop .inv .1) 0)))
+loop-again c =
+    let c1 = c .before .before .before .before .before .before .before in (
+      search needs,
+      filled-turn (c1 .loop .inv .1)
+          (c .age-at .ensures ∙ rw (
+            c .before .number-at .ensures,
+            c .before .before .byte-at .ensures .0,
+            filled-next
+                (c1 .loop .inv .1) 0,
+          )),
+    )
 
 returns : tie.Need-returns Inv-loop μ-loop
 returns c = filled-end (c .before .loop .inv .1) (c .before .loop .inv .0) (c .loop-test .left)

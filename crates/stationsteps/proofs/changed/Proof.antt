@@ -9,7 +9,10 @@ use Rattle.stationsteps.proofs.changed.Statement.{statement}
 use Rattle.stationsteps.proofs.changed.Tie as tie
 
 returns-2 : tie.Need-returns-2
-returns-2 c = let e : length (c .before .args .t1) ≡ 16 = search needs in let w : length (c .before .args .t1) ≤ c .before .args .m = omega arith in rw (List·getD-eq-default (c .before .args .t1) Nothing w)
+returns-2 c =
+    let e : length (c .before .args .t1) ≡ 16 = search needs in
+    let w : length (c .before .args .t1) ≤ c .before .args .m = omega arith in
+    rw (List·getD-eq-default (c .before .args .t1) Nothing w)
 
 pub changed-spec : {M : Type 1} → statement M
 changed-spec = tie.close (tie.spec (λ c. search needs) (λ c. search needs) (λ c κs. search needs) (λ c. search needs) returns-2)

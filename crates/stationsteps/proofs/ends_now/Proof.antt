@@ -18,7 +18,8 @@ loop-holds : tie.Need-loop-holds Inv-loop μ-loop
 loop-holds c = (search needs, filled-none)
 
 loop-again : tie.Need-loop-again Inv-loop μ-loop
-loop-again c = (search needs, filled-turn (c .before .before .before .loop .inv .1) (c .ends .ensures ∙ rw (c .before .run-at .ensures)))
+loop-again c =
+    (search needs, filled-turn (c .before .before .before .loop .inv .1) (c .ends .ensures ∙ rw (c .before .run-at .ensures)))
 
 returns : tie.Need-returns Inv-loop μ-loop
 returns c = filled-end (c .before .loop .inv .1) (c .before .loop .inv .0) (c .loop-test .left)

@@ -8,7 +8,8 @@ use Rattle.stationsteps.proofs.givens_after.Statement.{statement}
 use Rattle.stationsteps.proofs.givens_after.Tie as tie
 
 abbrev Inv-loop : tie.InvT-loop
-Inv-loop changes ends homes results givens₀ t₀ givens t = (t ≤ 32) × Filled givens₀ (givenRule results changes ends homes givens₀) t givens
+Inv-loop changes ends homes results givens₀ t₀ givens t =
+    (t ≤ 32) × Filled givens₀ (givenRule results changes ends homes givens₀) t givens
 
 abbrev μ-loop : tie.MeasureT-loop
 μ-loop changes ends homes results givens₀ t₀ givens t = 32 - t
@@ -17,7 +18,17 @@ loop-holds : tie.Need-loop-holds Inv-loop μ-loop
 loop-holds c = (search needs, filled-none)
 
 loop-again : tie.Need-loop-again Inv-loop μ-loop
-loop-again c = (search needs, filled-turn (c .before .before .before .before .before .before .before .loop .inv .1) (c .given-at .ensures ∙ rw (c .before .changed .ensures, c .before .before .byte-at .ensures .0, filled-next (c .before .before .before .before .before .before .before .loop .inv .1) false)))
+loop-again c =
+    let c1 = c .before .before .before .before .before .before .before in (
+      search needs,
+      filled-turn (c1 .loop .inv .1)
+          (c .given-at .ensures ∙ rw (
+            c .before .changed .ensures,
+            c .before .before .byte-at .ensures .0,
+            filled-next
+                (c1 .loop .inv .1) false,
+          )),
+    )
 
 returns : tie.Need-returns Inv-loop μ-loop
 returns c = filled-end (c .before .loop .inv .1) (c .before .loop .inv .0) (c .loop-test .left)

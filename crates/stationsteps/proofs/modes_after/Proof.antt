@@ -17,7 +17,9 @@ loop-holds : tie.Need-loop-holds Inv-loop μ-loop
 loop-holds c = (search needs, filled-none)
 
 loop-again : tie.Need-loop-again Inv-loop μ-loop
-loop-again c = (search needs, filled-turn (c .before .before .before .loop .inv .1) (c .mode-at .ensures ∙ rw (filled-next (c .before .before .before .loop .inv .1) 0)))
+loop-again c =
+    let c1 = c .before .before .before in
+    (search needs, filled-turn (c1 .loop .inv .1) (c .mode-at .ensures ∙ rw (filled-next (c1 .loop .inv .1) 0)))
 
 returns : tie.Need-returns Inv-loop μ-loop
 returns c = let a = c .before .before .args in

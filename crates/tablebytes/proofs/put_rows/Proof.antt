@@ -20,7 +20,13 @@ abbrev μ-loop : tie.MeasureT-loop
 μ-loop buf₀ at task deadline start stop rows k₀ buf k = rows - k
 
 loop-again : tie.Need-loop-again Inv-loop μ-loop
-loop-again c = (search needs, data-more (c .before .before .before .before .before .before .before .before .before .before .before .args .task .now) (c .before .before .before .before .before .before .before .before .before .before .before .args .deadline .now) (c .before .before .before .before .before .before .before .before .before .before .before .args .start .now) (c .before .before .before .before .before .before .before .before .before .before .before .args .stop .now) (c .before .before .before .before .before .before .before .before .before .before .before .args .buf .now) _ _ (c .before .before .before .before .before .before .before .before .before .before .before .args .at) (c .before .before .before .before .before .before .before .before .before .loop .k) (c .before .before .before .before .before .before .before .before .before .loop .inv .1) (c .before .before .put-data .ensures))
+loop-again c =
+    let c1 = c .before .before .before .before .before .before .before .before .before in
+    let a = c1 .before .before .args in (
+      search needs,
+      data-more (a .task .now) (a .deadline .now) (a .start .now) (a .stop .now) (a .buf .now) _ _ (a .at)
+          (c1 .loop .k) (c1 .loop .inv .1) (c .before .before .put-data .ensures),
+    )
 
 same-length : tie.Need-same-length Inv-loop μ-loop
 same-length c = ap length (c .before .loop .inv .1) ∙ simp length-sets

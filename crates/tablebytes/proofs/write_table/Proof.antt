@@ -5,7 +5,14 @@ use Rattle.tablebytes.proofs.write_table.Statement.{statement}
 use Rattle.tablebytes.proofs.write_table.Tie as tie
 
 returns : tie.Need-returns
-returns c = table-put _ _ _ _ _ (c .before .before .before .before .before .before .before .before .before .before .before .before .before .before .before .before .before .args .period) (c .before .before .before .before .before .before .before .before .before .before .before .before .before .before .before .before .before .args .controls) (c .before .before .before .before .before .before .before .before .before .before .before .before .before .before .before .before .before .args .rows) (controlIn (c .before .before .before .before .before .before .before .before .before .before .before .before .before .before .before .before .before .args .node .now) (c .before .before .before .before .before .before .before .before .before .before .before .before .before .before .before .before .before .args .start .now) (c .before .before .before .before .before .before .before .before .before .before .before .before .before .before .before .before .before .args .stop .now)) (dataIn (c .before .before .before .before .before .before .before .before .before .before .before .before .before .before .before .before .before .args .task .now) (c .before .before .before .before .before .before .before .before .before .before .before .before .before .before .before .before .before .args .deadline .now) (c .before .before .before .before .before .before .before .before .before .before .before .before .before .before .before .before .before .args .row-start .now) (c .before .before .before .before .before .before .before .before .before .before .before .before .before .before .before .before .before .args .row-stop .now)) (c .before .before .before .before .before .before .before .before .before .before .before .before .before .before .put-header .ensures) (c .before .before .before .before .before .before .before .before .before .before .put-controls .ensures) (c .before .before .before .before .before .before .put-rows .ensures) (c .before .before .put8 .ensures)
+returns c =
+    let c1 = c .before .before .before .before .before .before in
+    let c2 = c1 .before .before .before .before in
+    let c3 = c2 .before .before .before .before in
+    let a = c3 .before .before .before .args in
+    table-put _ _ _ _ _ (a .period) (a .controls) (a .rows) (controlIn (a .node .now) (a .start .now) (a .stop .now))
+    (dataIn (a .task .now) (a .deadline .now) (a .row-start .now) (a .row-stop .now)) (c3 .put-header .ensures)
+    (c2 .put-controls .ensures) (c1 .put-rows .ensures) (c .before .before .put8 .ensures)
 
 pub write-table-spec : {M : Type 1} → statement M
 write-table-spec =

@@ -7,7 +7,13 @@ use Rattle.tableread.proofs.control_row.Statement.{statement}
 use Rattle.tableread.proofs.control_row.Tie as tie
 
 returns : tie.Need-returns
-returns c = rw (lt-ltb _ _ (c .before .before .before .if1 .taken), c .before .before .read8 .ensures, c .before .read32 .ensures, c .read322 .ensures) (refl, (refl, refl))
+returns c =
+    rw (
+      lt-ltb _ _ (c .before .before .before .if1 .taken),
+      c .before .before .read8 .ensures,
+      c .before .read32 .ensures,
+      c .read322 .ensures,
+    ) (refl, (refl, refl))
 
 returns-2 : tie.Need-returns-2
 returns-2 c = rw (le-ltb _ _ (c .if1 .left)) (refl, (refl, refl))

@@ -11,7 +11,18 @@ use Rattle.tableread.proofs.data_row.Statement.{statement}
 use Rattle.tableread.proofs.data_row.Tie as tie
 
 returns : tie.Need-returns
-returns c = rw (lt-ltb _ _ (c .before .before .before .before .before .if1 .taken), c .before .before .before .read8 .ensures ∙ front-number (now (c .before .before .before .before .before .before .before .args .s)) (c .before .before .before .before .before .before .before .args .body) 13 1 (omega arith), c .before .before .read32 .ensures ∙ part-number (now (c .before .before .before .before .before .before .before .args .s)) (c .before .before .before .before .before .before .before .args .body) 13 1 4 (omega arith), c .before .read322 .ensures ∙ part-number (now (c .before .before .before .before .before .before .before .args .s)) (c .before .before .before .before .before .before .before .args .body) 13 5 4 (omega arith), c .read323 .ensures ∙ part-number (now (c .before .before .before .before .before .before .before .args .s)) (c .before .before .before .before .before .before .before .args .body) 13 9 4 (omega arith)) (refl, (refl, (refl, refl)))
+returns c =
+    let c1 = c .before .before .before in
+    let a = c1 .before .before .before .before .args in
+    rw (
+      lt-ltb _ _ (c1 .before .before .if1 .taken),
+      c1 .read8 .ensures ∙ front-number (now (a .s)) (a .body) 13 1 (omega arith),
+      c .before .before .read32 .ensures ∙ part-number (now (a .s)) (a .body) 13 1 4 (omega arith),
+      c .before .read322 .ensures
+          ∙ part-number (now (a .s)) (a .body) 13 5 4 (omega arith),
+      c .read323 .ensures ∙ part-number (now (a .s)) (a .body) 13 9 4
+          (omega arith),
+    ) (refl, (refl, (refl, refl)))
 
 returns-2 : tie.Need-returns-2
 returns-2 c = rw (le-ltb _ _ (c .if1 .left)) (refl, (refl, (refl, refl)))

@@ -9,11 +9,18 @@ use Rattle.tableread.proofs.read_table.Tie as tie
 
 returns : tie.Need-returns
 unfolding tableFrom
-returns c = read-whole (now (c .before .before .before .before .before .before .before .before .before .before .before .before .args .s)) (c .before .before .before .gather .result) _ _ _ _ _ _ _ (c .before .before .before .gather .ensures) (c .enum-told .given .1)
+returns c =
+    let c1 = c .before .before .before in
+    let a = c1 .before .before .before .before .before .before .before .before .before .args in
+    read-whole (now (a .s)) (c1 .gather .result) _ _ _ _ _ _ _ (c1 .gather .ensures) (c .enum-told .given .1)
 
 returns-2 : tie.Need-returns-2
 unfolding tableFrom
-returns-2 c = rw (c .empty .ensures) (read-broken (now (c .before .before .before .before .before .before .before .before .before .before .before .before .before .before .args .s)) (c .before .before .before .before .before .gather .result) _ _ _ _ _ _ _ (c .before .before .before .before .before .gather .ensures) (c .before .before .outcome .given .1))
+returns-2 c =
+    let c1 = c .before .before .before .before .before in
+    let a = c1 .before .before .before .before .before .before .before .before .before .args in
+    rw (c .empty .ensures) (read-broken (now (a .s)) (c1 .gather .result) _ _ _ _ _ _ _ (c1 .gather .ensures)
+    (c .before .before .outcome .given .1))
 
 pub read-table-spec : {M : Type 1} → statement M
 read-table-spec =

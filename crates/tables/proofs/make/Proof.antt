@@ -71,7 +71,10 @@ abbrev MadeSays : List ℕ → ℕ → List ℕ → List ℕ → Making → Type
 MadeSays plan lent before after m = Makes m before after (lentFor plan lent (length before))
 
 abbrev stayed : Stays (make.ended .signature .params) (make.ended .kept)
-stayed = (stay-dropped (SliceRefOf (0 ∷ []) tt (plain (λ κs. u8)) (λ κs. tt)) yes, (gave-slice (1 ∷ []) tt (plain (λ _. F.the-row)), (gave-slice (2 ∷ []) tt (plain (λ _. u8)), tt)))
+stayed = (
+  stay-dropped (SliceRefOf (0 ∷ []) tt (plain (λ κs. u8)) (λ κs. tt)) yes,
+  (gave-slice (1 ∷ []) tt (plain (λ _. F.the-row)), (gave-slice (2 ∷ []) tt (plain (λ _. u8)), tt)),
+)
 
 module _ {M : Type 1} (𝓤 : URA M) (H : Heap 𝓤) (A : Atoms 𝓤) (W : Given 𝓤 H A) (mem : Memory → SProp 𝓤) (run : Routine → Fun 𝓤) where
   abbrev Made : Contract 𝓤
@@ -177,10 +180,24 @@ module _ {M : Type 1} (𝓤 : URA M) (H : Heap 𝓤) (A : Atoms 𝓤) (W : Given
 make-meets : {M : Type 1} (𝓤 : URA M) (H : Heap 𝓤) (A : Atoms 𝓤) (W : Given 𝓤 H A) (mem : Memory → SProp 𝓤) (run : Routine → Fun 𝓤) (𝓣 : Tables 𝓤 H) → Triple 𝓤 (𝓣 .C #made) (Made 𝓤 H A W mem run) → Triple 𝓤 (𝓣 .C #fill) (Fill 𝓤 H A mem run)
     → Meets 𝓤 H A make.signature (WpFn 𝓤 H (𝓣 .C) (𝓣 .Λ) code.function) (make.spec 𝓤 H A mem run)
 make-meets 𝓤 H A W mem run 𝓣 known-made known-fill =
-    walk-meets 𝓤 H A make.ended stayed W (goes-dropped 𝓤 H A W 3 (SliceRefOf (0 ∷ []) tt (plain (λ κs. u8)) (λ κs. tt)) yes (λ κs x f. refl), (goes-gave-slice 𝓤 H A W 3 1 tt (plain (λ _. F.the-row)), (goes-gave-slice 𝓤 H A W 3 2 tt (plain (λ _. u8)), tt))) (make.clauses 𝓤 H A mem run)
+    walk-meets 𝓤 H A make.ended stayed W (
+      goes-dropped 𝓤 H A W 3 (SliceRefOf (0 ∷ []) tt (plain (λ κs. u8)) (λ κs. tt)) yes
+          (λ κs x f. refl),
+      (
+        goes-gave-slice 𝓤 H A W 3 1 tt (plain (λ _. F.the-row)),
+        (goes-gave-slice 𝓤 H A W 3 2 tt (plain (λ _. u8)), tt),
+      ),
+    ) (make.clauses 𝓤 H A mem run)
     (WpFn 𝓤 H (𝓣 .C) (𝓣 .Λ) code.function) (WpFn-mono 𝓤 H (W .laws) 𝓣 code.function)
-    (walked 𝓤 H A make.ended stayed (make.clauses 𝓤 H A mem run) (WpFn 𝓤 H (𝓣 .C) (𝓣 .Λ) code.function) (λ κs. (slice-vals, (slice-vals, (slice-vals, tt)))) (λ κs. (shr-slice-tells (named 0) (κs .0) u8, (mut-slice-tells (named 1) (κs .1 .0) F.the-row, (mut-slice-tells (named 2) (κs .1 .1 .0) u8, tt))))
-    (λ κs qs bounds a g are. via 𝓤 _ (fst∗ 𝓤 _ (emp 𝓤)) (walk 𝓤 H A W mem run (κs .0) (κs .1 .0) (κs .1 .1 .0) (qs .0) (qs .1 .0) (qs .1 .1 .0) (a .0) (a .1 .0 .ptr .0) (a .1 .0 .ptr .1) (a .1 .0 .name) (a .1 .0 .now) (a .1 .1 .0)
+    (walked 𝓤 H A make.ended stayed (make.clauses 𝓤 H A mem run) (WpFn 𝓤 H (𝓣 .C) (𝓣 .Λ) code.function)
+    (λ κs. (slice-vals, (slice-vals, (slice-vals, tt))))
+    (λ κs. (
+      shr-slice-tells (named 0) (κs .0) u8,
+      (mut-slice-tells (named 1) (κs .1 .0) F.the-row, (mut-slice-tells (named 2) (κs .1 .1 .0) u8, tt)),
+    ))
+    (λ κs qs bounds a g are. via 𝓤 _ (fst∗ 𝓤 _ (emp 𝓤))
+    (walk 𝓤 H A W mem run (κs .0) (κs .1 .0) (κs .1 .1 .0) (qs .0) (qs .1 .0) (qs .1 .1 .0) (a .0) (a .1 .0 .ptr .0)
+    (a .1 .0 .ptr .1) (a .1 .0 .name) (a .1 .0 .now) (a .1 .1 .0)
     (are .0 .0 .1) (are .1 .0 .0 .1) (are .1 .1 .0 .0 .1) 𝓣 (fmOf 𝓤 H (W .laws) 𝓣) known-made known-fill)))
 
 pub make-spec : {M : Type 1} → stated.statement M
@@ -189,5 +206,7 @@ make-spec 𝓤 H 𝓜 𝓖 𝓡 =
     entered 𝓤 H (tripleOf 𝓤 H (𝓖 .A) make.signature (make.spec 𝓤 H (𝓖 .A) (𝓜 .mem) (𝓡 .run)))
     (tables 𝓤 H 𝓜 𝓡 code.env .C) (tables 𝓤 H 𝓜 𝓡 code.env .Λ) #make code.function (code.unfolded 𝓤 H 𝓜 𝓡)
     (make-meets 𝓤 H (𝓖 .A) (givenOf 𝓤 H 𝓜 𝓖) (𝓜 .mem) (𝓡 .run) (tablesOf 𝓤 H 𝓜 (tables 𝓤 H 𝓜 𝓡 code.env))
-    (cited 𝓤 H (Made 𝓤 H (𝓖 .A) (givenOf 𝓤 H 𝓜 𝓖) (𝓜 .mem) (𝓡 .run)) 𝓜 𝓡 code.env #made made-def.routine code.calls-maker·made (made-thm.met 𝓤 H 𝓜 𝓖 𝓡))
-    (cited 𝓤 H (Fill 𝓤 H (𝓖 .A) (𝓜 .mem) (𝓡 .run)) 𝓜 𝓡 code.env #fill fill-def.routine code.calls-framerows·fill (fill-thm.met 𝓤 H 𝓜 𝓖 𝓡)))
+    (cited 𝓤 H (Made 𝓤 H (𝓖 .A) (givenOf 𝓤 H 𝓜 𝓖) (𝓜 .mem) (𝓡 .run)) 𝓜 𝓡 code.env #made made-def.routine code.calls-maker·made
+    (made-thm.met 𝓤 H 𝓜 𝓖 𝓡))
+    (cited 𝓤 H (Fill 𝓤 H (𝓖 .A) (𝓜 .mem) (𝓡 .run)) 𝓜 𝓡 code.env #fill fill-def.routine code.calls-framerows·fill
+    (fill-thm.met 𝓤 H 𝓜 𝓖 𝓡)))

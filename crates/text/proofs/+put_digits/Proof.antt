@@ -33,7 +33,9 @@ put-digits-returns : (t : ℕ) → put-digits-lts.Need-returns (
   store-reads.Asked,
   store-reads.Learnt,
 ) (put-digits-at t) put-digits.Post
-put-digits-returns t c = no-digit-put (c .before .before .args .buf .now) (c .before .before .args .at) (c .before .before .args .x) (c .if1 .taken)
+put-digits-returns t c =
+    let a = c .before .before .args in
+    no-digit-put (a .buf .now) (a .at) (a .x) (c .if1 .taken)
 
 put-digits-put-digits-requires : (t : ℕ) → put-digits-lts.Need-put-digits-requires (
   put-digits-below t,
@@ -42,10 +44,12 @@ put-digits-put-digits-requires : (t : ℕ) → put-digits-lts.Need-put-digits-re
   store-reads.Learnt,
 ) (put-digits-at t) put-digits.Post
 put-digits-put-digits-requires t c κs =
-    let some : 0 < c .before .before .before .args .x = pos-of-ne-zero (c .before .if1 .left) in
-    let count : length (digits (c .before .before .before .args .x)) ≡ suc (length (digits (c .before .before .before .args .x / 10))) = digits-count (c .before .before .before .args .x) some in
-    let room : c .before .before .before .args .at + length (digits (c .before .before .before .args .x)) ≤ 18446744073709551615 = c .before .before .before .pre .1 in
-    let same : c .before .before .before .args .x ≡ t = c .before .before .before .pre .0 in
+    let start = c .before .before .before in
+    let a = start .args in
+    let some : 0 < a .x = pos-of-ne-zero (c .before .if1 .left) in
+    let count : length (digits (a .x)) ≡ suc (length (digits (a .x / 10))) = digits-count (a .x) some in
+    let room : a .at + length (digits (a .x)) ≤ 18446744073709551615 = start .pre .1 in
+    let same : a .x ≡ t = start .pre .0 in
     (omega arith, omega arith)
 
 put-digits-cast-store : (t : ℕ) → put-digits-lts.Need-cast-store (
@@ -79,10 +83,13 @@ put-digits-add-result : (t : ℕ) → put-digits-lts.Need-add-result (
   store-reads.Learnt,
 ) (put-digits-at t) put-digits.Post
 put-digits-add-result t c =
-    let some : 0 < c .before .before .before .before .before .before .before .before .before .before .args .x = pos-of-ne-zero (c .before .before .before .before .before .before .before .before .if1 .left) in
-    let count : length (digits (c .before .before .before .before .before .before .before .before .before .before .args .x)) ≡ suc (length (digits (c .before .before .before .before .before .before .before .before .before .before .args .x / 10))) = digits-count (c .before .before .before .before .before .before .before .before .before .before .args .x) some in
-    let room : c .before .before .before .before .before .before .before .before .before .before .args .at + length (digits (c .before .before .before .before .before .before .before .before .before .before .args .x)) ≤ 18446744073709551615 = c .before .before .before .before .before .before .before .before .before .before .pre .1 in
-    let place : c .before .before .before .before .before .before .put-digits .result ≡ c .before .before .before .before .before .before .before .before .before .before .args .at + length (digits (c .before .before .before .before .before .before .before .before .before .before .args .x / 10)) = c .before .before .before .before .before .before .put-digits .ensures .1 in
+    let c1 = c .before .before .before .before .before .before in
+    let start = c1 .before .before .before .before in
+    let a = start .args in
+    let some : 0 < a .x = pos-of-ne-zero (c1 .before .before .if1 .left) in
+    let count : length (digits (a .x)) ≡ suc (length (digits (a .x / 10))) = digits-count (a .x) some in
+    let room : a .at + length (digits (a .x)) ≤ 18446744073709551615 = start .pre .1 in
+    let place : c1 .put-digits .result ≡ a .at + length (digits (a .x / 10)) = c1 .put-digits .ensures .1 in
     record { fits = omega arith }
 
 put-digits-same-length : (t : ℕ) → put-digits-lts.Need-same-length (
@@ -101,9 +108,12 @@ put-digits-returns-2 : (t : ℕ) → put-digits-lts.Need-returns-2 (
   store-reads.Learnt,
 ) (put-digits-at t) put-digits.Post
 put-digits-returns-2 t c =
-    let some : 0 < c .before .before .before .before .before .before .before .before .before .before .args .x = pos-of-ne-zero (c .before .before .before .before .before .before .before .before .if1 .left) in
-    let put : Put (c .before .before .before .before .before .before .before .before .before .before .args .buf .now) (c .before .before .before .before .before .before .before .before .before .before .args .at) (digits (c .before .before .before .before .before .before .before .before .before .before .args .x)) (set (c .before .before .before .before .before .before .put-digits .last .0) (c .before .before .before .before .before .before .put-digits .result) (48 + c .before .before .before .before .before .before .before .before .before .before .args .x % 10)) (c .before .before .before .before .before .before .put-digits .result + 1) =
-    put-digit (c .before .before .before .before .before .before .before .before .before .before .args .buf .now) (c .before .before .before .before .before .before .put-digits .last .0) (c .before .before .before .before .before .before .before .before .before .before .args .at) (c .before .before .before .before .before .before .put-digits .result) (c .before .before .before .before .before .before .before .before .before .before .args .x) some (c .before .before .before .before .before .before .put-digits .ensures)
+    let c1 = c .before .before .before .before .before .before in
+    let a = c1 .before .before .before .before .args in
+    let some : 0 < a .x = pos-of-ne-zero (c1 .before .before .if1 .left) in
+    let put : Put (a .buf .now) (a .at) (digits (a .x)) (set (c1 .put-digits .last .0) (c1 .put-digits .result) (48 + a .x % 10))
+    (c1 .put-digits .result + 1) =
+    put-digit (a .buf .now) (c1 .put-digits .last .0) (a .at) (c1 .put-digits .result) (a .x) some (c1 .put-digits .ensures)
     in
     (c .before .before .store .ensures ∙ put .0, put .1)
 

@@ -15,15 +15,26 @@ abbrev μ-loop : tie.MeasureT-loop
 μ-loop buf₀ at s i₀ buf i = length s - i
 
 loop-again : tie.Need-loop-again Inv-loop μ-loop
-loop-again c = (search needs, c .before .before .store .ensures ∙ put-byte (c .before .before .before .before .before .before .before .before .before .args .buf .now) _ (c .before .before .before .before .before .before .before .before .before .args .s .now) (c .before .before .before .before .before .before .before .before .before .args .at) (c .before .before .before .before .before .before .loop .i) (c .before .before .before .before .before .before .loop .inv .1) (c .before .before .before .before .before .loop-test .taken))
+loop-again c =
+    let c1 = c .before .before .before .before .before in
+    let c2 = c1 .before in
+    let a = c2 .before .before .before .args in (
+      search needs,
+      c .before .before .store .ensures ∙ put-byte (a .buf .now) _ (a .s .now) (a .at) (c2 .loop .i)
+          (c2 .loop .inv .1) (c1 .loop-test .taken),
+    )
 
 same-length : tie.Need-same-length Inv-loop μ-loop
 same-length c = ap length (c .before .loop .inv .1) ∙ simp length-sets
 
 returns : tie.Need-returns Inv-loop μ-loop
 returns c =
-    let e : c .before .loop .i ≡ length (c .before .before .before .before .args .s .now) = omega arith in
-    (c .before .loop .inv .1 ∙ ap (sets (c .before .before .before .before .args .buf .now) (c .before .before .before .before .args .at)) (take-all (c .before .loop .i) (c .before .before .before .before .args .s .now) (omega arith)), ap (λ (k : ℕ). c .before .before .before .before .args .at + k) e)
+    let a = c .before .before .before .before .args in
+    let e : c .before .loop .i ≡ length (a .s .now) = omega arith in (
+      c .before .loop .inv .1 ∙ ap (sets (a .buf .now) (a .at)) (take-all (c .before .loop .i) (a .s .now) (omega arith)),
+      ap
+          (λ (k : ℕ). a .at + k) e,
+    )
 
 pub put-bytes-spec : {M : Type 1} → statement M
 put-bytes-spec =

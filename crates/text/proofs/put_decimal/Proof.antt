@@ -12,19 +12,25 @@ use Rattle.text.proofs.put_decimal.Tie as tie
 
 returns : tie.Need-returns
 returns c =
-    let put : Put (c .before .before .before .before .before .before .args .buf .now) (c .before .before .before .before .before .before .args .at) (decimal (c .before .before .before .before .before .before .args .x)) (set (c .before .before .before .before .before .before .args .buf .now) (c .before .before .before .before .before .before .args .at) 48) (c .before .before .before .before .before .before .args .at + 1) =
-    zero-put (c .before .before .before .before .before .before .args .buf .now) (c .before .before .before .before .before .before .args .at) (c .before .before .before .before .before .before .args .x) (c .before .before .before .before .if1 .taken)
+    let c1 = c .before .before .before .before in
+    let a = c1 .before .before .args in
+    let put : Put (a .buf .now) (a .at) (decimal (a .x)) (set (a .buf .now) (a .at) 48) (a .at + 1) =
+    zero-put (a .buf .now) (a .at) (a .x) (c1 .if1 .taken)
     in
     (c .before .before .store .ensures ∙ put .0, put .1)
 
 put-digits-requires : tie.Need-put-digits-requires
 put-digits-requires c κs =
-    let few : length (digits (c .before .before .before .args .x)) ≤ 20 = digits-most (c .before .before .before .args .x) (omega arith) in
+    let a = c .before .before .before .args in
+    let few : length (digits (a .x)) ≤ 20 = digits-most (a .x) (omega arith) in
     omega arith
 
 returns-2 : tie.Need-returns-2
 returns-2 c =
-    digits-put (c .before .before .before .before .before .before .args .buf .now) _ (c .before .before .before .before .before .before .args .at) (c .before .before .put-digits .result) (c .before .before .before .before .before .before .args .x) (pos-of-ne-zero (c .before .before .before .before .if1 .left)) (c .before .before .put-digits .ensures)
+    let c1 = c .before .before in
+    let a = c1 .before .before .before .before .args in
+    digits-put (a .buf .now) _ (a .at) (c1 .put-digits .result) (a .x) (pos-of-ne-zero (c1 .before .before .if1 .left))
+    (c1 .put-digits .ensures)
 
 pub put-decimal-spec : {M : Type 1} → statement M
 put-decimal-spec =

@@ -26,51 +26,83 @@ loop-holds c = (omega arith, c .byte-at .ensures, refl, refl)
 returns : tie.Need-returns Inv-loop μ-loop
 unfolding readDecimal
 returns c =
-    let S = c .before .before .before .before .before .before .before .args .s .now in
-    let here : isDigit (getD S (c .before .before .before .before .loop .next) 0) ≡ true = sym (ap isDigit (c .before .before .before .before .loop .inv .1)) ∙ sym (c .before .before .before .is-digit .ensures) ∙ c .before .before .if1 .taken in
-    let more : digitRun (drop (c .before .before .before .before .loop .next) S) ≡ getD S (c .before .before .before .before .loop .next) 0 ∷ digitRun (drop (c .before .before .before .before .loop .next + 1) S) = run-more S (c .before .before .before .before .loop .next) here in
-    let digit : c .before .digit-value .result ≡ getD S (c .before .before .before .before .loop .next) 0 - 48 = c .before .digit-value .ensures .0 ∙ ap (λ (b : ℕ). b - 48) (c .before .before .before .before .loop .inv .1) in
-    let large : 2 ^ 64 ≤ 10 * c .before .before .before .before .loop .value + (getD S (c .before .before .before .before .loop .next) 0 - 48) = omega arith in
-    too-large (digitRun (drop (c .before .before .before .before .before .before .before .args .at) S)) (c .before .before .before .before .before .before .before .args .at) (10 * c .before .before .before .before .loop .value + (getD S (c .before .before .before .before .loop .next) 0 - 48)) (digitRun (drop (c .before .before .before .before .loop .next + 1) S)) large (sym (ap (valueFrom (c .before .before .before .before .loop .value)) more) ∙ c .before .before .before .before .loop .inv .3)
+    let c1 = c .before .before .before in
+    let c2 = c1 .before in
+    let a = c2 .before .before .before .args in
+    let S = a .s .now in
+    let here : isDigit (getD S (c2 .loop .next) 0) ≡ true = sym (ap isDigit (c2 .loop .inv .1)) ∙ sym (c1 .is-digit .ensures)
+    ∙ c .before .before .if1 .taken in
+    let more : digitRun (drop (c2 .loop .next) S) ≡ getD S (c2 .loop .next) 0 ∷ digitRun (drop (c2 .loop .next + 1) S) = run-more
+    S (c2 .loop .next) here in
+    let digit : c .before .digit-value .result ≡ getD S (c2 .loop .next) 0 - 48 = c .before .digit-value .ensures .0 ∙ ap
+    (λ (b : ℕ). b - 48) (c2 .loop .inv .1) in
+    let large : 2 ^ 64 ≤ 10 * c2 .loop .value + (getD S (c2 .loop .next) 0 - 48) = omega arith in
+    too-large (digitRun (drop (a .at) S)) (a .at) (10 * c2 .loop .value + (getD S (c2 .loop .next) 0 - 48))
+    (digitRun (drop (c2 .loop .next + 1) S)) large (sym (ap (valueFrom (c2 .loop .value)) more) ∙ c2 .loop .inv .3)
 
 add-next : tie.Need-add-next Inv-loop μ-loop
 add-next c =
-    let S = c .before .before .before .before .before .before .before .args .s .now in
-    let here : isDigit (getD S (c .before .before .before .before .loop .next) 0) ≡ true = sym (ap isDigit (c .before .before .before .before .loop .inv .1)) ∙ sym (c .before .before .before .is-digit .ensures) ∙ c .before .before .if1 .taken in
-    let inside : c .before .before .before .before .loop .next < length S = digit-within S (c .before .before .before .before .loop .next) here in
+    let c1 = c .before .before .before in
+    let c2 = c1 .before in
+    let S = c2 .before .before .before .args .s .now in
+    let here : isDigit (getD S (c2 .loop .next) 0) ≡ true = sym (ap isDigit (c2 .loop .inv .1)) ∙ sym (c1 .is-digit .ensures)
+    ∙ c .before .before .if1 .taken in
+    let inside : c2 .loop .next < length S = digit-within S (c2 .loop .next) here in
     search needs
 
 loop-less : tie.Need-loop-less Inv-loop μ-loop
 loop-less c =
-    let S = c .before .before .before .before .before .before .before .before .args .s .now in
-    let here : isDigit (getD S (c .before .before .before .before .before .loop .next) 0) ≡ true = sym (ap isDigit (c .before .before .before .before .before .loop .inv .1)) ∙ sym (c .before .before .before .before .is-digit .ensures) ∙ c .before .before .before .if1 .taken in
-    let inside : c .before .before .before .before .before .loop .next < length S = digit-within S (c .before .before .before .before .before .loop .next) here in
+    let c1 = c .before .before .before in
+    let c2 = c1 .before .before in
+    let S = c2 .before .before .before .args .s .now in
+    let here : isDigit (getD S (c2 .loop .next) 0) ≡ true = sym (ap isDigit (c2 .loop .inv .1))
+    ∙ sym (c1 .before .is-digit .ensures) ∙ c1 .if1 .taken in
+    let inside : c2 .loop .next < length S = digit-within S (c2 .loop .next) here in
     omega arith
 
 loop-again : tie.Need-loop-again Inv-loop μ-loop
 loop-again c =
-    let S = c .before .before .before .before .before .before .before .before .args .s .now in
-    let here : isDigit (getD S (c .before .before .before .before .before .loop .next) 0) ≡ true = sym (ap isDigit (c .before .before .before .before .before .loop .inv .1)) ∙ sym (c .before .before .before .before .is-digit .ensures) ∙ c .before .before .before .if1 .taken in
-    let more : digitRun (drop (c .before .before .before .before .before .loop .next) S) ≡ getD S (c .before .before .before .before .before .loop .next) 0 ∷ digitRun (drop (c .before .before .before .before .before .loop .next + 1) S) = run-more S (c .before .before .before .before .before .loop .next) here in
-    let count : length (digitRun (drop (c .before .before .before .before .before .loop .next) S)) ≡ suc (length (digitRun (drop (c .before .before .before .before .before .loop .next + 1) S))) = ap length more in
-    let digit : c .before .before .digit-value .result ≡ getD S (c .before .before .before .before .before .loop .next) 0 - 48 = c .before .before .digit-value .ensures .0 ∙ ap (λ (b : ℕ). b - 48) (c .before .before .before .before .before .loop .inv .1) in
-    (omega arith, c .byte-at2 .ensures, omega arith, ap (λ (d : ℕ). valueFrom (10 * c .before .before .before .before .before .loop .value + d) (digitRun (drop (c .before .before .before .before .before .loop .next + 1) S))) digit ∙ sym (ap (valueFrom (c .before .before .before .before .before .loop .value)) more) ∙ c .before .before .before .before .before .loop .inv .3)
+    let c1 = c .before .before in
+    let c2 = c1 .before .before .before in
+    let S = c2 .before .before .before .args .s .now in
+    let here : isDigit (getD S (c2 .loop .next) 0) ≡ true = sym (ap isDigit (c2 .loop .inv .1))
+    ∙ sym (c1 .before .before .is-digit .ensures) ∙ c1 .before .if1 .taken in
+    let more : digitRun (drop (c2 .loop .next) S) ≡ getD S (c2 .loop .next) 0 ∷ digitRun (drop (c2 .loop .next + 1) S) = run-more
+    S (c2 .loop .next) here in
+    let count : length (digitRun (drop (c2 .loop .next) S)) ≡ suc (length (digitRun (drop (c2 .loop .next + 1) S))) = ap length
+    more in
+    let digit : c1 .digit-value .result ≡ getD S (c2 .loop .next) 0 - 48 = c1 .digit-value .ensures .0 ∙ ap (λ (b : ℕ). b - 48)
+    (c2 .loop .inv .1) in (
+      omega arith,
+      c .byte-at2 .ensures,
+      omega arith,
+      ap
+          (λ (d : ℕ). valueFrom (10 * c2 .loop .value + d) (digitRun (drop (c2 .loop .next + 1) S))) digit
+          ∙ sym (ap (valueFrom (c2 .loop .value)) more) ∙ c2 .loop .inv .3,
+    )
 
 returns-2 : tie.Need-returns-2 Inv-loop μ-loop
 unfolding readDecimal
 returns-2 c =
-    let S = c .before .before .before .before .before .before .args .s .now in
-    let over : digitRun (drop (c .before .before .before .loop .next) S) ≡ [] = run-ends S (c .before .before .before .loop .next) (sym (ap isDigit (c .before .before .before .loop .inv .1)) ∙ sym (c .before .before .is-digit .ensures) ∙ c .before .if1 .left) in
-    let count : length (digitRun (drop (c .before .before .before .loop .next) S)) ≡ 0 = ap length over in
-    no-digit (digitRun (drop (c .before .before .before .before .before .before .args .at) S)) (c .before .before .before .before .before .before .args .at) (omega arith)
+    let c1 = c .before .before .before in
+    let a = c1 .before .before .before .args in
+    let S = a .s .now in
+    let over : digitRun (drop (c1 .loop .next) S) ≡ [] = run-ends S (c1 .loop .next)
+    (sym (ap isDigit (c1 .loop .inv .1)) ∙ sym (c .before .before .is-digit .ensures) ∙ c .before .if1 .left) in
+    let count : length (digitRun (drop (c1 .loop .next) S)) ≡ 0 = ap length over in
+    no-digit (digitRun (drop (a .at) S)) (a .at) (omega arith)
 
 returns-3 : tie.Need-returns-3 Inv-loop μ-loop
 unfolding readDecimal
 returns-3 c =
-    let S = c .before .before .before .before .before .before .args .s .now in
-    let over : digitRun (drop (c .before .before .before .loop .next) S) ≡ [] = run-ends S (c .before .before .before .loop .next) (sym (ap isDigit (c .before .before .before .loop .inv .1)) ∙ sym (c .before .before .is-digit .ensures) ∙ c .before .if1 .left) in
-    let count : length (digitRun (drop (c .before .before .before .loop .next) S)) ≡ 0 = ap length over in
-    all-read (digitRun (drop (c .before .before .before .before .before .before .args .at) S)) (c .before .before .before .before .before .before .args .at) (c .before .before .before .loop .value) (c .before .before .before .loop .next) (c .before .before .before .loop .inv .0) (c .if3 .left) (omega arith) (sym (ap (valueFrom (c .before .before .before .loop .value)) over) ∙ c .before .before .before .loop .inv .3)
+    let c1 = c .before .before .before in
+    let a = c1 .before .before .before .args in
+    let S = a .s .now in
+    let over : digitRun (drop (c1 .loop .next) S) ≡ [] = run-ends S (c1 .loop .next)
+    (sym (ap isDigit (c1 .loop .inv .1)) ∙ sym (c .before .before .is-digit .ensures) ∙ c .before .if1 .left) in
+    let count : length (digitRun (drop (c1 .loop .next) S)) ≡ 0 = ap length over in
+    all-read (digitRun (drop (a .at) S)) (a .at) (c1 .loop .value) (c1 .loop .next) (c1 .loop .inv .0) (c .if3 .left)
+    (omega arith) (sym (ap (valueFrom (c1 .loop .value)) over) ∙ c1 .loop .inv .3)
 
 pub read-decimal-spec : {M : Type 1} → statement M
 read-decimal-spec =

@@ -4,7 +4,10 @@ use Rattle.turning.proofs.turn_for.Statement.{statement}
 use Rattle.turning.proofs.turn_for.Tie as tie
 
 returns : tie.Need-returns
-returns c = λ nodes valued. turns-for (c .before .before .before .before .before .givens-for .ensures) (c .before .before .before .before .changes-for .ensures) (c .before .before .before .turned-by .ensures nodes valued) (c .before .answer-said .ensures) (c .row-said .ensures)
+returns c =
+    let c1 = c .before .before .before in
+    λ nodes valued. turns-for (c1 .before .before .givens-for .ensures) (c1 .before .changes-for .ensures)
+    (c1 .turned-by .ensures nodes valued) (c .before .answer-said .ensures) (c .row-said .ensures)
 
 pub turn-for-spec : {M : Type 1} → statement M
 turn-for-spec =

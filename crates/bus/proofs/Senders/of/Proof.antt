@@ -5,7 +5,9 @@ use Rattle.bus.proofs.Senders.of.Tie as tie
 
 returns : tie.Need-returns
 unfolding sendersOf
-returns c = rw (c .before .before .before .before .before .before .bus-tasks .ensures, c .before .before .before .sending-modules .ensures, c .control-payloads .ensures)
+returns c =
+    let c1 = c .before .before .before in
+    rw (c1 .before .before .before .bus-tasks .ensures, c1 .sending-modules .ensures, c .control-payloads .ensures)
 
 pub of-spec : {M : Type 1} → statement M
 of-spec =

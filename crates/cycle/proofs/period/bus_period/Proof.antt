@@ -21,8 +21,9 @@ abbrev μ-loop : tie.MeasureT-loop
 made : (c : tie.After-lcm Inv-loop μ-loop) → c .lcm .result ≡ periodOfRuns (tab (runAt (c .before .before .before .before .args .t1)) 0 (c .before .before .before .loop .i + 1))
 unfolding runAt
 made c =
-    c .lcm .ensures ∙ rw (c .before .before .before .loop .inv .1)
-    (sym (period-more (runAt (c .before .before .before .before .args .t1)) (c .before .before .before .loop .i)))
+    let c1 = c .before .before .before in
+    c .lcm .ensures ∙ rw (c1 .loop .inv .1)
+    (sym (period-more (runAt (c1 .before .args .t1)) (c1 .loop .i)))
 
 whole : (c : tie.After-lcm Inv-loop μ-loop) → divides (periodOfRuns (tab (runAt (c .before .before .before .before .args .t1)) 0 (c .before .before .before .before .args .t1 .count))) (c .before .before .before .before .args .grid) ≡ true
 unfolding runsSeen
@@ -33,7 +34,16 @@ unfolding periodOfRuns
 loop-holds c = (search needs, refl)
 
 cast-period : tie.Need-cast-period Inv-loop μ-loop
-cast-period c = omega (arith, made c, period-below (runAt (c .before .before .before .before .args .t1)) (c .before .before .before .before .args .grid) (c .before .before .before .before .args .t1 .count) (c .before .before .before .loop .i + 1) (omega arith) (c .before .before .before .before .pre .1 .0) (whole c))
+cast-period c =
+    let c1 = c .before .before .before in
+    let start = c1 .before in
+    let a = start .args in
+    omega (
+      arith,
+      made c,
+      period-below (runAt (a .t1)) (a .grid) (a .t1 .count) (c1 .loop .i + 1) (omega arith) (start .pre .1 .0)
+          (whole c),
+    )
 
 loop-again : tie.Need-loop-again Inv-loop μ-loop
 loop-again c = (omega arith, made c)
@@ -43,8 +53,11 @@ unfolding runsSeen
 returns c =
     let s = c .before .before in
     let e : c .before .loop .i ≡ s .args .t1 .count = omega arith in
-    let h = rw e at (c .before .loop .inv .1) in
-    (h, rw h (period-below (runAt (s .args .t1)) (s .args .grid) (s .args .t1 .count) (s .args .t1 .count) (omega arith) (s .pre .1 .0) (s .pre .1 .1)))
+    let h = rw e at (c .before .loop .inv .1) in (
+      h,
+      rw h (period-below (runAt (s .args .t1)) (s .args .grid) (s .args .t1 .count) (s .args .t1 .count) (omega arith)
+          (s .pre .1 .0) (s .pre .1 .1)),
+    )
 
 pub bus-period-spec : {M : Type 1} → statement M
 bus-period-spec =

@@ -24,16 +24,22 @@ loop-holds c = (search needs, divides-none (runAt (c .args .t1)) (c .args .grid)
 returns : tie.Need-returns Inv-loop μ-loop
 unfolding runAt runsSeen
 returns c =
-    let s = c .before .before .before .before .before in
-    let l = c .before .before .before .before .loop in
-    sym (divides-not (runAt (s .args .t1)) (s .args .grid) (s .args .t1 .count) (l .i) (omega arith) (sym (c .before .divides .ensures) ∙ not-true _ (c .if1 .taken)))
+    let c1 = c .before .before .before .before in
+    let s = c1 .before in
+    let l = c1 .loop in
+    sym (divides-not (runAt (s .args .t1)) (s .args .grid) (s .args .t1 .count) (l .i) (omega arith)
+    (sym (c .before .divides .ensures) ∙ not-true _ (c .if1 .taken)))
 
 loop-again : tie.Need-loop-again Inv-loop μ-loop
 unfolding runAt
 loop-again c =
-    let s = c .before .before .before .before .before in
-    let l = c .before .before .before .before .loop in
-    (omega arith, divides-more (runAt (s .args .t1)) (s .args .grid) (l .i) (l .inv .1) (sym (c .before .divides .ensures) ∙ not-false _ (c .if1 .left)))
+    let c1 = c .before .before .before .before in
+    let s = c1 .before in
+    let l = c1 .loop in (
+      omega arith,
+      divides-more (runAt (s .args .t1)) (s .args .grid) (l .i) (l .inv .1)
+          (sym (c .before .divides .ensures) ∙ not-false _ (c .if1 .left)),
+    )
 
 returns-2 : tie.Need-returns-2 Inv-loop μ-loop
 unfolding runsSeen

@@ -25,12 +25,14 @@ loop-holds c = (search needs, refl)
 loop-again : tie.Need-loop-again Inv-loop μ-loop
 unfolding modeSeen modeLaid
 loop-again c =
-    let s = c .before .before .before .before .before in
+    let c1 = c .before .before .before in
+    let s = c1 .before .before in
     let q = seen (s .args .t1) in
-    let l = c .before .before .before .loop in
+    let l = c1 .loop in
     let h : l .i < length (q .modes) = omega arith in (
       omega arith,
-      grid-turn q (q .modes) (l .i) (modeSeen (getD (s .args .t1 .modes) (l .i) (modeLaid noMode))) h (mode-here (s .args .t1) (l .i) h)
+      grid-turn q (q .modes) (l .i) (modeSeen (getD (s .args .t1 .modes) (l .i) (modeLaid noMode))) h
+          (mode-here (s .args .t1) (l .i) h)
           (c .before .place .result) (s .pre) (omega arith) (c .before .place .ensures .0) (l .inv .1) (c .with-mode .ensures),
     )
 

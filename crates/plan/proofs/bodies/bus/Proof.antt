@@ -12,8 +12,17 @@ use Rattle.plan.proofs.bodies.bus.Tie as tie
 returns : tie.Need-returns
 unfolding busLaid busOf fields kinds
 returns c =
-    rw (c .before .before .before .before .before .read16 .ensures, c .before .before .before .before .read162 .ensures, c .before .before .before .read163 .ensures, c .before .before .read164 .ensures, c .before .read32 .ensures, c .read322 .ensures)
-    (ap (λ (b : List ℕ). busLaid (busOf b)) (sym (numbers-laid (c .before .before .before .before .before .before .before .args .body .now) 0 1)))
+    let c1 = c .before .before .before in
+    let a = c1 .before .before .before .before .args in
+    rw (
+      c1 .before .before .read16 .ensures,
+      c1 .before .read162 .ensures,
+      c1 .read163 .ensures,
+      c .before .before .read164 .ensures,
+      c .before .read32 .ensures,
+      c .read322 .ensures,
+    )
+    (ap (λ (b : List ℕ). busLaid (busOf b)) (sym (numbers-laid (a .body .now) 0 1)))
 
 pub bus-spec : {M : Type 1} → statement M
 bus-spec =

@@ -13,7 +13,8 @@ returns : tie.Need-returns
 unfolding invocationLaid invocationOf fields kinds
 returns c =
     rw (c .before .before .read16 .ensures, c .before .read8 .ensures, c .read82 .ensures)
-    (ap (λ (b : List ℕ). invocationLaid (invocationOf b)) (sym (numbers-laid (c .before .before .before .before .args .body .now) 0 6)))
+    (ap (λ (b : List ℕ). invocationLaid (invocationOf b))
+    (sym (numbers-laid (c .before .before .before .before .args .body .now) 0 6)))
 
 pub invocation-spec : {M : Type 1} → statement M
 invocation-spec =

@@ -9,9 +9,11 @@ use Rattle.plan.proofs.look.connection_at.Tie as tie
 returns : tie.Need-returns
 unfolding connectionLaid connectionSeen seen countSeen noConnection
 returns c =
-    let p = c .before .before .before .before .args .p in
-    let k = c .before .before .before .before .args .k in
-    ap connectionLaid (sym (part-at connectionSeen (countSeen p 7) (p .connections) k (connectionLaid noConnection) (omega arith)))
+    let a = c .before .before .before .before .args in
+    let p = a .p in
+    let k = a .k in
+    ap connectionLaid (sym (part-at connectionSeen (countSeen p 7) (p .connections) k (connectionLaid noConnection)
+    (omega arith)))
 
 returns-2 : tie.Need-returns-2
 unfolding connectionLaid connectionSeen seen countSeen noConnection

@@ -10,9 +10,11 @@ use Rattle.plan.proofs.look.invocation_at.Tie as tie
 returns : tie.Need-returns
 unfolding invocationLaid invocationSeen seen countSeen rules.theInvocation
 returns c =
-    let p = c .before .before .before .before .args .p in
-    let k = c .before .before .before .before .args .k in
-    ap invocationLaid (sym (part-at invocationSeen (countSeen p 6) (p .invocations) k (invocationLaid rules.noInvocation) (omega arith)))
+    let a = c .before .before .before .before .args in
+    let p = a .p in
+    let k = a .k in
+    ap invocationLaid (sym (part-at invocationSeen (countSeen p 6) (p .invocations) k (invocationLaid rules.noInvocation)
+    (omega arith)))
 
 returns-2 : tie.Need-returns-2
 unfolding invocationLaid invocationSeen seen countSeen rules.theInvocation

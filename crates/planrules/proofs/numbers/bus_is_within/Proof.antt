@@ -9,7 +9,25 @@ use Rattle.planrules.proofs.numbers.bus_is_within.Tie as tie
 returns : tie.Need-returns
 unfolding numbersAreWithin payloadsOrdered isKind recordOf fields kinds busLaid busOf
 returns c =
-    rw (c .both6 .ensures, c .before .before .both5 .ensures, c .before .before .before .both4 .ensures, c .before .before .before .before .before .before .both3 .ensures, c .before .before .before .before .before .before .before .both2 .ensures, c .before .before .before .before .before .before .before .before .before .before .both .ensures, c .before .before .before .before .within6 .ensures, c .before .before .before .before .before .within5 .ensures, c .before .before .before .before .before .before .before .before .within4 .ensures, c .before .before .before .before .before .before .before .before .before .within3 .ensures, c .before .before .before .before .before .before .before .before .before .before .before .within2 .ensures, c .before .before .before .before .before .before .before .before .before .before .before .before .within .ensures, c .before .before .before .before .before .before .before .before .before .before .before .before .before .bus .ensures) (simp and-true)
+    let c1 = c .before .before .before in
+    let c2 = c1 .before .before .before in
+    let c3 = c2 .before .before .before in
+    let c4 = c3 .before .before .before in
+    rw (
+      c .both6 .ensures,
+      c .before .before .both5 .ensures,
+      c1 .both4 .ensures,
+      c2 .both3 .ensures,
+      c2 .before .both2 .ensures,
+      c3 .before .both .ensures,
+      c1 .before .within6 .ensures,
+      c1 .before .before .within5 .ensures,
+      c2 .before .before .within4 .ensures,
+      c3 .within3 .ensures,
+      c3 .before .before .within2 .ensures,
+      c4 .within .ensures,
+      c4 .before .bus .ensures,
+    ) (simp and-true)
 
 pub bus-is-within-spec : {M : Type 1} → statement M
 bus-is-within-spec =

@@ -20,10 +20,21 @@ loop-holds : tie.Need-loop-holds Inv-loop μ-loop
 loop-holds c = (scanned-none _ _ (c .before .pre), scanned-none _ _ (c .before .pre))
 
 add-n : tie.Need-add-n Inv-loop μ-loop
-add-n c = omega (arith, scanned-number _ _ _ _ _ _ (c .before .before .before .before .before .before .before .before .before .loop .inv .0) _ _ _ (sym (c .before .before .before .before .before .before .before .before .next .ensures) ∙ c .before .before .before .before .before .before .kind .given .1), c .before .before .before .before .before .before .before .before .before .before .before .good .0 .0)
+add-n c =
+    let c1 = c .before .before .before .before .before .before in
+    let c2 = c1 .before .before .before in
+    omega (
+      arith,
+      scanned-number _ _ _ _ _ _ (c2 .loop .inv .0) _ _ _
+          (sym (c1 .before .before .next .ensures) ∙ c1 .kind .given .1),
+      c2 .before .before .good .0 .0,
+    )
 
 loop-less : tie.Need-loop-less Inv-loop μ-loop
-loop-less c = scanned-less _ _ _ _ _ _ (c .before .before .before .before .before .before .before .before .before .loop .inv .0) _ _ _ (sym (c .before .before .before .before .before .before .before .before .next .ensures) ∙ c .before .before .before .before .before .before .kind .given .1)
+loop-less c =
+    let c1 = c .before .before .before .before .before .before in
+    scanned-less _ _ _ _ _ _ (c1 .before .before .before .loop .inv .0) _ _ _
+    (sym (c1 .before .before .next .ensures) ∙ c1 .kind .given .1)
 
 loop-again : tie.Need-loop-again Inv-loop μ-loop
 loop-again c = (
@@ -33,10 +44,18 @@ loop-again c = (
 
 returns : tie.Need-returns Inv-loop μ-loop
 returns c =
-    rw (scanned-end _ _ _ _ _ _ (c .before .before .before .loop .inv .0) (sym (c .before .before .next .ensures) ∙ c .enum-told .given .1), scanned-end _ _ _ _ _ _ (c .before .before .before .loop .inv .1) (sym (c .before .before .next .ensures) ∙ c .enum-told .given .1))
+    let c1 = c .before .before in
+    let c2 = c1 .before in
+    rw (
+      scanned-end _ _ _ _ _ _ (c2 .loop .inv .0) (sym (c1 .next .ensures) ∙ c .enum-told .given .1),
+      scanned-end _ _ _ _ _ _
+          (c2 .loop .inv .1) (sym (c1 .next .ensures) ∙ c .enum-told .given .1),
+    )
 
 returns-2 : tie.Need-returns-2 Inv-loop μ-loop
-returns-2 c = scanned-wrong _ _ _ _ _ _ (c .before .before .before .loop .inv .0) _ (sym (c .before .before .next .ensures) ∙ c .enum-told2 .given .1)
+returns-2 c =
+    scanned-wrong _ _ _ _ _ _ (c .before .before .before .loop .inv .0) _
+    (sym (c .before .before .next .ensures) ∙ c .enum-told2 .given .1)
 
 pub first-bad-spec : {M : Type 1} → statement M
 first-bad-spec =

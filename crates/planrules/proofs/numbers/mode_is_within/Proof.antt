@@ -8,7 +8,13 @@ use Rattle.planrules.proofs.numbers.mode_is_within.Tie as tie
 
 returns : tie.Need-returns
 unfolding numbersAreWithin payloadsOrdered isKind recordOf fields kinds modeLaid modeOf
-returns c = rw (c .both .ensures, c .before .within2 .ensures, c .before .before .within .ensures, c .before .before .before .mode .ensures) (simp and-true)
+returns c =
+    rw (
+      c .both .ensures,
+      c .before .within2 .ensures,
+      c .before .before .within .ensures,
+      c .before .before .before .mode .ensures,
+    ) (simp and-true)
 
 pub mode-is-within-spec : {M : Type 1} → statement M
 mode-is-within-spec =

@@ -22,16 +22,31 @@ returns-3 c = rw (c .place3 .ensures, c .before .task .ensures, c .before .befor
 returns-4 : tie.Need-returns-4
 unfolding namesAreThere recordOf fields kinds invocationLaid invocationOf
 returns-4 c =
-    rw (c .both .ensures, c .before .place5 .ensures, c .before .before .place4 .ensures, c .before .before .before .invocation .ensures, c .before .before .before .before .match .keys4) (simp and-true)
+    let c1 = c .before .before .before in
+    rw (
+      c .both .ensures,
+      c .before .place5 .ensures,
+      c .before .before .place4 .ensures,
+      c1 .invocation .ensures,
+      c1 .before .match .keys4,
+    ) (simp and-true)
 
 returns-5 : tie.Need-returns-5
 unfolding namesAreThere recordOf fields kinds connectionLaid connectionOf
 returns-5 c =
-    rw (c .both2 .ensures, c .before .place7 .ensures, c .before .before .place6 .ensures, c .before .before .before .connection .ensures, c .before .before .before .before .match .keys5) (simp and-true)
+    let c1 = c .before .before .before in
+    rw (
+      c .both2 .ensures,
+      c .before .place7 .ensures,
+      c .before .before .place6 .ensures,
+      c1 .connection .ensures,
+      c1 .before .match .keys5,
+    ) (simp and-true)
 
 returns-6 : tie.Need-returns-6
 returns-6 c =
-    sym (no-names _ _ _ (c .match .rest .0 .0 .0 .0 .1) (c .match .rest .0 .0 .0 .1) (c .match .rest .0 .0 .1) (c .match .rest .0 .1) (c .match .rest .1))
+    sym (no-names _ _ _ (c .match .rest .0 .0 .0 .0 .1) (c .match .rest .0 .0 .0 .1) (c .match .rest .0 .0 .1)
+    (c .match .rest .0 .1) (c .match .rest .1))
 
 pub names-are-there-spec : {M : Type 1} → statement M
 names-are-there-spec =

@@ -8,7 +8,13 @@ use Rattle.planrules.proofs.numbers.task_is_within.Tie as tie
 
 returns : tie.Need-returns
 unfolding numbersAreWithin payloadsOrdered isKind recordOf fields kinds taskLaid taskOf
-returns c = rw (c .both .ensures, c .before .within2 .ensures, c .before .before .within .ensures, c .before .before .before .task .ensures) (simp and-true)
+returns c =
+    rw (
+      c .both .ensures,
+      c .before .within2 .ensures,
+      c .before .before .within .ensures,
+      c .before .before .before .task .ensures,
+    ) (simp and-true)
 
 pub task-is-within-spec : {M : Type 1} → statement M
 task-is-within-spec =

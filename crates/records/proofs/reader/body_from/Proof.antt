@@ -63,7 +63,13 @@ abbrev Bytes : Slot 1
 Bytes = SliceRefOf (0 ∷ []) tt (plain (λ κs. u8)) (λ κs. tt)
 
 abbrev stayed : Stays (whole.ended .signature .params) (whole.ended .kept)
-stayed = (stay-dropped Bytes yes, (stay-dropped (plain (λ κs. S.the-row)) yes, (stay-dropped (plain (λ κs. u8)) yes, (stay-dropped (plain (λ κs. usize)) yes, tt))))
+stayed = (
+  stay-dropped Bytes yes,
+  (
+    stay-dropped (plain (λ κs. S.the-row)) yes,
+    (stay-dropped (plain (λ κs. u8)) yes, (stay-dropped (plain (λ κs. usize)) yes, tt)),
+  ),
+)
 
 -- what the calls say of a reader
 abbrev Fresh : RefT (List ℕ) → Sort → Reader → Type 0
@@ -181,6 +187,9 @@ body-from-spec 𝓤 H 𝓜 𝓖 𝓡 =
     entered 𝓤 H (tripleOf 𝓤 H (𝓖 .A) whole.signature (whole.spec 𝓤 H (𝓖 .A) (𝓜 .mem) (𝓡 .run)))
     (tables 𝓤 H 𝓜 𝓡 code.env .C) (tables 𝓤 H 𝓜 𝓡 code.env .Λ) #body-from code.function (code.unfolded 𝓤 H 𝓜 𝓡)
     (meets 𝓤 H (𝓖 .A) (givenOf 𝓤 H 𝓜 𝓖) (𝓜 .mem) (𝓡 .run) (tablesOf 𝓤 H 𝓜 (tables 𝓤 H 𝓜 𝓡 code.env))
-    (cited 𝓤 H (New 𝓤 H (𝓖 .A) (𝓜 .mem) (𝓡 .run)) 𝓜 𝓡 code.env #new new-def.routine code.calls-records·reader·new (new-thm.met 𝓤 H 𝓜 𝓖 𝓡))
-    (cited 𝓤 H (Moved 𝓤 H (𝓖 .A) (𝓜 .mem) (𝓡 .run)) 𝓜 𝓡 code.env #moved moved-def.routine code.calls-records·reader·moved (moved-thm.met 𝓤 H 𝓜 𝓖 𝓡))
-    (cited 𝓤 H (Body 𝓤 H (𝓖 .A) (𝓜 .mem) (𝓡 .run)) 𝓜 𝓡 code.env #body body-def.routine code.calls-records·reader·body (body-thm.met 𝓤 H 𝓜 𝓖 𝓡)))
+    (cited 𝓤 H (New 𝓤 H (𝓖 .A) (𝓜 .mem) (𝓡 .run)) 𝓜 𝓡 code.env #new new-def.routine code.calls-records·reader·new
+    (new-thm.met 𝓤 H 𝓜 𝓖 𝓡))
+    (cited 𝓤 H (Moved 𝓤 H (𝓖 .A) (𝓜 .mem) (𝓡 .run)) 𝓜 𝓡 code.env #moved moved-def.routine code.calls-records·reader·moved
+    (moved-thm.met 𝓤 H 𝓜 𝓖 𝓡))
+    (cited 𝓤 H (Body 𝓤 H (𝓖 .A) (𝓜 .mem) (𝓡 .run)) 𝓜 𝓡 code.env #body body-def.routine code.calls-records·reader·body
+    (body-thm.met 𝓤 H 𝓜 𝓖 𝓡)))

@@ -48,7 +48,8 @@ use Rattle.records.proofs.reader.new.Statement as stated
 use Rattle.records.proofs.reader.new.Code as code
 
 abbrev stayed : Stays (new.ended .signature .params) (new.ended .kept)
-stayed = (stay-dropped (SliceRefOf (0 ∷ []) tt (plain (λ κs. u8)) (λ κs. tt)) yes, (stay-dropped (plain (λ κs. S.the-row)) yes, tt))
+stayed =
+    (stay-dropped (SliceRefOf (0 ∷ []) tt (plain (λ κs. u8)) (λ κs. tt)) yes, (stay-dropped (plain (λ κs. S.the-row)) yes, tt))
 
 module _ {M : Type 1} (𝓤 : URA M) (H : Heap 𝓤) (A : Atoms 𝓤) (W : Given 𝓤 H A) (mem : Memory → SProp 𝓤) (run : Routine → Fun 𝓤) (κ : Lft) (q : Share) (s : RefT (List ℕ)) (sort : Sort) where
   abbrev κs : Lfts 1

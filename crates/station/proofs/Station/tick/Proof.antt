@@ -7,8 +7,12 @@ use Rattle.station.proofs.Station.tick.Tie as tie
 
 returns : tie.Need-returns
 returns c =
-    let turn = c .before .before .before .turned-by .ensures (c .before .before .before .before .before .before .before .before .before .before .before .before .before .before .before .before .args .t1 .nodes) (station-valued (c .before .before .before .before .before .before .before .before .before .before .before .before .before .before .before .before .args .t1) _ (c .before .before .before .before .before .before .before .before .before .before .before .before .before .before .before .before .good .0)) in
-    ⊎-elim (λ w. idle-turn turn (w .0 .taken) (w .1)) (λ w. moving-turn turn (w .0 .left) (w .4 .ensures) (w .5)) (c .before .if1 .came)
+    let c1 = c .before .before .before in
+    let c2 = c1 .before .before .before .before .before .before .before .before .before .before .before .before .before in
+    let a = c2 .args in
+    let turn = c1 .turned-by .ensures (a .t1 .nodes) (station-valued (a .t1) _ (c2 .good .0)) in
+    ⊎-elim (λ w. idle-turn turn (w .0 .taken) (w .1)) (λ w. moving-turn turn (w .0 .left) (w .4 .ensures) (w .5))
+    (c .before .if1 .came)
 
 pub tick-spec : {M : Type 1} → statement M
 tick-spec = tie.close (tie.spec (λ c κs. search needs) (λ c κs. search needs) returns)

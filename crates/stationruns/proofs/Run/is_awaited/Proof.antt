@@ -3,10 +3,24 @@ use Rattle.stationruns.proofs.Run.is_awaited.Statement.{statement}
 use Rattle.stationruns.proofs.Run.is_awaited.Tie as tie
 
 returns : tie.Need-returns
-returns c = rw (← c .before .before .before .is-under-way .ensures, ← c .before .before .both .ensures, c .before .if1 .taken, c .if2 .taken)
+returns c =
+    rw (
+      ← c .before .before .before .is-under-way .ensures,
+      ← c .before .before .both .ensures,
+      c .before .if1 .taken,
+      c .if2 .taken,
+    )
 
 returns-2 : tie.Need-returns-2
-returns-2 c = rw (← c .before .before .before .before .is-under-way .ensures, ← c .before .before .before .both .ensures, c .before .before .if1 .taken, c .before .if2 .left, c .since-release .ensures)
+returns-2 c =
+    let c1 = c .before .before .before in
+    rw (
+      ← c1 .before .is-under-way .ensures,
+      ← c1 .both .ensures,
+      c .before .before .if1 .taken,
+      c .before .if2 .left,
+      c .since-release .ensures,
+    )
 
 returns-3 : tie.Need-returns-3
 returns-3 c = rw (← c .before .before .is-under-way .ensures, ← c .before .both .ensures, c .if1 .left)

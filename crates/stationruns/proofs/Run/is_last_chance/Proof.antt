@@ -3,7 +3,13 @@ use Rattle.stationruns.proofs.Run.is_last_chance.Statement.{statement}
 use Rattle.stationruns.proofs.Run.is_last_chance.Tie as tie
 
 returns : tie.Need-returns
-returns c = rw (← c .before .before .before .is-under-way .ensures, ← c .before .before .both .ensures, c .before .if1 .taken, c .since-release .ensures)
+returns c =
+    rw (
+      ← c .before .before .before .is-under-way .ensures,
+      ← c .before .before .both .ensures,
+      c .before .if1 .taken,
+      c .since-release .ensures,
+    )
 
 returns-2 : tie.Need-returns-2
 returns-2 c = rw (← c .before .before .is-under-way .ensures, ← c .before .both .ensures, c .if1 .left)
