@@ -1,5 +1,4 @@
 -- Answers by their letters: what each line says.
--- Assumes nothing.
 use mathlib.Core.Path.{_≡_, refl}
 use mathlib.Core.List.{[], _∷_}
 use lib.ListN.{replicate, set}

@@ -1,5 +1,4 @@
 -- Lines put piece by piece.
--- Assumes nothing.
 use mathlib.Core.Path.{_≡_, refl, sym, ap, _∙_}
 use mathlib.Core.List.{List, [], _∷_, _++_}
 use native.Mathlib.Nat.{add-zero, zero-add, le-antisymm}
@@ -8,7 +7,7 @@ use native.Mathlib.Omega.{arith}
 use borrow.Author.Tests.{eq-eqb, ne-eqb}
 use lib.ListN.{length, length-append}
 use lib.Seq.{sets, length-sets}
-use Prim.Native.Nat.{ℕ, zero, _+_, _≤_, _<_}
+use Prim.Native.Nat.{ℕ, _+_, _≤_, _<_}
 use Rattle.text.specs.Text.{decimal, lineFeed}
 use Rattle.text.proofs.Decimals.{decimal-most}
 use Rattle.text.proofs.Putting.{Put, both-put}
@@ -31,7 +30,7 @@ place-put b b₁ b₂ b₃ at k₁ k₂ k₃ n t v f p q r =
     (both-put b b₁ b₃ (marked (32 ∷ []) n) (marked (47 ∷ []) t ++ marked (61 ∷ []) v) at k₁ k₃ p
     (both-put b₁ b₂ b₃ (marked (47 ∷ []) t) (marked (61 ∷ []) v) k₁ k₂ k₃ q r))
 
--- what a loop has put so far, at most `most` bytes a turn
+-- what a loop has put so far
 pub record Putting (old : List ℕ) (at : ℕ) (f : ℕ → List ℕ) (n : ℕ) (buf : List ℕ) (end : ℕ) : Type 0 where
   pub put : Put old at (texts f n) buf end
 

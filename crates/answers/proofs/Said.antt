@@ -1,5 +1,4 @@
 -- A refusal is known by its number and its place: `said` leaves one case of the enum, with one place in it.
--- Assumes nothing.
 use mathlib.Core.Bool.{cond}
 use mathlib.Core.List.{List, [], _∷_}
 use mathlib.Core.Path.{_≡_, refl}

@@ -1,6 +1,5 @@
 -- The ways of a beginning over plain variables: what is kept of a passed plan and table is what the rules keep, the starting places are
 -- tested by the rules' own test, and the state at the start is laid over it.
--- Assumes nothing.
 use mathlib.Core.Path.{_≡_, refl, sym, ap, _∙_, subst}
 use mathlib.Core.Bool.{Bool, true, false, _&&_}
 use mathlib.Core.List.{List, map}

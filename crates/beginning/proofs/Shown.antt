@@ -1,7 +1,6 @@
 -- Demand 3 of the code, by the contracts of `begin`, `tick` and `shown` alone: the station that a beginning leaves keeps what the rules
 -- keep and stands at the rules' first state, at every place of a station; so behind every history of accepted ticks the values shown
 -- are the one board's.
--- Assumes nothing.
 use mathlib.Core.Path.{_≡_, refl, sym, ap, ap₂, _∙_, subst}
 use mathlib.Core.Bool.{true, false}
 use mathlib.Core.List.{List}

@@ -1,5 +1,4 @@
 -- No second beginning says of two files and the starting places what the rules say of them.
--- Assumes nothing.
 use mathlib.Core.Path.{_≡_, refl, sym, ap, _∙_}
 use Rattle.laws.specs.Res.{Res}
 use Rattle.laws.proofs.Res.{refuse≢ok}

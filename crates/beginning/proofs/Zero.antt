@@ -1,5 +1,4 @@
 -- "A refused beginning returns a station not begun, all zero, whose every tick gives 40 at 0": by the contracts of `begin` and `tick`.
--- Assumes nothing.
 use mathlib.Core.Path.{_≡_, refl, sym, ap, _∙_}
 use mathlib.Core.List.{List}
 use Rattle.laws.specs.Res.{Res, ok, refuse}

@@ -157,7 +157,11 @@ module _ (q : Plan) where
   node-behind t e h =
       ap (λ (x : Task). moduleNode q (x .home)) (List·getD-eq-default (q .tasks) noTask h) ∙ sym (rw e (at-number (moduleNode q) 0 0 (omega arith)))
 
-  pub bus-tasks-turn : {tasks inv : List Bool} {nodes : List ℕ} {v : Bool} (i t u : ℕ) → tasks ≡ byNumber (busTaskBy q (take i (q .connections))) → inv ≡ byNumber (invokedBy (q .invocations)) → nodes ≡ byNumber (taskNode q) → i < length (q .connections) → getD (q .connections) i noConnection .producer ≡ t → getD (q .connections) i noConnection .consumer ≡ u → t < 256 → u < 256 → v ≡ (getD tasks t false || (getD inv t false && not (eqb (getD nodes u 0) (getD nodes t 0)))) → set tasks t v ≡ byNumber (busTaskBy q (take (i + 1) (q .connections)))
+  pub bus-tasks-turn : {tasks inv : List Bool} {nodes : List ℕ} {v : Bool} (i t u : ℕ)
+      → tasks ≡ byNumber (busTaskBy q (take i (q .connections))) → inv ≡ byNumber (invokedBy (q .invocations)) → nodes ≡ byNumber (taskNode q)
+      → i < length (q .connections) → getD (q .connections) i noConnection .producer ≡ t → getD (q .connections) i noConnection .consumer ≡ u
+      → t < 256 → u < 256 → v ≡ (getD tasks t false || (getD inv t false && not (eqb (getD nodes u 0) (getD nodes t 0))))
+      → set tasks t v ≡ byNumber (busTaskBy q (take (i + 1) (q .connections)))
   bus-tasks-turn i t u e f g h a b w v k =
       rw (k, e, f, g, at-number (busTaskBy q (take i (q .connections))) t false w, at-number (invokedBy (q .invocations)) t false w, at-number (taskNode q) t 0 w, at-number (taskNode q) u 0 v)
       (bus-tasks-more q i t u h a b)

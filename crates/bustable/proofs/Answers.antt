@@ -1,5 +1,4 @@
 -- The three answers: the line for a long input, the table, the line for a refusal.
--- Assumes nothing.
 use mathlib.Core.List.{List}
 use mathlib.Core.Path.{_≡_, refl, sym, ap, ap₂, subst, _∙_}
 use native.Mathlib.Omega.{arith}

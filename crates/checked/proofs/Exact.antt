@@ -1,5 +1,4 @@
 -- An answer that says what the rules say passes exactly the tables that keep every rule, and refuses exactly by the first fault.
--- Assumes nothing.
 use mathlib.Core.Path.{_≡_, sym, ap, _∙_, subst}
 use mathlib.Core.List.{List}
 use mathlib.Core.Logic.{_↔_}

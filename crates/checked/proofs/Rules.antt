@@ -1,5 +1,4 @@
 -- `check` of the rules is assembled from `lentPassed`: the same answer, and the lent rows by its rows.
--- Assumes nothing.
 use mathlib.Core.Path.{_≡_, refl, sym, ap}
 use mathlib.Core.List.{List, []}
 use native.Mathlib.Nat.{sub-zero}

@@ -9,7 +9,6 @@ use frames::laid::Frames;
 use judging::Verdict;
 use judging::judge;
 use line::lay_out;
-use rows::Rows;
 use tableread::Outcome;
 use tableread::read_table;
 

@@ -1,5 +1,4 @@
 -- The three answers: the line for a long file, the line `passed`, the line for a refusal.
--- Assumes nothing.
 use mathlib.Core.Bool.{Bool, true, false, _&&_}
 use mathlib.Core.List.{List}
 use mathlib.Core.Path.{_≡_, refl, sym, ap, ap₂, _∙_}

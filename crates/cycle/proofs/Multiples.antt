@@ -6,7 +6,7 @@ use native.Mathlib.Nat.{zero-add, le-of-dvd}
 use native.Mathlib.Omega.{arith}
 use lib.ListN.{length, getD, take}
 use Prim.Native.Nat.{ℕ, _+_, _≤_, _<_}
-use Rattle.laws.specs.Lists.{keep, all, tab}
+use Rattle.laws.specs.Lists.{keep, tab}
 use Rattle.laws.specs.Numbers.{divides, gcd, lcm}
 use Rattle.laws.proofs.Lists.{take-more, keep-snoc-yes, keep-snoc-no, tab-more, length-tab, getD-tab, all-snoc, all-failed, all-true, all-each}
 use Rattle.laws.proofs.Divisors.{divides-true}

@@ -1,5 +1,5 @@
 // The bus period P and the grid G of mode changes. Whether P divides G is told from each run's period alone: no product is made that
-// could wrap. Only then is P made, and since it divides G all the way it stays below G.
+// could wrap. Only then is P made, and since it divides G all the way it is never above G.
 ghost use mathlib.Core.Path.{_≡_};
 ghost use mathlib.Core.Bool.{true, cond};
 ghost use Prim.Native.Nat.{_≤_, _<_};

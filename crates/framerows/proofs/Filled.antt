@@ -1,4 +1,4 @@
--- The numbers of `fill`: the frame table read at a row's place, and the rows after all stores. Assumes nothing.
+-- The numbers of `fill`: the frame table read at a row's place, and the rows after all stores.
 use mathlib.Core.Path.{_≡_, sym, ap, _∙_}
 use mathlib.Core.List.{List}
 use mathlib.Core.Logic.{_⊎_, inl, inr}

@@ -1,5 +1,4 @@
 -- Frame rows that were laid into arrays and filled into a lent list are the rows that document 01 asks for, and a frame struct says no more than its row.
--- Assumes nothing.
 use mathlib.Core.Path.{_≡_, refl, sym, ap, _∙_}
 use mathlib.Core.List.{List, [], _∷_, _++_, map}
 use mathlib.Core.Logic.{_⊎_, inl, inr}

@@ -1,5 +1,4 @@
 -- What a walk over a slice of frames cites: the struct's row, how a frame's machine value is spelled, and an element read or stored.
--- Assumes nothing.
 use mathlib.Core.Path.{refl}
 use Prim.Native.Nat.{ℕ, _*_, _<_, _^_}
 use native.Mathlib.Omega.{arith}

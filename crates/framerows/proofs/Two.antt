@@ -1,5 +1,4 @@
 -- A second row, behind the head of the context, and a local array as a row: so one walk has the elements of a lent slice and of a local array.
--- Assumes nothing.
 use mathlib.Core.Path.{_≡_, refl, subst}
 use Prim.Native.Nat.{ℕ, _<_}
 use mathlib.Core.List.{List, [], _∷_}

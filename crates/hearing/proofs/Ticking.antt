@@ -1,5 +1,4 @@
 -- The station that a tick leaves, and the one that quiet ticks leave.
--- Assumes nothing.
 use mathlib.Core.Path.{_≡_, refl, sym, ap, _∙_}
 use mathlib.Core.Bool.{true}
 use native.Mathlib.Omega.{arith}

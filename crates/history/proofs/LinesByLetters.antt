@@ -1,5 +1,4 @@
 -- Lines by their letters: what each says.
--- Assumes nothing.
 use mathlib.Core.Path.{_≡_, refl}
 use mathlib.Core.List.{[], _∷_}
 use Rattle.text.specs.Text.{readDecimal}
@@ -13,7 +12,11 @@ everything = tt
 
 -- the examples
 -- `tick results 0=5 31=18446744073709551615 modes 15=255`
-both-lists : readLine (116 ∷ 105 ∷ 99 ∷ 107 ∷ 32 ∷ 114 ∷ 101 ∷ 115 ∷ 117 ∷ 108 ∷ 116 ∷ 115 ∷ 32 ∷ 48 ∷ 61 ∷ 53 ∷ 32 ∷ 51 ∷ 49 ∷ 61 ∷ 49 ∷ 56 ∷ 52 ∷ 52 ∷ 54 ∷ 55 ∷ 52 ∷ 52 ∷ 48 ∷ 55 ∷ 51 ∷ 55 ∷ 48 ∷ 57 ∷ 53 ∷ 53 ∷ 49 ∷ 54 ∷ 49 ∷ 53 ∷ 32 ∷ 109 ∷ 111 ∷ 100 ∷ 101 ∷ 115 ∷ 32 ∷ 49 ∷ 53 ∷ 61 ∷ 50 ∷ 53 ∷ 53 ∷ []) ≡ record { what = Tick; results = withValue (withValue noPlaces 0 5) 31 18446744073709551615; modes = withValue noPlaces 15 255 }
+both-lists : readLine (
+    116 ∷ 105 ∷ 99 ∷ 107 ∷ 32 ∷ 114 ∷ 101 ∷ 115 ∷ 117 ∷ 108 ∷ 116 ∷ 115 ∷ 32 ∷ 48 ∷ 61 ∷ 53 ∷ 32 ∷ 51 ∷ 49 ∷ 61 ∷ 49 ∷ 56
+    ∷ 52 ∷ 52 ∷ 54 ∷ 55 ∷ 52 ∷ 52 ∷ 48 ∷ 55 ∷ 51 ∷ 55 ∷ 48 ∷ 57 ∷ 53 ∷ 53 ∷ 49 ∷ 54 ∷ 49 ∷ 53 ∷ 32 ∷ 109 ∷ 111 ∷ 100 ∷ 101
+    ∷ 115 ∷ 32 ∷ 49 ∷ 53 ∷ 61 ∷ 50 ∷ 53 ∷ 53 ∷ [])
+    ≡ record { what = Tick; results = withValue (withValue noPlaces 0 5) 31 18446744073709551615; modes = withValue noPlaces 15 255 }
 unfolding everything
 both-lists = refl
 

@@ -1,5 +1,4 @@
 -- A word compared byte by byte, and a line's end sought byte by byte.
--- Assumes nothing.
 use mathlib.Core.Path.{_≡_, refl, sym, ap, _∙_}
 use mathlib.Core.Bool.{Bool, true, false, cond}
 use mathlib.Core.List.{List, [], _∷_}

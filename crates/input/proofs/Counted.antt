@@ -1,5 +1,4 @@
 -- Where bytes came, they stand at the front of the buffer.
--- Assumes nothing.
 use mathlib.Core.List.{List}
 use mathlib.Core.Path.{_≡_, subst}
 use Prim.Native.Nat.{ℕ}

@@ -1,5 +1,4 @@
 -- So many zeros have that length.
--- Assumes nothing.
 use mathlib.Core.Path.{_≡_, sym}
 use lib.ListN.{length, length-replicate}
 use Prim.Native.Nat.{ℕ}

@@ -1,5 +1,4 @@
 -- The rules on rows that stand in arrays are the rules on the table that the arrays stand for.
--- Assumes nothing.
 use mathlib.Core.Path.{_≡_, refl, sym, ap, _∙_}
 use mathlib.Core.Bool.{Bool, false, not}
 use mathlib.Core.List.{List}
@@ -23,7 +22,7 @@ use Rattle.judging.specs.declared.Bounds.{Bounds}
 use Rattle.naming.specs.Places.{Numbered, lookIn, beforeIn, numberOf, numberAt, marks, isNew}
 use Rattle.tableread.specs.Memory.{controlIn, rowSeen, seen}
 use Rattle.datarows.specs.Rows.{timeKept, releaseKept, dueKept, gapKept}
-use Rattle.judging.specs.Judged.{namesNew, timeFits, releaseFits, gapFits, timesJudged, rowsJudged, frameIn, framesIn, timeIn}
+use Rattle.judging.specs.Judged.{timesInOrder, inOrder, namesNew, timeFits, releaseFits, gapFits, timesJudged, rowsJudged, frameIn, framesIn, timeIn}
 use Rattle.laws.proofs.Turns.{same-bad}
 use Rattle.laws.proofs.Arrays.{last-tab}
 use Rattle.judging.proofs.NamedFrames.{named-frame, named-task, row-at, new-names}
@@ -31,19 +30,6 @@ use Rattle.judging.proofs.NamedFrames.{named-frame, named-task, row-at,
 look-within : (room : ℕ) (a : List ℕ) (k : ℕ) → k < room → lookIn room a k ≡ getD a k 0
 unfolding lookIn
 look-within room a k h = rw (lt-ltb k room h)
-
--- rules 24 to 27, and 23 to 27, by the first row that breaks each; the first row is record `first`
-abbrev pub timesInOrder : ℕ → Option ℕ → Option ℕ → Option ℕ → Option ℕ → Res (Unit {0})
-timesInOrder first mistimed early late crowded = do
-  at 24 first mistimed
-  at 25 first early
-  at 26 first late
-  at 27 first crowded
-
-abbrev pub inOrder : ℕ → Option ℕ → Option ℕ → Option ℕ → Option ℕ → Option ℕ → Res (Unit {0})
-inOrder first unnamed mistimed early late crowded = do
-  at 23 first unnamed
-  timesInOrder first mistimed early late crowded
 
 -- the stop of the last control row
 unfoldable pub lastStop : Table → ℕ

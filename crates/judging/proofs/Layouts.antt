@@ -1,5 +1,4 @@
 -- What the arrays of a layout are judged by is what the rules judge by: `judgedFor` on the arrays is `judged` on the layout.
--- Assumes nothing.
 use mathlib.Core.Path.{_≡_, refl, sym, ap, _∙_, subst}
 use mathlib.Core.Bool.{Bool, true, false, cond, not, _&&_, _||_}
 use mathlib.Core.List.{List, [], _∷_}

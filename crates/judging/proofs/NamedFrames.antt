@@ -1,6 +1,5 @@
 -- The frames that rows name, as the rules say it: marks find the rows that name a frame again, and the starts laid by number are the
 -- starts that the table gives.
--- Assumes nothing.
 use mathlib.Core.Path.{_≡_, refl, sym, ap, _∙_}
 use mathlib.Core.Bool.{Bool, true, false, cond, not, _&&_}
 use mathlib.Core.List.{List, [], _∷_, _++_, map}

@@ -1,5 +1,4 @@
 -- What each way out of the judgement answers is what the rules say there.
--- Assumes nothing.
 use mathlib.Core.Path.{_≡_, refl, sym, ap, _∙_}
 use mathlib.Core.Bool.{Bool, true, false, _&&_}
 use mathlib.Core.List.{List}
@@ -17,19 +16,22 @@ use Rattle.laws.proofs.Lists.{length-tab, getD-tab, both-left, both-right}
 use Rattle.laws.proofs.Loops.{firstBad-upTo-passes, firstBad-upTo-within}
 use Rattle.rules.specs.Frames.{Frame, ControlRow, noControlRow}
 use Rattle.rules.specs.Checker.{TableRead, controlAt}
+use Rattle.answers.specs.declared.Refusal.{Refusal}
+use Rattle.answers.specs.Refusals.{said}
 use Rattle.tableread.specs.declared.Table.{Table}
 use Rattle.naming.specs.declared.Spot.{Spot}
 use Rattle.naming.specs.declared.Spot.the-variants.{At, Nowhere}
 use Rattle.judging.specs.declared.Bounds.{Bounds}
-use Rattle.judging.specs.declared.Verdict.the-variants.{Passed}
+use Rattle.judging.specs.declared.Verdict.{Verdict}
+use Rattle.judging.specs.declared.Verdict.the-variants.{Passed, Refused}
 use Rattle.judging.specs.declared.Judgement.{Judgement}
 use Rattle.naming.specs.Places.{beforeIn, spotOf, Numbered, numberAt, isNew, spread}
 use Rattle.tableread.specs.Memory.{controlIn, rowSeen, seen}
 use Rattle.datarows.specs.Rows.{timeKept, releaseKept, dueKept, gapKept}
-use Rattle.judging.specs.Judged.{headerFits, controlFits, rowsJudged, judgedFor, headerSame, controlsSame, frameIn, framesIn, timeIn, verdictSays, startsOn, Right}
+use Rattle.judging.specs.Judged.{headerFits, controlFits, rowsJudged, judgedFor, headerSame, controlsSame, frameIn, framesIn, timeIn, verdictSays, startsOn, Right, inOrder, found, Among}
 use Rattle.laws.proofs.Turns.{same-bad}
 use Rattle.judging.proofs.NamedFrames.{starts-laid}
-use Rattle.judging.proofs.Held.{inOrder, last-stop, number-given, rows-judged}
+use Rattle.judging.proofs.Held.{last-stop, number-given, rows-judged}
 
 -- ---- what a scan found
 
@@ -43,6 +45,29 @@ spot-nowhere (some j) e q = let z : _≡_ {A = ℕ} 0 1 = cc in absurd (omega ar
 
 pub spot-within : (p : ℕ → Bool) (n : ℕ) {s : Spot} {k : ℕ} → s ≡ spotOf (firstBad p (upTo n)) → s ≡ At k → k < n
 spot-within p n {k = k} e q = firstBad-upTo-within p n k (spot-at (firstBad p (upTo n)) e q)
+
+pub spot-found : (o : Option ℕ) {s : Spot} → s ≡ spotOf o → found s ≡ o
+spot-found none e = ap found e
+spot-found (some j) e = ap found e
+
+pub spot-among : (p : ℕ → Bool) (n room : ℕ) {s : Spot} → s ≡ spotOf (firstBad p (upTo n)) → n ≤ room → Among room s
+spot-among p n room {s = At k} e h = let w = spot-within p n e refl in omega (arith, w)
+spot-among p n room {s = Nowhere} e h = tt
+
+pub among-at : (room : ℕ) (s : Spot) {k : ℕ} → Among room s → s ≡ At k → k < room
+among-at room s h e = rw e at h
+
+-- where nothing is refused, the first rule refuses nothing
+first-kept : (first : ℕ) (a b c d e : Option ℕ) → inOrder first a b c d e ≡ ok tt → a ≡ none
+first-kept first none b c d e h = refl
+first-kept first (some k) b c d e h = absurd (not-ok h)
+  where
+    isOk : Res (Unit {0}) → ℕ
+    isOk (ok u) = 0
+    isOk (refuse n p) = 1
+
+    not-ok : _≡_ {A = Res (Unit {0})} (refuse 23 (first + k)) (ok tt) → ⊥
+    not-ok q = let z : _≡_ {A = ℕ} 1 0 = ap isOk q in omega (arith, z)
 
 -- ---- judgements
 
@@ -58,13 +83,13 @@ module _ {says : Res (Unit {0})} (frames : List Frame) (t : TableRead) {j : Judg
 module _ (tasks releases deadlines times : List ℕ) (frames : ℕ) (n : Numbered tasks deadlines frames) (b : Bounds) (t : Table)
     (room : t .rows ≤ 256) {named : List ℕ}
     (numbered : named ≡ stores (replicate 256 0) (numberAt tasks deadlines frames (t .tasks) (t .deadlines)) (t .rows)) where
-  -- a judgement by rules 23 to 27, and one that refuses by a rule at a row
-  abbrev JudgedRows : Judgement → Type 0
-  JudgedRows j =
-      Right (rowsJudged (framesIn tasks releases deadlines frames) (timeIn times) b (seen t)) (framesIn tasks releases deadlines frames) (seen t) j
+  -- the frames by number
+  abbrev wanted : List Frame
+  wanted = framesIn tasks releases deadlines frames
 
-  abbrev RefusedAt : ℕ → ℕ → Judgement → Type 0
-  RefusedAt rule k j = (verdictSays (j .verdict) ≡ refuse rule (1 + t .control + k)) × (j .starts ≡ replicate 256 0)
+  -- a judgement by rules 23 to 27
+  abbrev JudgedRows : Judgement → Type 0
+  JudgedRows j = Right (rowsJudged wanted (timeIn times) b (seen t)) wanted (seen t) j
 
   -- what each scan looks for
   abbrev nameOk : ℕ → Bool
@@ -85,63 +110,45 @@ module _ (tasks releases deadlines times : List ℕ) (frames : ℕ) (n : Numbere
   abbrev firstOf : (ℕ → Bool) → Option ℕ
   firstOf test = firstBad test (upTo (t .rows))
 
-  whole : rowsJudged (framesIn tasks releases deadlines frames) (timeIn times) b (seen t)
+  whole : rowsJudged wanted (timeIn times) b (seen t)
       ≡ inOrder (1 + t .control) (firstOf nameOk) (firstOf timeOk) (firstOf releaseOk) (firstOf dueOk) (firstOf (gapOk (beforeIn (t .ends) 0 (t .control))))
   whole =
       sym (rw numbered (rows-judged tasks releases deadlines times frames n b t room (beforeIn (t .ends) 0 (t .control)) (last-stop t)))
 
-  -- the ways out: a rule that is broken behind those that are kept, or none is
-  module _ {sa : Spot} (fa : sa ≡ spotOf (firstOf nameOk)) where
-    pub judged-23 : {k : ℕ} {j : Judgement} → sa ≡ At k → RefusedAt 23 k j → JudgedRows j
-    judged-23 q h = right-refused (framesIn tasks releases deadlines frames) (seen t) (whole ∙ rw (spot-at (firstOf nameOk) fa q)) h
+  -- what the scans found, and what their order makes of it
+  module _ {sa sb sc sd se : Spot} (fa : sa ≡ spotOf (firstOf nameOk)) (fb : sb ≡ spotOf (firstOf timeOk))
+      (fc : sc ≡ spotOf (firstOf releaseOk)) (fd : sd ≡ spotOf (firstOf dueOk))
+      {last : ℕ} (isLast : last ≡ beforeIn (t .ends) 0 (t .control)) (fe : se ≡ spotOf (firstOf (gapOk last))) (v : Verdict)
+      (says : verdictSays v ≡ inOrder (1 + t .control) (found sa) (found sb) (found sc) (found sd) (found se)) where
+    as-found : inOrder (1 + t .control) (found sa) (found sb) (found sc) (found sd) (found se)
+        ≡ inOrder (1 + t .control) (firstOf nameOk) (firstOf timeOk) (firstOf releaseOk) (firstOf dueOk) (firstOf (gapOk (beforeIn (t .ends) 0 (t .control))))
+    as-found =
+        rw (
+          spot-found (firstOf nameOk) fa,
+          spot-found (firstOf timeOk) fb,
+          spot-found (firstOf releaseOk) fc,
+          spot-found (firstOf dueOk) fd,
+          spot-found (firstOf (gapOk last)) fe,
+          isLast,
+        )
 
-    module _ (qa : sa ≡ Nowhere) {sb : Spot} (fb : sb ≡ spotOf (firstOf timeOk)) where
-      named-all : firstOf nameOk ≡ none
-      named-all = spot-nowhere (firstOf nameOk) fa qa
+    judged-rows : verdictSays v ≡ rowsJudged wanted (timeIn times) b (seen t)
+    judged-rows = says ∙ as-found ∙ sym whole
 
-      pub judged-24 : {k : ℕ} {j : Judgement} → sb ≡ At k → RefusedAt 24 k j → JudgedRows j
-      judged-24 q h =
-          right-refused (framesIn tasks releases deadlines frames) (seen t) (whole ∙ rw (named-all, spot-at (firstOf timeOk) fb q)) h
+    pub rows-refused : {x : Refusal} {j : Judgement} → v ≡ Refused x → (verdictSays (j .verdict) ≡ said x) × (j .starts ≡ replicate 256 0) → JudgedRows j
+    rows-refused q h = right-refused wanted (seen t) (sym judged-rows ∙ ap verdictSays q) h
 
-      module _ (qb : sb ≡ Nowhere) {sc : Spot} (fc : sc ≡ spotOf (firstOf releaseOk)) where
-        timed-all : firstOf timeOk ≡ none
-        timed-all = spot-nowhere (firstOf timeOk) fb qb
-
-        pub judged-25 : {k : ℕ} {j : Judgement} → sc ≡ At k → RefusedAt 25 k j → JudgedRows j
-        judged-25 q h =
-            right-refused (framesIn tasks releases deadlines frames) (seen t)
-            (whole ∙ rw (named-all, timed-all, spot-at (firstOf releaseOk) fc q)) h
-
-        module _ (qc : sc ≡ Nowhere) {sd : Spot} (fd : sd ≡ spotOf (firstOf dueOk)) where
-          released-all : firstOf releaseOk ≡ none
-          released-all = spot-nowhere (firstOf releaseOk) fc qc
-
-          pub judged-26 : {k : ℕ} {j : Judgement} → sd ≡ At k → RefusedAt 26 k j → JudgedRows j
-          judged-26 q h =
-              right-refused (framesIn tasks releases deadlines frames) (seen t)
-              (whole ∙ rw (named-all, timed-all, released-all, spot-at (firstOf dueOk) fd q)) h
-
-          module _ (qd : sd ≡ Nowhere) {last : ℕ} (isLast : last ≡ beforeIn (t .ends) 0 (t .control))
-              {se : Spot} (fe : se ≡ spotOf (firstOf (gapOk last))) where
-            due-all : firstOf dueOk ≡ none
-            due-all = spot-nowhere (firstOf dueOk) fd qd
-
-            gap-found : firstOf (gapOk (beforeIn (t .ends) 0 (t .control))) ≡ firstOf (gapOk last)
-            gap-found = rw isLast
-
-            pub judged-27 : {k : ℕ} {j : Judgement} → se ≡ At k → RefusedAt 27 k j → JudgedRows j
-            judged-27 q h =
-                right-refused (framesIn tasks releases deadlines frames) (seen t)
-                (whole ∙ rw (named-all, timed-all, released-all, due-all, gap-found ∙ spot-at (firstOf (gapOk last)) fe q)) h
-
-            pub judged-passed : {j : Judgement} → se ≡ Nowhere → j .verdict ≡ Passed → j .starts ≡ spread named (t .starts) (t .rows) → JudgedRows j
-            unfolding seen rowSeen
-            judged-passed q v h =
-                right-passed (framesIn tasks releases deadlines frames) (seen t)
-                (whole ∙ rw (named-all, timed-all, released-all, due-all, gap-found ∙ spot-nowhere (firstOf (gapOk last)) fe q)) v
-                (h ∙ starts-laid tasks releases deadlines frames n (rowSeen t) (t .rows) named
-                (λ k w. rw numbered (number-given tasks releases deadlines times frames n b t room (beforeIn (t .ends) 0 (t .control)) (last-stop t) k w))
-                (t .starts) (λ k w. refl) (λ k w. firstBad-upTo-passes nameOk (t .rows) k named-all w))
+    pub rows-passed : {j : Judgement} → v ≡ Passed → j .verdict ≡ Passed → j .starts ≡ spread named (t .starts) (t .rows) → JudgedRows j
+    unfolding seen rowSeen
+    rows-passed q w h =
+        let passed : rowsJudged wanted (timeIn times) b (seen t) ≡ ok tt = sym judged-rows ∙ ap verdictSays q in
+        let all-named : firstOf nameOk ≡ none
+        = first-kept (1 + t .control) (firstOf nameOk) (firstOf timeOk) (firstOf releaseOk) (firstOf dueOk)
+        (firstOf (gapOk (beforeIn (t .ends) 0 (t .control)))) (sym whole ∙ passed) in
+        right-passed wanted (seen t) passed w
+        (h ∙ starts-laid tasks releases deadlines frames n (rowSeen t) (t .rows) named
+        (λ k l. rw numbered (number-given tasks releases deadlines times frames n b t room (beforeIn (t .ends) 0 (t .control)) (last-stop t) k l))
+        (t .starts) (λ k l. refl) (λ k l. firstBad-upTo-passes nameOk (t .rows) k all-named l))
 
 -- ---- rules 21 and 22
 

@@ -3,9 +3,10 @@
 use mathlib.Core.Path.{_≡_}
 use mathlib.Core.Bool.{Bool, not, _&&_}
 use mathlib.Core.List.{List, map}
+use mathlib.Core.Option.{Option, none, some}
 use lib.Dec.{eqb, leb}
 use lib.ListN.{length, getD, take, replicate}
-use Prim.Native.Nat.{ℕ, _+_}
+use Prim.Native.Nat.{ℕ, _+_, _<_}
 use Rattle.laws.specs.Res.{Res, ok, refuse, unless, at, _>>_}
 use Rattle.laws.specs.Lists.{any, firstBad, tab, upTo}
 use Rattle.laws.specs.Loops.{padTo}
@@ -31,6 +32,8 @@ use Rattle.judging.specs.declared.Verdict.{Verdict}
 use Rattle.judging.specs.declared.Verdict.the-variants.{Passed, Refused}
 use Rattle.judging.specs.declared.Judgement.{Judgement}
 use Rattle.line.specs.declared.Line.{Line}
+use Rattle.naming.specs.declared.Spot.{Spot}
+use Rattle.naming.specs.declared.Spot.the-variants.{At, Nowhere}
 use Rattle.naming.specs.Places.{lookIn}
 use Rattle.tableread.specs.Memory.{controlIn}
 
@@ -127,6 +130,28 @@ verdictSays (Refused x) = said x
 abbrev pub startsOn : Res (Unit {0}) → List Frame → TableRead → List ℕ
 startsOn (ok u) frames t = padTo 256 0 (map (startIn (t .rows)) frames)
 startsOn (refuse n p) frames t = replicate 256 0
+
+-- what a scan found, and that it lies among the first n places
+abbrev pub found : Spot → Option ℕ
+found (At k) = some k
+found Nowhere = none
+
+abbrev pub Among : ℕ → Spot → Type 0
+Among n (At k) = k < n
+Among n Nowhere = Unit {0}
+
+-- refusals 24 to 27, and 23 to 27, by the first row that breaks each; the first row is record `first`
+abbrev pub timesInOrder : ℕ → Option ℕ → Option ℕ → Option ℕ → Option ℕ → Res (Unit {0})
+timesInOrder first mistimed early late crowded = do
+  at 24 first mistimed
+  at 25 first early
+  at 26 first late
+  at 27 first crowded
+
+abbrev pub inOrder : ℕ → Option ℕ → Option ℕ → Option ℕ → Option ℕ → Option ℕ → Res (Unit {0})
+inOrder first unnamed mistimed early late crowded = do
+  at 23 first unnamed
+  timesInOrder first mistimed early late crowded
 
 -- a judgement is what the rules say, with the starts
 pub record Right (says : Res (Unit {0})) (frames : List Frame) (t : TableRead) (j : Judgement) : Type 0 where

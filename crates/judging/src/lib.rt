@@ -8,7 +8,7 @@ ghost use Rattle.laws.specs.Lists.{firstBad, upTo};
 ghost use Rattle.answers.specs.Refusals as answers;
 ghost use Rattle.naming.specs.Places.{Numbered, beforeIn, spotOf};
 ghost use Rattle.tableread.specs.Memory.{seen, controlIn};
-ghost use Rattle.judging.specs.Judged.{headerSame, controlsSame, rowsJudged, framesIn, framesOn, timeIn, lineJudged, verdictSays, Right};
+ghost use Rattle.judging.specs.Judged.{headerSame, controlsSame, rowsJudged, framesIn, framesOn, timeIn, lineJudged, verdictSays, Right, inOrder, found, Among};
 use answers::Refusal;
 use datarows::first_crowded;
 use datarows::first_early;
@@ -120,6 +120,37 @@ fn last_stop(ends: &[u32; 8], control: usize) -> u32
     if control == 0 { 0 } else { ends[control - 1] }
 }
 
+// The record `first + k` of the first row at fault: `first` is the first data row's.
+fn rows_judged(
+    first: usize,
+    unnamed: Spot,
+    mistimed: Spot,
+    early: Spot,
+    late: Spot,
+    crowded: Spot,
+) -> Verdict
+    requires { ⌜ first ≤ 9 ⌝ }
+    requires { ⌜ Among 256 unnamed × (Among 256 mistimed × (Among 256 early × (Among 256 late × Among 256 crowded))) ⌝ }
+    ensures { λ r. ⌜ verdictSays r ≡ inOrder first (found unnamed) (found mistimed) (found early) (found late) (found crowded) ⌝ }
+{
+    if let Spot::At(k) = unnamed {
+        return Verdict::Refused(Refusal::NoNewFrame(RecordNo(first + k)));
+    }
+    if let Spot::At(k) = mistimed {
+        return Verdict::Refused(Refusal::WrongTime(RecordNo(first + k)));
+    }
+    if let Spot::At(k) = early {
+        return Verdict::Refused(Refusal::BeforeRelease(RecordNo(first + k)));
+    }
+    if let Spot::At(k) = late {
+        return Verdict::Refused(Refusal::AfterDeadline(RecordNo(first + k)));
+    }
+    if let Spot::At(k) = crowded {
+        return Verdict::Refused(Refusal::GapBroken(RecordNo(first + k)));
+    }
+    Verdict::Passed
+}
+
 // Rules 23 to 27.
 fn by_rows<'a>(
     t: Table,
@@ -136,30 +167,29 @@ fn by_rows<'a>(
     ensures { λ r. ⌜ Right (rowsJudged (framesIn (now (tasks .entry)) (now (releases .entry)) (now (deadlines .entry)) frames) (timeIn (now (times .entry))) bounds (seen t)) (framesIn (now (tasks .entry)) (now (releases .entry)) (now (deadlines .entry)) frames) (seen t) r ⌝ }
 {
     let count = t.rows;
-    let first = 1 + t.control;
     let named = numbers(tasks, deadlines, frames, &t.tasks, &t.deadlines, count);
-    if let Spot::At(k) = first_unnamed(&named, frames, count) {
-        return refused(Refusal::NoNewFrame(RecordNo(first + k)));
-    }
-    if let Spot::At(k) = first_mistimed(
+    let unnamed = first_unnamed(&named, frames, count);
+    let mistimed = first_mistimed(
         &t.tasks,
         &t.starts,
         &t.stops,
         times,
         bounds.resolution.0,
         count,
-    ) {
-        return refused(Refusal::WrongTime(RecordNo(first + k)));
-    }
-    if let Spot::At(k) = first_early(&t.starts, releases, &named, count) {
-        return refused(Refusal::BeforeRelease(RecordNo(first + k)));
-    }
-    if let Spot::At(k) = first_late(&t.stops, &t.deadlines, count) {
-        return refused(Refusal::AfterDeadline(RecordNo(first + k)));
-    }
+    );
+    let early = first_early(&t.starts, releases, &named, count);
+    let late = first_late(&t.stops, &t.deadlines, count);
     let last = last_stop(&t.ends, t.control);
-    if let Spot::At(k) = first_crowded(&t.starts, &t.stops, last, bounds.gap.0, count) {
-        return refused(Refusal::GapBroken(RecordNo(first + k)));
+    let crowded = first_crowded(&t.starts, &t.stops, last, bounds.gap.0, count);
+    if let Verdict::Refused(x) = rows_judged(
+        1 + t.control,
+        unnamed,
+        mistimed,
+        early,
+        late,
+        crowded,
+    ) {
+        return refused(x);
     }
     Judgement {
         verdict: Verdict::Passed,

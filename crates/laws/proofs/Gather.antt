@@ -1,5 +1,4 @@
 -- Parts of lists: a front part cut again, a part behind a front part.
--- Assumes nothing.
 use mathlib.Core.Path.{_≡_, refl, ap}
 use mathlib.Core.List.{List, [], _∷_}
 use native.Mathlib.Nat.{zero-add, suc-add}

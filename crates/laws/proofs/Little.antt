@@ -1,5 +1,4 @@
 -- Little-endian numbers: a window of a list read as a number, a number stored as a window, and the way there and back.
--- Assumes nothing.
 use mathlib.Core.Path.{_≡_, refl, sym, ap, _∙_}
 use mathlib.Core.List.{List, [], _∷_}
 use Prim.Native.Nat.{ℕ, zero, suc, _+_, _*_, _/_, _%_, _^_, _<_}

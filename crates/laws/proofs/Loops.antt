@@ -1,7 +1,7 @@
 -- Loops: the laws that carry a filling loop (`stores`) and a scan (`firstBelow`, `firstBad`). A scan's invariant is that the part
 -- already seen gives `none`; one law goes a turn further, one ends the scan, one returns the place that was met.
 use mathlib.Core.Path.{_≡_, refl, sym, ap, _∙_}
-use mathlib.Core.Bool.{Bool, true, false, not}
+use mathlib.Core.Bool.{Bool, true, false}
 use mathlib.Core.List.{List, [], _∷_, _++_}
 use mathlib.Core.Option.{Option, none, some}
 use mathlib.Core.Logic.{_⊎_, inl, inr}

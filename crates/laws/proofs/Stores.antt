@@ -1,5 +1,4 @@
 -- Stores: arrays filled by rules that agree, by a rule that changes nothing, by a rule that changes one place.
--- Assumes nothing.
 use mathlib.Core.Path.{_≡_, refl, sym, ap, _∙_}
 use mathlib.Core.Bool.{Bool, true, false, cond}
 use mathlib.Core.List.{List}

@@ -10,7 +10,7 @@ use lib.ListN.{length, getD}
 use Prim.Native.Nat.{ℕ, _≤_, _<_, _%_, _∣_}
 use Rattle.laws.specs.Lists.{keep, any, all, upTo}
 use Rattle.laws.specs.Numbers.{divides}
-use Rattle.laws.specs.Res.{Res, ok, at}
+use Rattle.laws.specs.Res.{Res, ok}
 use Rattle.laws.proofs.Lists.{true-false, both-left, both-right, any-hit, any-true, all-each, all-true, all-upTo-each, all-upTo-true, all-keep}
 
 pub record Tests (b : Bool) (P : Type 0) : Type 0 where

@@ -1,7 +1,6 @@
 -- Turns: what a loop over 0, 1, .. knows of what it has done so far, as records, so that a turn and the end of a loop are one law each,
 -- with nothing to be written out where they are cited: a scan without an early exit (`Tested`), a scan that stops at the first number
 -- that fails (`Passed`), and an array filled by a rule (`Filled`).
--- Assumes nothing.
 use mathlib.Core.Path.{_≡_, refl, sym, ap, _∙_}
 use mathlib.Core.Bool.{Bool, true, false, _&&_}
 use mathlib.Core.List.{List, [], _∷_}

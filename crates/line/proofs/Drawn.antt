@@ -1,5 +1,4 @@
 -- The arrays of a line stand for its layout: the frames, their order, their times, the control rows.
--- Assumes nothing.
 use mathlib.Core.Path.{_≡_, refl, _∙_, subst}
 use mathlib.Core.List.{List}
 use native.Mathlib.Nat.{zero-add}

@@ -1,5 +1,4 @@
 -- A plan that was read is laid out as the rules lay it out.
--- Assumes nothing.
 use mathlib.Core.Path.{_≡_, refl, sym}
 use mathlib.Core.List.{List}
 use Prim.Native.Nat.{ℕ}

@@ -34,8 +34,6 @@ use plan::Plan;
 use plan::look::task_count;
 use times::Span;
 use times::gap_time;
-use times::sending_time;
-use units::ByteCount;
 use units::Ticks;
 
 // `floor` is C; `time` is by task; `nodes`, `starts` and `stops` are the control rows, `controls` of them; `task`, `release` and

@@ -1,5 +1,4 @@
 -- No second result, and no second buffer, says of a plan what the rules say of it.
--- Assumes nothing.
 use mathlib.Core.Path.{_≡_, sym, ap, _∙_}
 use mathlib.Core.List.{List}
 use Prim.Native.Nat.{ℕ}

@@ -1,6 +1,5 @@
 -- Which frame a data row names: binary search finds its number, marks find the rows that name a frame again, and the starts laid by
 -- number are the starts that the table gives.
--- Assumes nothing.
 use mathlib.Core.Path.{_≡_, refl, sym, _∙_}
 use mathlib.Core.Bool.{Bool, true, false, _&&_}
 use mathlib.Core.List.{List}
@@ -11,7 +10,7 @@ use lib.ListN.{getD}
 use borrow.Author.Tests.{ltb-true, ltb-false, lt-ltb, eqb-true, eqb-false, eq-eqb}
 use Prim.Native.Nat.{ℕ, _+_, _≤_, _<_}
 use Rattle.laws.proofs.Lists.{both, both-left, both-right, true-false}
-use Rattle.naming.specs.Places.{keyOf, keyAt, Numbered, Parted, hasKey, isPair, numberOf, marks}
+use Rattle.naming.specs.Places.{keyOf, keyAt, Numbered, Parted, hasKey, isPair, numberOf}
 use Rattle.naming.proofs.Places.{place-hit, place-none, place-passes}
 
 -- ---- the number of a pair

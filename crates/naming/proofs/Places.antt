@@ -1,5 +1,4 @@
 -- Places of arrays: stores that ask nothing of the place, the first place that passes, scans whose tests agree, marks.
--- Assumes nothing.
 use mathlib.Core.Path.{_≡_, refl, sym, ap, _∙_}
 use mathlib.Core.Bool.{Bool, true, false, cond, _||_}
 use mathlib.Core.List.{List}

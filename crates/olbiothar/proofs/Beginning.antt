@@ -1,4 +1,4 @@
--- A beginning's answer, in the numbers that C has, is what the rules say. Assumes nothing.
+-- A beginning's answer, in the numbers that C has, is what the rules say.
 use mathlib.Core.Path.{_≡_, ap, _∙_}
 use mathlib.Core.List.{List}
 use Prim.Native.Nat.{ℕ}

@@ -1,7 +1,6 @@
 -- What the types say of a station in which the play or the nodes are stored anew: what they say of the stored value is enough.
 --     play-stored, nodes-stored     the station with another play, and with other nodes
 --     nodes-out, nodes-in           nodes as the struct's field has them, and as a parameter or a result has them
--- Assumes nothing.
 use mathlib.Core.Path.{sym, _∙_}
 use mathlib.Core.List.{List, [], _∷_, map}
 use lib.ListN.{length-map}

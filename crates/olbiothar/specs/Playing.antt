@@ -1,7 +1,6 @@
 -- What a beginning answers, in the numbers that C has.
 use Rattle.laws.specs.Res.{Res}
 use Rattle.rules.specs.Station as rules
-use Rattle.station.specs.declared.Station.{Station}
 use Rattle.beginning.specs.Begins.{verdict, stationFor}
 use Rattle.olbiothar.specs.declared.Begun.{Begun}
 use Rattle.outward.specs.Answers.{answerOf}

@@ -6,11 +6,10 @@ ghost use mathlib.Core.Path.{_≡_};
 ghost use Rattle.olbiothar.specs.Lent.{ChecksRows, MakesRows};
 ghost use Rattle.rules.specs.Station.{begin};
 ghost use Rattle.rules.specs.StationRange.{ticked};
-ghost use Rattle.stationruns.specs.Inputs.{changeAt, inputOf};
-ghost use Rattle.station.specs.Memory.{keptOf, stateOf};
+ghost use Rattle.stationruns.specs.Inputs.{changeAt};
 ghost use Rattle.olbiothar.specs.Playing.{begunBy};
-ghost use Rattle.turning.specs.Turning.{stationAfter, tickedBy};
-ghost use Rattle.outward.specs.Numbers.{changesFor, givensFor};
+ghost use Rattle.turning.specs.Turning.{ruled, stationAfter, tickedBy};
+ghost use Rattle.outward.specs.Numbers.{changesFor};
 use framerows::Frame;
 use outward::Answer;
 use outward::answer_begun;
@@ -74,7 +73,8 @@ pub extern "C" fn olbiothar_tick(
     modes: &[u8; 16],
     changed: &[u8; 16],
 ) -> Ticked
-    ensures { λ r. ⌜ (r ≡ tickedBy (ticked (keptOf (now (station .entry))) (stateOf (now (station .entry))) (inputOf (givensFor (now (results .entry)) (now (given .entry))) (changesFor (now (modes .entry)) (now (changed .entry)))))) × (now (station .exit) ≡ stationAfter (now (station .entry)) (ticked (keptOf (now (station .entry))) (stateOf (now (station .entry))) (inputOf (givensFor (now (results .entry)) (now (given .entry))) (changesFor (now (modes .entry)) (now (changed .entry)))))) ⌝ }
+    ensures { λ r. ⌜ (r ≡ tickedBy (ruled (now (station .entry)) (now (results .entry)) (now (given .entry)) (now (modes .entry)) (now (changed .entry))))
+        × (now (station .exit) ≡ stationAfter (now (station .entry)) (ruled (now (station .entry)) (now (results .entry)) (now (given .entry)) (now (modes .entry)) (now (changed .entry)))) ⌝ }
 {
     let t = turn_for(
         station.modules,

@@ -1,10 +1,8 @@
--- What a tick is given, from C's numbers. Assumes nothing.
+-- What a tick is given, from C's numbers.
 use mathlib.Core.Path.{_≡_}
 use borrow.Author.Tests.{eq-eqb, ne-eqb}
 use Prim.Native.Nat.{ℕ}
-use Rattle.stationruns.specs.declared.Given.{Given}
 use Rattle.stationruns.specs.declared.Given.the-variants as given
-use Rattle.stationruns.specs.declared.Change.{Change}
 use Rattle.stationruns.specs.declared.Change.the-variants as change
 use Rattle.outward.specs.Numbers.{givenFor, changeFor}
 

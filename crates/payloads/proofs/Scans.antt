@@ -1,4 +1,4 @@
--- Scans over numbers from 0 on, and arrays of eight places filled.
+-- Scans over numbers from 0 on.
 use mathlib.Core.Path.{_≡_, sym, ap, _∙_}
 use mathlib.Core.Bool.{Bool, true, false, cond}
 use mathlib.Core.List.{List}

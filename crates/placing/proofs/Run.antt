@@ -1,33 +1,31 @@
 -- The rule's loop over arrays: what stands at its head, and that each turn is a step of the machine with a pool.
 use mathlib.Core.Path.{_≡_, refl, sym, ap, _∙_, subst}
-use mathlib.Core.Bool.{Bool, true, false, cond, _&&_}
+use mathlib.Core.Bool.{Bool, true, false, _&&_}
 use mathlib.Core.List.{List, [], _∷_, map, nil≢cons, head-eq-of-cons-eq, tail-eq-of-cons-eq, List·Memᴰ, List·Memᴰ·head, List·Memᴰ·tail}
 use mathlib.Core.Logic.{_⊎_, inl, inr}
-use native.Mathlib.Nat.{le-refl, le-trans, not-suc-le-zero, sub-self, sub-zero, mod-eq-of-lt, mul-add-mod-self-right, zero-add, add-zero, add-suc, suc-add}
-use native.Mathlib.Numerals.{add-one}
+use native.Mathlib.Nat.{le-refl, not-suc-le-zero, sub-self, sub-zero, mod-eq-of-lt, mul-add-mod-self-right, zero-add, add-zero, add-suc, suc-add}
 use native.Mathlib.Omega.{arith}
-use lib.Dec.{eqb, leb, ltb}
+use lib.Dec.{leb, ltb}
 use lib.ListN.{length, getD, set, replicate, length-set, length-replicate, getD-replicate, List·getD-eq-default, length-map}
 use lib.Seq.{getD-set-same, getD-set-other, ext-getD}
-use borrow.Author.Tests.{leb-true, leb-false, ltb-true, ltb-false, eq-eqb, ne-eqb}
-use Prim.Native.Nat.{ℕ, zero, suc, _+_, _*_, _-_, _%_, _≤_, _<_, min}
-use Rattle.laws.specs.Res.{Res, ok, refuse}
+use borrow.Author.Tests.{leb-true, leb-false, ltb-true, ltb-false, ne-eqb}
+use Prim.Native.Nat.{ℕ, zero, suc, _+_, _*_, _-_, _%_, _≤_, _<_}
+use Rattle.laws.specs.Res.{Res, refuse}
 use Rattle.laws.specs.Lists.{tab}
 use Rattle.laws.specs.Numbers.{down}
 use Rattle.laws.specs.Loops.{padTo}
 use Rattle.laws.proofs.Lists.{length-padTo, getD-padTo, length-tab, getD-tab, map-tab}
 use Rattle.laws.proofs.Orders.{le-or-lt}
-use Rattle.laws.proofs.Members.{All, empty, also, all-head, all-tail, all-weaker, alone}
+use Rattle.laws.proofs.Members.{All, empty, also, all-weaker, alone}
 use Rattle.rules.specs.Frames.{Frame}
 use Rattle.rules.specs.LatestRelease.{Numbered, Placed, numberedFrom, place, fits}
 use Rattle.rules.specs.LatestRelease as rule
 use Rattle.laws.proofs.Laid.{tab-same}
-use Rattle.placing.specs.declared.Outcome.the-variants.{All as AllPlaced, Refused}
-use Rattle.placing.specs.declared.Placing.{Placing}
+use Rattle.placing.specs.declared.Outcome.the-variants.{All as AllPlaced}
 use Rattle.placing.specs.Placing.{frameAt, timeOf, inserted, outsideAt, admitted, lowEndAt, laid, numberOf, startOf}
-use Rattle.placing.proofs.Pool.{numbered, keyOf, entered, poolAt, lowEnd, topOf, restOf, placedAt, machine, machine-is, Same, Falling}
+use Rattle.placing.proofs.Pool.{numbered, keyOf, entered, poolAt, lowEnd, topOf, restOf, placedAt, machine, machine-is, Falling}
 use Rattle.placing.proofs.Pool as pool
-use Rattle.placing.proofs.Keys.{topDown, put, topDown-inserted, length-inserted, outside-le, some-enter}
+use Rattle.placing.proofs.Keys.{topDown, put, topDown-inserted, length-inserted, some-enter}
 
 -- ---- general
 
@@ -218,8 +216,8 @@ module _ (task release deadline : List ℕ) where
     -- ---- one turn: what `take_next` found is the machine's
 
     module _
-        (keys number start : List ℕ) (left outside low : ℕ) (g : Going keys number start left outside low) (more : 0 < left)
-        (keys′ : List ℕ) (low′ outside′ k : ℕ)
+        {keys number start : List ℕ} {left outside low : ℕ} (g : Going keys number start left outside low) (more : 0 < left)
+        {keys′ : List ℕ} {low′ outside′ k : ℕ}
         (lowIs : low′ ≡ lowEndAt deadline low outside (left - outside))
         (outsideIs : outside′ ≡ outsideAt deadline low′ outside)
         (keysAre : keys′ ≡ admitted release deadline low′ outside (left - outside) keys)
@@ -326,7 +324,7 @@ module _ (task release deadline : List ℕ) where
         unfolding js
         going-refused f = g .whole ∙ step ∙ rw (f, stepAs)
 
-        module _ (begin : ℕ) (number′ start′ : List ℕ)
+        module _ {begin : ℕ} {number′ start′ : List ℕ}
             (fit : fits resolution gap floor (timeOf time) low′ (F k) ≡ true)
             (beginIs : begin ≡ rule.startOf resolution gap floor (timeOf time) low′ (F k))
             (numberIs : number′ ≡ set number (left - 1) k)
@@ -388,10 +386,10 @@ module _ (task release deadline : List ℕ) where
 
     -- ---- the loop's end, and its beginning
 
-    pub going-end : (keys number start : List ℕ) (left outside low : ℕ) → Going keys number start left outside low → left ≤ 0
+    pub going-end : {keys number start : List ℕ} {left outside low : ℕ} → Going keys number start left outside low → left ≤ 0
         → record { outcome = AllPlaced; number = number; start = start } ≡ laid (runFrom count e₀ count [] [])
     unfolding machine
-    going-end keys number start zero outside low g h =
+    going-end {keys} {number} {start} {left = zero} {outside} {low} g h =
         rw (g .whole)
         (rw (
           map-tab (placedIn number start) numberOf 0 (count - 0),
@@ -400,7 +398,7 @@ module _ (task release deadline : List ℕ) where
           padded number 256 count (g .numberLong) (g .few) (g .zeroNumber),
           padded start 256 count (g .startLong) (g .few) (g .zeroStart),
         ))
-    going-end keys number start (suc left) outside low g h = absurd (not-suc-le-zero h)
+    going-end {keys} {number} {start} {left = suc left} {outside} {low} g h = absurd (not-suc-le-zero h)
 
     -- the rule over the frames of the arrays is the machine's run
     pub rule-is : count ≤ 256 → ((i j : ℕ) → i ≤ j → j < count → getD deadline i 0 ≤ getD deadline j 0)

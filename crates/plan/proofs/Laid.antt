@@ -1,5 +1,4 @@
 -- A plan within the ranges of its counts is seen again as it was laid out, and every plan that is read is such.
--- Assumes nothing.
 use mathlib.Core.Path.{_≡_, refl, sym}
 use mathlib.Core.List.{List, [], _∷_, map}
 use mathlib.Core.Option.{none}

@@ -1,5 +1,4 @@
 -- The front part of an array, each element seen as the rules' thing: its length, and what stands in it.
--- Assumes nothing.
 use mathlib.Core.Path.{_≡_, refl, _∙_, ap}
 use mathlib.Core.List.{List, map}
 use lib.ListN.{length, getD, take, length-take, length-map, List·getD-map, List·getD-eq-default}

@@ -1,6 +1,5 @@
 -- Each array of a plan in memory has as many elements as its type says. A list in a definition has any length; that an array's list
 -- has the array's length is part of what a function is handed with a parameter, and stands there behind the struct's relation.
--- Assumes nothing.
 use mathlib.Core.Path.{_≡_}
 use mathlib.Core.List.{List}
 use mir.Val.{Val}

@@ -1,5 +1,4 @@
 -- A scan over the front part of an array, each element seen as the rules' thing: a turn, a place that is met, the end.
--- Assumes nothing.
 use mathlib.Core.Path.{_≡_, refl, sym, ap, _∙_}
 use mathlib.Core.Bool.{Bool, true, false}
 use mathlib.Core.List.{List, map}

@@ -1,5 +1,4 @@
--- Refusal 5 on a plan in memory: the mode and the task that an invocation names, and the refusal at the lowest record.
--- Assumes nothing.
+-- Refusal 5 on a plan in memory: the mode and the task that an invocation names.
 use mathlib.Core.Path.{_≡_, refl, ap, _∙_}
 use mathlib.Core.Bool.{Bool, true, false, cond}
 use mathlib.Core.List.{List, map}

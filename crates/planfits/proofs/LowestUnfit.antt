@@ -1,5 +1,4 @@
 -- Refusal 5 at the lowest record: what the scans over a plan in memory come to, for each way out.
--- Assumes nothing.
 use mathlib.Core.Path.{_≡_, refl, sym, _∙_}
 use mathlib.Core.Bool.{_&&_}
 use mathlib.Core.List.{map}

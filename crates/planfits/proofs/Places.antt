@@ -1,6 +1,5 @@
 -- Scans for the lowest place at fault: what a loop returns at the place that it meets, and at its end; the lowest of two places; and
 -- refusals at the place that was found.
--- Assumes nothing.
 use mathlib.Core.Path.{_≡_, refl, sym, ap, _∙_}
 use mathlib.Core.Bool.{Bool, true, false, _&&_}
 use mathlib.Core.List.{List, [], _∷_}

@@ -1,5 +1,4 @@
 -- The loop that gathers a plan: the plan so far and the rest of the walk over the file come to the whole answer.
--- Assumes nothing.
 use mathlib.Core.Path.{_≡_, refl, sym, ap, _∙_}
 use mathlib.Core.Bool.{Bool}
 use mathlib.Core.List.{List, [], _∷_}

@@ -1,6 +1,5 @@
 -- One record stored in place: the plan with its counts raised, and with what the record says at its place, is the plan with that
 -- record more; where no place is left, the plan with its counts raised is.
--- Assumes nothing.
 use mathlib.Core.Path.{_≡_, refl, ap, _∙_, subst}
 use mathlib.Core.Bool.{Bool, true, false, cond}
 use mathlib.Core.List.{List, [], _∷_}

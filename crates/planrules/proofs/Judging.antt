@@ -1,5 +1,4 @@
 -- What reading a file comes to, for each way out: the refusal that applies first, or the plan.
--- Assumes nothing.
 use mathlib.Core.Path.{_≡_, refl, sym, ap, _∙_}
 use mathlib.Core.Bool.{Bool, true}
 use mathlib.Core.List.{List, [], _∷_}

@@ -1,5 +1,4 @@
 -- The record rules for a plan refuse with number 1 alone.
--- Assumes nothing.
 use mathlib.Core.Path.{_≡_, refl, sym, _∙_}
 use mathlib.Core.Bool.{Bool}
 use mathlib.Core.List.{List}

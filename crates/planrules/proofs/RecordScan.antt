@@ -1,5 +1,4 @@
 -- The scan over a file's records for the first that fails a test: what was passed and the rest of the walk come to the whole answer.
--- Assumes nothing.
 use mathlib.Core.Path.{_≡_, refl, sym, ap, _∙_}
 use mathlib.Core.Bool.{Bool, true, false}
 use mathlib.Core.List.{List}
@@ -73,12 +72,12 @@ pub record Scanned (s : List ℕ) (test : Rec → Bool) (previous at n : ℕ) (f
   pub whole : foundOf (firstBadOf test (records planFollows 1 s)) ≡ orLater f (shifted n (firstBadOf test (from Plan 1 s previous at)))
   pub counted : n ≤ at
 
-module _ (s : List ℕ) (test : Rec → Bool) where
+module _ {s : List ℕ} {test : Rec → Bool} where
   pub scanned-none : isOk (records planFollows 1 s) ≡ true → Scanned s test 0 0 0 Nothing
   unfolding records from
   scanned-none e = record { inside = omega arith; sound = e; whole = ap foundOf (sym (shifted-none (firstBadOf test (records planFollows 1 s)))); counted = omega arith }
 
-  module _ (previous at n : ℕ) (f : Found) (h : Scanned s test previous at n f) where
+  module _ {previous at n : ℕ} {f : Found} (h : Scanned s test previous at n f) where
     onwards : (step : Step) → nextAt Plan s previous at ≡ step
         → foundOf (firstBadOf test (records planFollows 1 s)) ≡ orLater f (shifted n (firstBadOf test (onward Plan 1 s step)))
     onwards step q =
@@ -88,10 +87,10 @@ module _ (s : List ℕ) (test : Rec → Bool) where
     sound-on step q =
         sym (ap (isOk {A = List Rec}) (one-step Plan 1 s previous at (h .inside) ∙ ap (onward Plan 1 s) q)) ∙ h .sound
 
-    pub scanned-more : (kind body next : ℕ) (lent : List ℕ) (good : Bool) (g : Found) → nextAt Plan s previous at ≡ Record kind body next
+    pub scanned-more : {kind body next : ℕ} {lent : List ℕ} {good : Bool} {g : Found} → nextAt Plan s previous at ≡ Record kind body next
         → lent ≡ take (next - body) (drop body s) → good ≡ test (recordOf kind lent) → g ≡ earlierOf f good n
         → Scanned s test kind next (n + 1) g
-    scanned-more kind body next lent good g e l q t =
+    scanned-more {kind} {body} {next} {lent} {good} e l q t =
         let u = found Plan s previous at kind body next e in
         let w : next - body ≡ bodyLength kind = omega (arith, u .body-place, u .next-place) in
         let v : test (recordOf kind (drop body s)) ≡ good = sym (rw (l, w, record-cut kind (drop body s)) at q) in
@@ -110,16 +109,16 @@ module _ (s : List ℕ) (test : Rec → Bool) where
     pub scanned-end : nextAt Plan s previous at ≡ End → f ≡ foundOf (firstBadOf test (records planFollows 1 s))
     scanned-end e = sym (onwards End e ∙ later-none f)
 
-    pub scanned-wrong : {C : Type 0} (place : ℕ) → nextAt Plan s previous at ≡ Wrong place → C
-    scanned-wrong place e = true-false (sym (sound-on (Wrong place) e))
+    pub scanned-wrong : {C : Type 0} {place : ℕ} → nextAt Plan s previous at ≡ Wrong place → C
+    scanned-wrong {place = place} e = true-false (sym (sound-on (Wrong place) e))
 
     -- the next record is counted at a place inside of the file, and what stands behind it is less
-    pub scanned-number : (kind body next : ℕ) → nextAt Plan s previous at ≡ Record kind body next → n < length s
-    scanned-number kind body next e =
+    pub scanned-number : {kind body next : ℕ} → nextAt Plan s previous at ≡ Record kind body next → n < length s
+    scanned-number {kind} {body} {next} e =
         let u = found Plan s previous at kind body next e in
         omega (arith, u .fits, u .further, h .counted)
 
-    pub scanned-less : (kind body next : ℕ) → nextAt Plan s previous at ≡ Record kind body next → length s - next < length s - at
-    scanned-less kind body next e =
+    pub scanned-less : {kind body next : ℕ} → nextAt Plan s previous at ≡ Record kind body next → length s - next < length s - at
+    scanned-less {kind} {body} {next} e =
         let u = found Plan s previous at kind body next e in
         omega (arith, u .fits, u .further)

@@ -1,5 +1,4 @@
 -- Refusals 3 and 4: the kinds whose bodies name nothing, and those that have no number with a range, pass their tests.
--- Assumes nothing.
 use mathlib.Core.Path.{_≡_, refl, sym, ap, _∙_}
 use mathlib.Core.Bool.{Bool, true, false, _&&_, _||_}
 use mathlib.Core.List.{List, [], _∷_}

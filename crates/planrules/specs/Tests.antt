@@ -5,7 +5,6 @@ use lib.Dec.{leb}
 use lib.ListN.{getD}
 use Prim.Native.Nat.{ℕ, _+_}
 use Rattle.laws.specs.Res.{Res}
-use Rattle.laws.specs.Numbers as numbers
 use Rattle.rules.specs.Records.{Rec}
 use Rattle.rules.specs.Plan.{nth, leastCounts, mostCounts, namesAreThere, numbersAreWithin}
 use Rattle.planrules.specs.declared.numbers.Firsts.{Firsts}

@@ -6,7 +6,7 @@ use lib.ListN.{length}
 use Prim.Native.Nat.{ℕ}
 use Rattle.station.specs.Memory.{notBegun}
 use Rattle.station.specs.declared.Station.{Station}
-use Rattle.playing.specs.Played.{played}
+use Rattle.playstation.specs.Played.{played}
 
 -- a file of at most 65,536 bytes (reading 5), a history of at most 262,144
 abbrev pub areShort : List ℕ → List ℕ → List ℕ → Bool

@@ -1,6 +1,5 @@
 -- A table of body lengths is that of document 01: one test over its nineteen entries, which antt computes. Every later kind is
 -- unknown.
--- Assumes nothing.
 use mathlib.Core.Path.{_≡_, refl, ap}
 use mathlib.Core.Bool.{Bool, true, false, cond, not}
 use mathlib.Core.List.{List}

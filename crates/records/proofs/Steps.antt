@@ -1,5 +1,4 @@
 -- The definition's walk over a file, from an offset on, is the reader's answer there followed by the walk from the next offset.
--- Assumes nothing.
 use mathlib.Core.Path.{_≡_, refl, ap, _∙_}
 use mathlib.Core.Bool.{Bool, true, false, _&&_}
 use mathlib.Core.List.{List, [], _∷_}

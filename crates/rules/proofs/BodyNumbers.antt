@@ -1,5 +1,4 @@
 -- The numbers of a record are the little-endian numbers at their offsets in the file.
--- Assumes nothing.
 use mathlib.Core.Path.{_≡_, refl}
 use mathlib.Core.List.{List, [], _∷_}
 use Prim.Native.Nat.{ℕ, _+_}

@@ -4,7 +4,12 @@ use Rattle.laws.specs.Lists.{all}
 use Rattle.laws.specs.Numbers.{euclid, gcd, lcm, ceil, up, down}
 use Rattle.rules.specs.Records.{kinds, known, fields, bodyLength, planFollows, tableFollows, recordOf, walk, records}
 use Rattle.rules.specs.Plan.{busOf, modeOf, taskOf, invocationOf, connectionOf, isKind, things, only, moduleOf, planOf, count, leastCounts, mostCounts, countFits, namesAreThere, payloadsOrdered, numbersAreWithin, theMode, theTask, theInvocation, periodOf, isHome, hasMode, switchDivides, fitsItsMode, sameRun, isRepeat, invocationKeeps, firstMode, firstInvocation, rule5, readPlan}
-use Rattle.rules.specs.Frames.{moduleNode, taskNode, invokes, leaves, isBusTask, busTasks, livesIn, isSending, standsOn, sendersOn, controlPayload, isSendingNode, sendingNodes, runOf, ofBusTask, busRuns, withRun, periodOfRuns, busPeriod, withMode, ofSender, switchGrid, message, messagesOf, messages, frameOrder, merged, withMessage, framesOf, frames, payload, ticksOfBits, sendingTime, gapTime, controlFrom, controlRows, controlEnd, someBusTask, messageFits, controlFits, payloadsFit, layoutOf, mostFrames, layout}
+use Rattle.rules.specs.Frames.{moduleNode, taskNode, invokes, leaves, isBusTask, busTasks, livesIn, isSending, standsOn}
+use Rattle.rules.specs.Frames.{sendersOn, controlPayload, isSendingNode, sendingNodes, runOf, ofBusTask, busRuns, withRun}
+use Rattle.rules.specs.Frames.{periodOfRuns, busPeriod, withMode, ofSender, switchGrid, message, messagesOf, messages}
+use Rattle.rules.specs.Frames.{frameOrder, merged, withMessage, framesOf, frames, payload, ticksOfBits, sendingTime}
+use Rattle.rules.specs.Frames.{gapTime, controlFrom, controlRows, controlEnd, someBusTask, messageFits, controlFits}
+use Rattle.rules.specs.Frames.{payloadsFit, layoutOf, mostFrames, layout}
 use Rattle.rules.specs.LatestRelease.{numberedFrom, withDeadline, greatestDeadline, isCandidate, isLater, latestOf, isOther, lowered, taken, startOf, fits, place, firstEnd, frameTime, latestRelease}
 use Rattle.rules.specs.Table.{recordBytes, dataRow, headerBytes, controlBytes, dataBytes, tableBytes, startFor, rowsFrom, rowsThenZero, madeTable, tableFor, make}
 use Rattle.rules.specs.Checker.{controlRowOf, dataRowOf, tableOf, headerRight, controlAt, rowAt, sameControl, controlKept, isFrameOf, samePair, namesNewFrame, namedIn, frameOfRow, timeKept, releaseKept, deadlineKept, gapKept, firstRow, rowsKeep, judged, passed, startIn, checkedRow, check}
@@ -12,7 +17,20 @@ use Rattle.rules.specs.Jobs.{bytesOf, file, recordsA, planA, tableA, row
 
 -- all that the jobs compute with
 unfoldable pub everything : Unit {0}
-unfolding euclid gcd lcm ceil up down kinds known fields bodyLength planFollows tableFollows recordOf walk records busOf modeOf taskOf invocationOf connectionOf isKind things only moduleOf planOf count leastCounts mostCounts countFits namesAreThere payloadsOrdered numbersAreWithin theMode theTask theInvocation periodOf isHome hasMode switchDivides fitsItsMode sameRun isRepeat invocationKeeps firstMode firstInvocation rule5 readPlan moduleNode taskNode invokes leaves isBusTask busTasks livesIn isSending standsOn sendersOn controlPayload isSendingNode sendingNodes runOf ofBusTask busRuns withRun periodOfRuns busPeriod withMode ofSender switchGrid message messagesOf messages frameOrder merged withMessage framesOf frames payload ticksOfBits sendingTime gapTime controlFrom controlRows controlEnd someBusTask messageFits controlFits payloadsFit layoutOf mostFrames layout numberedFrom withDeadline greatestDeadline isCandidate isLater latestOf isOther lowered taken startOf fits place firstEnd frameTime latestRelease recordBytes dataRow headerBytes controlBytes dataBytes tableBytes startFor rowsFrom rowsThenZero madeTable tableFor make controlRowOf dataRowOf tableOf headerRight controlAt rowAt sameControl controlKept isFrameOf samePair namesNewFrame namedIn frameOfRow timeKept releaseKept deadlineKept gapKept firstRow rowsKeep judged passed startIn checkedRow check bytesOf file recordsA planA tableA rowsA tableAWith planAWith recordsJ tableJ recordsS recordsMany plenty documentJobs tableAtC tableCoarse tableGap tableEqual tableRounded tableLeast tableEarly tableTwoFaults tableInGap tableOff ownEntries entries
+unfolding euclid gcd lcm ceil up down kinds known fields bodyLength planFollows tableFollows recordOf walk records busOf modeOf
+    taskOf invocationOf connectionOf isKind things only moduleOf planOf count leastCounts mostCounts countFits namesAreThere
+    payloadsOrdered numbersAreWithin theMode theTask theInvocation periodOf isHome hasMode switchDivides fitsItsMode sameRun
+    isRepeat invocationKeeps firstMode firstInvocation rule5 readPlan moduleNode taskNode invokes leaves isBusTask busTasks
+    livesIn isSending standsOn sendersOn controlPayload isSendingNode sendingNodes runOf ofBusTask busRuns withRun periodOfRuns
+    busPeriod withMode ofSender switchGrid message messagesOf messages frameOrder merged withMessage framesOf frames payload
+    ticksOfBits sendingTime gapTime controlFrom controlRows controlEnd someBusTask messageFits controlFits payloadsFit layoutOf
+    mostFrames layout numberedFrom withDeadline greatestDeadline isCandidate isLater latestOf isOther lowered taken startOf fits
+    place firstEnd frameTime latestRelease recordBytes dataRow headerBytes controlBytes dataBytes tableBytes startFor rowsFrom
+    rowsThenZero madeTable tableFor make controlRowOf dataRowOf tableOf headerRight controlAt rowAt sameControl controlKept
+    isFrameOf samePair namesNewFrame namedIn frameOfRow timeKept releaseKept deadlineKept gapKept firstRow rowsKeep judged passed
+    startIn checkedRow check bytesOf file recordsA planA tableA rowsA tableAWith planAWith recordsJ tableJ recordsS recordsMany
+    plenty documentJobs tableAtC tableCoarse tableGap tableEqual tableRounded tableLeast tableEarly tableTwoFaults tableInGap
+    tableOff ownEntries entries
 everything = tt
 
 pub jobs : T (all holds entries)

@@ -5,7 +5,6 @@ use native.Mathlib.Omega.{arith}
 use lib.Dec.{T, leb, lit≤}
 use lib.ListN.{length}
 use Prim.Native.Nat.{ℕ}
-use Rattle.laws.specs.Res.{Res}
 use Rattle.laws.specs.Lists.{firstBad, upTo}
 use Rattle.laws.specs.Numbers.{divides}
 use Rattle.laws.proofs.Refusals.{Gives, gives-ok, gives-unless, gives-at, gives-then, gives-bind, gives-within}

@@ -12,7 +12,13 @@ use Rattle.rules.specs.Records.{Rec}
 use Rattle.rules.specs.Checker.{sameControl, samePair}
 use Rattle.rules.specs.Jobs.{isRefused, rec, file}
 use Rattle.rules.specs.Playing.{Input, isRun, periodAmong, periodIn}
-use Rattle.rules.specs.Station.{Kept, State, Started, control, message, nothing, Ticked, Begun, keptOf, stateAtStart, homeNode, runPeriod, taskAge, runAge, isRunning, isAwaited, resultAwaited, resultFits, isLastChance, resultInTime, isModeOf, maySwitch, changeAllowed, judgedTick, outAfter, hasOther, rowWith, landsOn, landedAfter, isByteOf, heldAfter, endsNow, hasMessage, ownShows, otherShows, shownAfter, modeAfter, oneOn, ageAfter, givenAfter, startingControl, startingData, modeByteAfter, fullAfter, loadAfter, tick, keptControl, keptData, started, step, startsWell, begin}
+use Rattle.rules.specs.Station.{Kept, State, Started, control, message, nothing, Ticked, Begun, keptOf, stateAtStart}
+use Rattle.rules.specs.Station.{homeNode, runPeriod, taskAge, runAge, isRunning, isAwaited, resultAwaited, resultFits}
+use Rattle.rules.specs.Station.{isLastChance, resultInTime, isModeOf, maySwitch, changeAllowed, judgedTick, outAfter}
+use Rattle.rules.specs.Station.{hasOther, rowWith, landsOn, landedAfter, isByteOf, heldAfter, endsNow, hasMessage, ownShows}
+use Rattle.rules.specs.Station.{otherShows, shownAfter, modeAfter, oneOn, ageAfter, givenAfter, startingControl}
+use Rattle.rules.specs.Station.{startingData, modeByteAfter, fullAfter, loadAfter, tick, keptControl, keptData, started}
+use Rattle.rules.specs.Station.{step, startsWell, begin}
 use Rattle.rules.specs.StationRange.{isBetween, mostTime, countsInRange, moduleInRange, modeInRange, taskInRange, runInRange, runsInRange, controlInRange, dataInRange, keptInRange, playInRange, isValue, boxInRange, placeInRange, byteInRange, nodeInRange, stateInRange, inRange, ticked}
 use Rattle.rules.specs.OneBoard.{modeNow, sinceMode, periodNow, runEnds, resultWithin, value}
 use Rattle.rules.proofs.Jobs.{everything}
@@ -394,7 +400,15 @@ pub isTrue : Bool → Bool
 isTrue b = b
 
 opened : Unit {0}
-unfolding everything plan row rows earlyTable numbers truths boards at grid places listed laid frozen frozenKept givenAt inputOf accepted sameRow answersRow ticks quietly act acts playedFrom modeA jobK lateTable lateJob zeroKept atTime tickAt jobs isTrue modeNow sinceMode periodNow runEnds resultWithin value isRun periodAmong periodIn keptOf stateAtStart homeNode runPeriod taskAge runAge isRunning isAwaited resultAwaited resultFits isLastChance resultInTime isModeOf maySwitch changeAllowed judgedTick outAfter hasOther rowWith landsOn landedAfter isByteOf heldAfter endsNow hasMessage ownShows otherShows shownAfter modeAfter oneOn ageAfter givenAfter startingControl startingData modeByteAfter fullAfter loadAfter tick keptControl keptData started step startsWell begin isBetween mostTime countsInRange moduleInRange modeInRange taskInRange runInRange runsInRange controlInRange dataInRange keptInRange playInRange isValue boxInRange placeInRange byteInRange nodeInRange stateInRange inRange ticked
+unfolding everything plan row rows earlyTable numbers truths boards at grid places listed laid frozen frozenKept givenAt inputOf
+    accepted sameRow answersRow ticks quietly act acts playedFrom modeA jobK lateTable lateJob zeroKept atTime tickAt jobs isTrue
+    modeNow sinceMode periodNow runEnds resultWithin value isRun periodAmong periodIn keptOf stateAtStart homeNode runPeriod
+    taskAge runAge isRunning isAwaited resultAwaited resultFits isLastChance resultInTime isModeOf maySwitch changeAllowed
+    judgedTick outAfter hasOther rowWith landsOn landedAfter isByteOf heldAfter endsNow hasMessage ownShows otherShows shownAfter
+    modeAfter oneOn ageAfter givenAfter startingControl startingData modeByteAfter fullAfter loadAfter tick keptControl keptData
+    started step startsWell begin isBetween mostTime countsInRange moduleInRange modeInRange taskInRange runInRange runsInRange
+    controlInRange dataInRange keptInRange playInRange isValue boxInRange placeInRange byteInRange nodeInRange stateInRange
+    inRange ticked
 opened = tt
 
 -- Every entry is answered as document 01 says.

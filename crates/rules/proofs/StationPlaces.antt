@@ -13,7 +13,12 @@ use Rattle.laws.proofs.Turns.{same-bad}
 use Rattle.rules.specs.Plan.{Plan, theTask, readPlan}
 use Rattle.rules.specs.Frames.{taskNode}
 use Rattle.rules.specs.Playing.{nodePlaces, modulePlaces, taskPlaces, Input}
-use Rattle.rules.specs.Station.{Kept, State, runPeriod, taskAge, runAge, isRunning, isAwaited, resultAwaited, resultFits, isLastChance, resultInTime, maySwitch, mayTake, changeAllowed, judgedTick, outAfter, rowWith, landsOn, landedBy, landedAfter, heldBy, heldAfter, endsNow, ownShows, otherShows, shownAfter, modeAfter, ageAfter, givenAfter, startingControl, startingData, modeByteBy, modeByteAfter, fullBy, fullAfter, loadBy, loadAfter, tick, started, Ticked, step, Begun, begin}
+use Rattle.rules.specs.Station.{Kept, State, runPeriod, taskAge, runAge, isRunning, isAwaited, resultAwaited, resultFits}
+use Rattle.rules.specs.Station.{isLastChance, resultInTime, maySwitch, mayTake, changeAllowed, judgedTick, outAfter}
+use Rattle.rules.specs.Station.{rowWith, landsOn, landedBy, landedAfter, heldBy, heldAfter, endsNow, ownShows, otherShows}
+use Rattle.rules.specs.Station.{shownAfter, modeAfter, ageAfter, givenAfter, startingControl, startingData, modeByteBy}
+use Rattle.rules.specs.Station.{modeByteAfter, fullBy, fullAfter, loadBy, loadAfter, tick, started, Ticked, step, Begun}
+use Rattle.rules.specs.Station.{begin}
 use Rattle.rules.specs.StationRange.{inRange, ticked}
 use Rattle.rules.specs.History.{played, boardValue, consumes}
 use Rattle.rules.proofs.PlanKept.{PlanKept, readable-kept}

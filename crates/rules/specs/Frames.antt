@@ -1,13 +1,13 @@
 -- Document 01, "From plan to frames", and refusals 6 to 11.
-use mathlib.Core.Bool.{Bool, true, false, not, _&&_}
+use mathlib.Core.Bool.{Bool, not, _&&_}
 use mathlib.Core.List.{List, [], _∷_, map, foldr}
 use lib.Dec.{eqb, leb, ltb}
 use lib.ListN.{getD, length}
-use Prim.Native.Nat.{ℕ, zero, suc, _+_, _*_, _-_, _/_, max, compare, Ordering, Ordering·lt, Ordering·eq, Ordering·gt}
-use Rattle.laws.specs.Res.{Res, ok, refuse, _>>=_, _>>_, unless}
+use Prim.Native.Nat.{ℕ, _+_, _*_, _-_, _/_, max, compare, Ordering, Ordering·lt, Ordering·eq, Ordering·gt}
+use Rattle.laws.specs.Res.{Res, ok, _>>=_, _>>_, unless}
 use Rattle.laws.specs.Lists.{keep, any, all, joined, lastD, tab, upTo}
 use Rattle.laws.specs.Numbers.{divides, gcd, lcm, ceil, up}
-use Rattle.rules.specs.Plan.{Bus, Mode, Task, Invocation, Connection, Plan, theMode, theTask, periodOf}
+use Rattle.rules.specs.Plan.{Bus, Mode, Invocation, Connection, Plan, theTask, periodOf}
 
 -- the node of a module, and of a task
 unfoldable pub moduleNode : Plan → ℕ → ℕ

@@ -5,7 +5,7 @@ use mathlib.Core.List.{List, [], _∷_}
 use mathlib.Core.Option.{Option, Option·getD}
 use lib.Dec.{eqb}
 use Prim.Native.Nat.{ℕ}
-use Rattle.laws.specs.Res.{Res, ok, refuse, _>>=_, _>>_}
+use Rattle.laws.specs.Res.{Res, ok, _>>=_, _>>_}
 use Rattle.laws.specs.Lists.{any}
 use Rattle.rules.specs.Plan.{Connection, Plan, theTask}
 use Rattle.rules.specs.Frames.{taskNode}

@@ -8,8 +8,8 @@ use Prim.Native.Nat.{ℕ, _+_}
 use Rattle.laws.specs.Res.{Res, ok, refuse}
 use Rattle.laws.specs.Lists.{joined}
 use Rattle.rules.specs.Records.{Rec}
-use Rattle.rules.specs.Table.{recordBytes, MadeTable, tableFor, FrameRow, zeroRow, Made, make}
-use Rattle.rules.specs.Checker.{Passed, passed}
+use Rattle.rules.specs.Table.{recordBytes, MadeTable, tableFor, zeroRow, make}
+use Rattle.rules.specs.Checker.{passed}
 
 -- an entry: what is made of a plan in a room, or refused; a table that passes, or is refused; too few rows lent
 pub data Entry : Type 0 where

@@ -7,7 +7,6 @@ use Prim.Native.Nat.{ℕ, zero, suc, _-_, min, max}
 use Rattle.laws.specs.Res.{Res, ok, refuse, _>>=_}
 use Rattle.laws.specs.Lists.{keep}
 use Rattle.laws.specs.Numbers.{down}
-use Rattle.rules.specs.Plan.{Bus}
 use Rattle.rules.specs.Frames.{Frame, Layout, payload, sendingTime, gapTime}
 
 -- A frame with its number.

@@ -5,8 +5,8 @@ use mathlib.Core.List.{List, [], _∷_, _++_}
 use mathlib.Core.Logic.{_⊎_}
 use mathlib.Core.Option.{Option, none, some}
 use lib.ListN.{length, getD, take}
-use Prim.Native.Nat.{ℕ, zero, suc, _+_, _-_, _%_, _^_, _≤_, _<_, _∣_}
-use Rattle.laws.specs.Res.{Res, ok, refuse}
+use Prim.Native.Nat.{ℕ, suc, _+_, _-_, _%_, _^_, _≤_, _<_, _∣_}
+use Rattle.laws.specs.Res.{ok, refuse}
 use Rattle.laws.specs.Faults.{Rule, BreaksAt, AllKept, FirstFault}
 use Rattle.rules.specs.Records.{Rec, known, bodyLength, recordOf, tableFollows}
 use Rattle.rules.specs.Plan.{Plan, readPlan}

@@ -1,8 +1,8 @@
 -- Demand 3's right side: the same history with all tasks on one board and no bus. A history is the list of ticks so far, the newest
 -- first; what is said of a module before a tick is said of the history behind it.
-use mathlib.Core.Bool.{Bool, true, false, cond, _&&_}
+use mathlib.Core.Bool.{Bool, cond, _&&_}
 use mathlib.Core.List.{List, [], _∷_}
-use mathlib.Core.Option.{Option, none, some, Option·getD}
+use mathlib.Core.Option.{Option·getD}
 use lib.Dec.{ltb}
 use Prim.Native.Nat.{ℕ, zero, suc, _+_}
 use Rattle.laws.specs.Numbers.{divides}

@@ -1,11 +1,11 @@
 -- Document 01, "Records" (a plan's things, their ranges) and refusals 2 to 5.
-use mathlib.Core.Bool.{Bool, true, false, cond, not, _&&_}
+use mathlib.Core.Bool.{Bool, true, cond, not, _&&_}
 use mathlib.Core.List.{List, [], _∷_, map}
 use lib.Dec.{eqb, leb, ltb}
 use lib.ListN.{getD, length, take}
-use Prim.Native.Nat.{ℕ, zero, suc, _+_, _*_, _/_}
-use Rattle.laws.specs.Res.{Res, ok, refuse, _>>=_, _>>_, unless, at}
-use Rattle.laws.specs.Lists.{keep, any, all, firstBad, upTo}
+use Prim.Native.Nat.{ℕ, _+_, _*_, _/_}
+use Rattle.laws.specs.Res.{Res, ok, _>>=_, _>>_, at}
+use Rattle.laws.specs.Lists.{keep, any, firstBad, upTo}
 use Rattle.laws.specs.Numbers.{divides}
 use Rattle.rules.specs.Records.{Field, names, ranges, free, Rec, fields, records, planFollows}
 

@@ -4,7 +4,7 @@ use mathlib.Core.List.{List, [], _∷_}
 use mathlib.Core.Option.{Option, none, some}
 use lib.Dec.{eqb, leb}
 use lib.ListN.{getD, take, drop}
-use Prim.Native.Nat.{ℕ, zero, suc, _+_, max}
+use Prim.Native.Nat.{ℕ, zero, suc, _+_}
 use Rattle.laws.specs.Res.{Res, ok, refuse, _>>=_}
 use Rattle.laws.specs.Numbers.{number}
 

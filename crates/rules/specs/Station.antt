@@ -1,15 +1,15 @@
 -- Document 01, "The played station": what it keeps, its state, refusals 41 to 44, the six steps (a) to (f) of a tick, `begin`
 -- (readings 22 to 34). All are numbers, or functions of the place of a node, module, mode, task or row; a period of 0 means none.
 use mathlib.Core.Bool.{Bool, true, false, cond, not, _&&_, _||_}
-use mathlib.Core.List.{List, [], _∷_}
+use mathlib.Core.List.{List, _∷_}
 use mathlib.Core.Option.{Option, none, some, Option·getD}
 use lib.Dec.{eqb, leb, ltb}
 use lib.ListN.{length}
-use Prim.Native.Nat.{ℕ, zero, suc, _+_, _-_, _%_, _^_}
-use Rattle.laws.specs.Res.{Res, ok, refuse, _>>=_, _>>_, at}
+use Prim.Native.Nat.{ℕ, _+_, _-_, _%_, _^_}
+use Rattle.laws.specs.Res.{Res, ok, _>>=_, _>>_, at}
 use Rattle.laws.specs.Lists.{firstBad, upTo}
 use Rattle.laws.specs.Numbers.{divides}
-use Rattle.rules.specs.Plan.{Plan, theMode, theTask}
+use Rattle.rules.specs.Plan.{theMode, theTask}
 use Rattle.rules.specs.Frames.{moduleNode, isBusTask, isSending, ControlRow}
 use Rattle.rules.specs.Table.{DataRow}
 use Rattle.rules.specs.Checker.{controlAt, rowAt, Passed, passed}

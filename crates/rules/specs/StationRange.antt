@@ -1,9 +1,9 @@
 -- Document 01, "The played station": refusal 40 of a tick on any station value (reading 35).
-use mathlib.Core.Bool.{Bool, true, false, not, _&&_, _||_}
-use mathlib.Core.List.{List, [], _∷_}
+use mathlib.Core.Bool.{Bool, not, _&&_, _||_}
+use mathlib.Core.List.{_∷_}
 use lib.Dec.{eqb, leb, ltb}
-use Prim.Native.Nat.{ℕ, zero, suc, _^_}
-use Rattle.laws.specs.Res.{Res, ok, refuse, _>>=_, _>>_, unless}
+use Prim.Native.Nat.{ℕ, _^_}
+use Rattle.laws.specs.Res.{Res, _>>=_, _>>_, unless}
 use Rattle.laws.specs.Lists.{all, upTo}
 use Rattle.rules.specs.Frames.{mostFrames}
 use Rattle.rules.specs.Playing.{nodePlaces, modulePlaces, modePlaces, taskPlaces, Input}

@@ -1,9 +1,9 @@
 -- Document 01: the table's bytes, refusals 13 and 19, and `make` with what was lent, on every outcome (readings 16 and 17).
-use mathlib.Core.Bool.{Bool, true, false, cond}
+use mathlib.Core.Bool.{true, false, cond}
 use mathlib.Core.List.{List, [], _∷_, _++_, map}
 use lib.Dec.{eqb, leb}
 use lib.ListN.{length, drop, replicate}
-use Prim.Native.Nat.{ℕ, zero, suc, _+_, _-_}
+use Prim.Native.Nat.{ℕ, suc, _+_, _-_}
 use Rattle.laws.specs.Res.{Res, ok, refuse, _>>=_, _>>_, unless}
 use Rattle.laws.specs.Lists.{joined}
 use Rattle.laws.specs.Numbers.{bytes}

@@ -1,6 +1,5 @@
 -- Steps (b) and (c) on the station's nodes are the rules' own, where the station is within its ranges; and where nothing lands and no
 -- run ends, they change nothing.
--- Assumes nothing.
 use mathlib.Core.Path.{_≡_, refl, sym, ap, _∙_}
 use mathlib.Core.Bool.{Bool, true, false, cond, not, _&&_}
 use mathlib.Core.List.{List}

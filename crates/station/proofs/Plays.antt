@@ -1,5 +1,4 @@
 -- Stations one after the other, by the contract of `tick` alone: what is seen of them follows the rules' play.
--- Assumes nothing.
 use mathlib.Core.Path.{_≡_, refl, sym, ap, _∙_, subst}
 use mathlib.Core.Bool.{false}
 use mathlib.Core.List.{List, [], _∷_}

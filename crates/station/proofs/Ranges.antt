@@ -1,5 +1,4 @@
 -- Refusals 40 to 44: the tests on the station's arrays are the rules' own.
--- Assumes nothing.
 use mathlib.Core.Path.{_≡_, refl, ap, _∙_}
 use mathlib.Core.List.{List, [], _∷_}
 use mathlib.Core.Option.{Option, none, some}

@@ -1,6 +1,5 @@
 -- The arrays of a station have their lengths, from the beginning on and behind every tick; so the state that is laid into them is
 -- read off them again, at every place of a station.
--- Assumes nothing.
 use mathlib.Core.Path.{_≡_, refl, ap, ap₂, _∙_}
 use mathlib.Core.Bool.{false}
 use lib.ListN.{length, getD}

@@ -1,5 +1,4 @@
 -- The steps of a tick, on the station's arrays, are the rules' own: the row that starts, and what changes beside the nodes.
--- Assumes nothing.
 use mathlib.Core.Path.{_≡_, refl}
 use mathlib.Core.Bool.{Bool, false}
 use mathlib.Core.List.{List}

@@ -1,5 +1,4 @@
 -- The two ways of a turn over plain variables: what the parts of a tick give makes up the rules' answer.
--- Assumes nothing.
 use mathlib.Core.Path.{_≡_, refl, sym, ap, _∙_}
 use mathlib.Core.Bool.{Bool, true, false, not, _&&_}
 use mathlib.Core.List.{List}

@@ -1,5 +1,4 @@
 -- No second answer of a tick says of a station what the rules say of it.
--- Assumes nothing.
 use mathlib.Core.Path.{_≡_, refl, sym, ap, _∙_}
 use mathlib.Core.Bool.{true}
 use Rattle.laws.specs.Res.{Res, ok}

@@ -1,5 +1,4 @@
 -- Each number that a station's nodes hold landed and shown is below 2 ^ 64, for its type holds no other.
--- Assumes nothing.
 use mathlib.Core.Path.{_≡_, refl, ap₂}
 use mathlib.Core.Bool.{true, _&&_}
 use mathlib.Core.List.{List, [], _∷_, map}

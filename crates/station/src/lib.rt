@@ -1,7 +1,6 @@
 // The played station: its tick, total on any station value, and what a node shows.
 ghost use mathlib.Core.Path.{_≡_};
 ghost use Rattle.laws.specs.Res.{ok};
-ghost use Rattle.laws.specs.Lists.{all};
 ghost use Rattle.rules.specs.StationRange.{ticked};
 ghost use mathlib.Core.List.{List};
 ghost use Rattle.stationnodes.specs.declared.Node.{Node as AnyNode};
@@ -18,7 +17,6 @@ use stationmoves::what_lands;
 use stationnodes::Landing;
 use stationnodes::Node;
 use stationnodes::is_idle;
-use stationnodes::lands;
 use stationnodes::nodes_after;
 use stationnodes::shown_on;
 use stationrefusals::Controls;

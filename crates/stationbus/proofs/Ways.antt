@@ -1,5 +1,4 @@
 -- What a function returns on each of its ways, over plain variables: the test x of the code is that of the definition.
--- Assumes nothing.
 use mathlib.Core.Path.{_≡_, refl, sym, _∙_}
 use mathlib.Core.Bool.{Bool, true, false, _&&_}
 use mathlib.Core.List.{List}
@@ -11,8 +10,6 @@ use Rattle.laws.specs.Lists.{all, upTo}
 use Rattle.laws.proofs.Lists.{both-left, both-right, all-upTo-true}
 use Rattle.laws.proofs.Loops.{firstBad-upTo-none}
 use Rattle.rules.specs.Station.{hasOther, rowWith}
-use Rattle.stationruns.specs.declared.Given.{Given}
-use Rattle.stationruns.specs.declared.Change.{Change}
 use Rattle.stationbus.specs.Bus.{numberAt}
 
 -- no row has this time

@@ -1,6 +1,5 @@
 // Refusals 41 to 44 of a tick, on lent arrays.
 ghost use mathlib.Core.Path.{_≡_};
-ghost use mathlib.Core.Bool.{not};
 ghost use Prim.Native.Nat.{_<_};
 ghost use Rattle.laws.specs.Lists.{firstBad, upTo};
 ghost use Rattle.stationruns.specs.Inputs.{changeOf, foundOf};

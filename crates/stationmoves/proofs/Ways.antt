@@ -1,5 +1,4 @@
 -- What the steps of a tick come to, over plain variables.
--- Assumes nothing.
 use mathlib.Core.Path.{_≡_, refl}
 use mathlib.Core.Bool.{Bool}
 use mathlib.Core.List.{List}

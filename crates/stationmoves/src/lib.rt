@@ -15,7 +15,6 @@ use stationbus::held_after;
 use stationbus::load_after;
 use stationbus::row_with;
 use stationnodes::Landing;
-use stationnodes::Node;
 use stationnodes::lands;
 use stationrefusals::Controls;
 use stationrefusals::Modes;

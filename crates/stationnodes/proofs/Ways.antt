@@ -1,5 +1,4 @@
 -- What a function returns on each of its ways, over plain variables: the tests e, o, m of the code are those of the definition.
--- Assumes nothing.
 use mathlib.Core.Path.{_≡_, refl, ap, _∙_}
 use mathlib.Core.Bool.{Bool, true, false, cond, not, _&&_}
 use mathlib.Core.List.{List}
@@ -11,8 +10,6 @@ use native.Mathlib.Omega.{arith}
 use Rattle.laws.specs.Loops.{stores}
 use Rattle.laws.proofs.Loops.{stores-at}
 use Rattle.laws.proofs.Stores.{stores-same}
-use Rattle.stationruns.specs.declared.Given.{Given}
-use Rattle.stationruns.specs.declared.Change.{Change}
 use Rattle.stationbus.specs.Bus.{numberAt}
 use Rattle.stationnodes.specs.Nodes.{landedRule, shownRule}
 use Rattle.stationnodes.specs.declared.Node.{Node}

@@ -1,9 +1,9 @@
 // Refusal 40 of a tick: each number that a station holds is within its range. The arrays are lent, and no scan ends early, so that each
 // is one straight pass.
 ghost use mathlib.Core.Path.{_≡_};
-ghost use mathlib.Core.Bool.{not, _&&_, _||_};
+ghost use mathlib.Core.Bool.{_&&_, _||_};
 ghost use Prim.Native.Nat.{_<_};
-ghost use lib.Dec.{eqb, leb, ltb};
+ghost use lib.Dec.{leb, ltb};
 ghost use Rattle.laws.specs.Lists.{all, upTo};
 ghost use Rattle.rules.specs.StationRange.{isBetween, isValue};
 ghost use Rattle.stationrange.specs.Ranges.{boxTest, byteTest, controlTest, countsTest, dataTest, modeTest, moduleTest, playTest, runTest, runsTest, taskTest, thingTest};

@@ -1,5 +1,4 @@
 -- What the tests of refusals 40 to 44 come to, over plain variables.
--- Assumes nothing.
 use mathlib.Core.Path.{_≡_}
 use mathlib.Core.Bool.{Bool, true, false, _&&_}
 use Rattle.laws.specs.Res.{Res, refuse, _>>_, unless}

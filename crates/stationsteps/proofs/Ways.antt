@@ -1,5 +1,4 @@
 -- What stands in an array that was just filled.
--- Assumes nothing.
 use mathlib.Core.Path.{_≡_, ap, _∙_}
 use mathlib.Core.List.{List}
 use lib.ListN.{length, getD, List·getD-eq-default}

@@ -1,10 +1,10 @@
 -- Stores one behind the other are the store of what they make together.
 use mathlib.Core.Path.{_≡_, refl, sym, ap, ap₂, _∙_}
 use mathlib.Core.List.{List, [], _∷_, _++_, map, append-nil, append-assoc}
-use native.Mathlib.Nat.{add-zero, add-suc, suc-add, zero-add, mul-zero, mul-suc}
+use native.Mathlib.Nat.{zero-add, mul-zero, mul-suc}
 use native.Mathlib.Numerals.{add-one, towards-suc}
 use native.Mathlib.Omega.{arith}
-use lib.ListN.{length, getD, set, length-append}
+use lib.ListN.{length, getD, length-append}
 use lib.Seq.{sets}
 use Prim.Native.Nat.{ℕ, zero, suc, _+_, _*_}
 use Rattle.laws.specs.Lists.{tab, joined}

@@ -2,7 +2,7 @@
 use mathlib.Core.List.{List, [], _∷_, _++_, map}
 use lib.ListN.{getD}
 use Prim.Native.Nat.{ℕ}
-use Rattle.laws.specs.Lists.{tab, joined}
+use Rattle.laws.specs.Lists.{joined}
 use Rattle.rules.specs.Frames.{ControlRow}
 use Rattle.rules.specs.Table.{DataRow, headerBytes, controlBytes, dataBytes}
 

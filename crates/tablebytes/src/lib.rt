@@ -3,7 +3,6 @@ ghost use mathlib.Core.Path.{_≡_};
 ghost use Prim.Native.Nat.{_+_, _*_, _≤_};
 ghost use mathlib.Core.List.{_∷_, [], map};
 ghost use lib.Seq.{sets};
-ghost use lib.ListN.{length};
 ghost use Rattle.laws.specs.Lists.{tab, joined};
 ghost use Rattle.rules.specs.Table.{recordBytes, headerBytes, controlBytes, dataBytes};
 ghost use Rattle.tablebytes.specs.Rows.{controlIn, dataIn, tableIn};

@@ -153,7 +153,8 @@ fn gather(
     starts: &mut [u32; 256],
     stops: &mut [u32; 256],
 ) -> Gathered
-    ensures { λ r. ⌜ reported r (now (nodes .exit)) (now (begins .exit)) (now (ends .exit)) (now (tasks .exit)) (now (deadlines .exit)) (now (starts .exit)) (now (stops .exit)) ≡ gatheredFrom (tableFrom (emptyTable .header) 0 0 (now (nodes .entry)) (now (begins .entry)) (now (ends .entry)) (now (tasks .entry)) (now (deadlines .entry)) (now (starts .entry)) (now (stops .entry))) (rules.records tableFollows 20 (now (s .entry))) ⌝ }
+    ensures { λ r. ⌜ reported r (now (nodes .exit)) (now (begins .exit)) (now (ends .exit)) (now (tasks .exit)) (now (deadlines .exit)) (now (starts .exit)) (now (stops .exit))
+        ≡ gatheredFrom (tableFrom (emptyTable .header) 0 0 (now (nodes .entry)) (now (begins .entry)) (now (ends .entry)) (now (tasks .entry)) (now (deadlines .entry)) (now (starts .entry)) (now (stops .entry))) (rules.records tableFollows 20 (now (s .entry))) ⌝ }
 {
     let mut head = Header::empty();
     let mut control = 0;

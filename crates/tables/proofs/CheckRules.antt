@@ -1,4 +1,4 @@
--- What `checker::check` answers by value, with the rows filled, is what the rules' `check` leaves. Assumes nothing.
+-- What `checker::check` answers by value, with the rows filled, is what the rules' `check` leaves.
 use mathlib.Core.Path.{_≡_, refl, sym, _∙_, subst}
 use mathlib.Core.List.{List, map}
 use mathlib.Core.Logic.{_⊎_, inl, inr}

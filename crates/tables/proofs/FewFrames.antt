@@ -1,4 +1,4 @@
--- Refusal 9: a laid out plan has at most 256 frames. Assumes nothing.
+-- Refusal 9: a laid out plan has at most 256 frames.
 use mathlib.Core.Path.{_≡_, subst}
 use lib.ListN.{length}
 use Prim.Native.Nat.{_≤_}

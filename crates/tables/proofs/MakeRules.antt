@@ -1,4 +1,4 @@
--- What `maker::made` answers by value, with the rows filled, is what the rules' `make` leaves. Assumes nothing.
+-- What `maker::made` answers by value, with the rows filled, is what the rules' `make` leaves.
 use mathlib.Core.Bool.{Bool, true, false}
 use mathlib.Core.Path.{_≡_, refl, sym, ap, _∙_, subst}
 use mathlib.Core.List.{List, [], _∷_, map}

@@ -1,4 +1,4 @@
--- No second answer, no second list of lent rows and no second buffer say what the rules say. Assumes nothing.
+-- No second answer, no second list of lent rows and no second buffer say what the rules say.
 use mathlib.Core.Path.{_≡_, sym, _∙_}
 use mathlib.Core.List.{List}
 use Prim.Native.Nat.{ℕ}

@@ -1,18 +1,16 @@
 -- A number and its digits: the digits of a number stand for it again, and a line `refused N at P` tells N and P.
--- Assumes nothing.
 use mathlib.Core.Bool.{Bool, true, false, _&&_, true≢false}
 use mathlib.Core.List.{List, [], _∷_, _++_, append-nil}
-use mathlib.Core.Path.{_≡_, refl, sym, ap, ap₂, _∙_}
-use native.Mathlib.Nat.{pow-zero, pow-succ', add-zero}
+use mathlib.Core.Path.{_≡_, refl, sym, ap, _∙_}
+use native.Mathlib.Nat.{pow-zero, pow-succ'}
 use native.Mathlib.Omega.{arith}
-use lib.Dec.{leb}
 use lib.ListN.{length, drop, length-append}
 use lib.Seq.{drop-append-seam}
 use borrow.Author.Tests.{le-leb}
 use Prim.Native.Nat.{ℕ, zero, suc, _+_, _-_, _*_, _/_, _%_, _^_, _≤_, _<_}
 use Rattle.laws.specs.Lists.{all}
 use Rattle.laws.proofs.Lists.{all-snoc}
-use Rattle.text.specs.Text.{digitsWithin, digits, decimal, refusedWord, atWord, lineFeed, refusedLine, isDigit, runOn, digitRun, valueFrom}
+use Rattle.text.specs.Text.{digitsWithin, digits, decimal, atWord, lineFeed, refusedLine, isDigit, runOn, digitRun, valueFrom}
 
 -- any bound that is large enough gives the same digits
 enough : (m k n : ℕ) → n ≤ m → n ≤ k → digitsWithin m n ≡ digitsWithin k n

@@ -1,5 +1,4 @@
 -- A line at the front of lent bytes: its length counts bytes of them, which is what `io` asks for before it writes them.
--- Assumes nothing.
 use mathlib.Core.List.{List}
 use mathlib.Core.Path.{_≡_, sym, ap, _∙_}
 use native.Mathlib.Omega.{arith}

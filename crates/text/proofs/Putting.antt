@@ -1,5 +1,4 @@
 -- Text stored byte by byte, or piece by piece, is the text stored at once.
--- Assumes nothing.
 use mathlib.Core.List.{List, [], _∷_, _++_}
 use mathlib.Core.Path.{_≡_, refl, sym, ap, ap₂, _∙_}
 use native.Mathlib.Nat.{add-zero}
@@ -7,7 +6,7 @@ use native.Mathlib.Numerals.{add-one}
 use native.Mathlib.Omega.{arith}
 use lib.ListN.{length, getD, take, set, length-append}
 use lib.Seq.{sets, take-suc, length-take-le}
-use Prim.Native.Nat.{ℕ, zero, suc, _+_, _/_, _%_, _≤_, _<_}
+use Prim.Native.Nat.{ℕ, _+_, _/_, _%_, _≤_, _<_}
 use Rattle.laws.proofs.Laid.{sets-append}
 use Rattle.text.specs.Text.{digits, decimal, refusedWord, atWord, lineFeed, refusedLine}
 use Rattle.text.proofs.Decimals.{digits-none, digits-more, decimal-zero, decimal-digits}

@@ -1,19 +1,17 @@
 -- A run of digits read from the front, with the value so far and the run that is left.
--- Assumes nothing.
 use mathlib.Core.Bool.{Bool, true, false, _&&_, true≢false}
 use mathlib.Core.List.{List, [], _∷_, _++_}
 use mathlib.Core.Path.{_≡_, refl, sym, ap, _∙_}
 use native.Mathlib.Nat.{add-zero}
 use native.Mathlib.Numerals.{add-one}
 use native.Mathlib.Omega.{arith}
-use lib.Dec.{leb, ltb}
+use lib.Dec.{leb}
 use lib.ListN.{length, getD, drop}
 use lib.Seq.{drop-append-seam}
 use borrow.Author.Tests.{leb-true, lt-ltb, le-ltb}
 use Prim.Native.Nat.{ℕ, zero, suc, _+_, _-_, _*_, _^_, _≤_, _<_}
-use Rattle.text.specs.declared.Number.{Number}
 use Rattle.text.specs.declared.Number.the-variants.{Digits, None}
-use Rattle.text.specs.Text.{decimal, isDigit, runOn, digitRun, valueFrom, within64, numberAt, readDecimal}
+use Rattle.text.specs.Text.{decimal, isDigit, runOn, digitRun, valueFrom, numberAt, readDecimal}
 use Rattle.text.proofs.Decimals.{decimal-zero, decimal-digits, digits-count, value-decimal, run-decimal}
 
 digit-range : (t u : Bool) → (t && u) ≡ true → (t ≡ true) × (u ≡ true)

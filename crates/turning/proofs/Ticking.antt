@@ -1,4 +1,4 @@
--- A tick's answer, in the numbers that C has, is what the rules say. Assumes nothing.
+-- A tick's answer, in the numbers that C has, is what the rules say.
 use mathlib.Core.Path.{_≡_, refl, sym, ap, _∙_}
 use mathlib.Core.Bool.{true}
 use mathlib.Core.List.{List}

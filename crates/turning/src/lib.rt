@@ -1,20 +1,13 @@
 // A tick but for the nodes, in the numbers that C has.
 ghost use Rattle.answers.specs.Refusals.{said};
-ghost use mathlib.Core.List.{List};
-ghost use Rattle.rules.specs.StationRange.{ticked};
-ghost use Rattle.stationruns.specs.Inputs.{inputOf};
-ghost use Rattle.station.specs.Memory.{keptOf, stateOf};
-ghost use Rattle.station.specs.Turns.{Valued, stationBy};
-ghost use Rattle.stationnodes.specs.declared.Node.{Node};
-ghost use Rattle.turning.specs.Turning.{TurnsFor};
-ghost use Rattle.outward.specs.Numbers.{changesFor, givensFor};
+ghost use Rattle.station.specs.Turns.{stationBy};
+ghost use Rattle.turning.specs.Turning.{TurnsWith};
 use outward::Answer;
 use outward::Row;
 use outward::answer_said;
 use outward::changes_for;
 use outward::givens_for;
 use outward::row_said;
-use station::Station;
 use station::Turn;
 use stationrefusals::Controls;
 use stationrefusals::Modes;
@@ -54,7 +47,8 @@ pub fn turn_for<'a>(
     modes: &[u8; 16],
     changed: &[u8; 16],
 ) -> Answered
-    ensures { λ r. ⌜ ((nodes : List Node) → Valued nodes → TurnsFor (stationBy modules running tasks controls datas period (now (runs .entry)) (now (carries .entry)) (now (deadlines .entry)) (now (starts .entry)) (now (stops .entry)) play nodes) (ticked (keptOf (stationBy modules running tasks controls datas period (now (runs .entry)) (now (carries .entry)) (now (deadlines .entry)) (now (starts .entry)) (now (stops .entry)) play nodes)) (stateOf (stationBy modules running tasks controls datas period (now (runs .entry)) (now (carries .entry)) (now (deadlines .entry)) (now (starts .entry)) (now (stops .entry)) play nodes)) (inputOf (givensFor (now (results .entry)) (now (given .entry))) (changesFor (now (modes .entry)) (now (changed .entry))))) r) ⌝ }
+    ensures { λ r. ⌜ TurnsWith (stationBy modules running tasks controls datas period (now (runs .entry)) (now (carries .entry)) (now (deadlines .entry)) (now (starts .entry)) (now (stops .entry)) play)
+        (now (results .entry)) (now (given .entry)) (now (modes .entry)) (now (changed .entry)) r ⌝ }
 {
     let turned = station::turned_by(
         givens_for(results, given),

@@ -1,3 +1,4 @@
+-- `afterLine` unfolds into the numbered line that `put_numbered` promises.
 use Rattle.answerlines.specs.Writing.{afterLine}
 use borrow.Author.Needs.{needs}
 use Rattle.answerlines.proofs.put_after.Statement.{statement}

@@ -1,3 +1,4 @@
+-- `begunLine` unfolds into the bytes that `put_bytes` promises.
 use Rattle.answerlines.specs.Writing.{begunLine}
 use borrow.Author.Needs.{needs}
 use Rattle.answerlines.proofs.put_begun.Statement.{statement}

@@ -1,3 +1,4 @@
+-- The mark and the number, put one behind the other, are one text (`both-put`); `marked-few` counts its bytes.
 use Rattle.answerlines.proofs.Lines.{marked-few}
 use Rattle.text.proofs.Putting.{both-put}
 use native.Mathlib.Omega.{arith}

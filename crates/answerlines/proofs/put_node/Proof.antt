@@ -1,3 +1,4 @@
+-- Invariant: the texts of the first t places are put (`Putting`), at most 63 bytes each; a turn is `putting-turn`.
 use Rattle.answerlines.proofs.Lines.{Putting, putting-none, putting-turn, putting-end, putting-length}
 use Rattle.answerlines.specs.Writing.{shownAt}
 use Prim.Native.Nat.{_+_, _-_, _*_, _≤_}

@@ -1,3 +1,4 @@
+-- `numbered-put` joins the marked number and the line feed; arithmetic counts the bytes.
 use Rattle.answerlines.proofs.Lines.{numbered-put}
 use native.Mathlib.Omega.{arith}
 use borrow.Author.Needs.{needs}

@@ -1,3 +1,4 @@
+-- Two cases: a zero puts nothing (`zero-put`); else three marked numbers are joined (`place-put`).
 use Rattle.answerlines.proofs.Lines.{zero-put, place-put}
 use native.Mathlib.Omega.{arith}
 use borrow.Author.Needs.{needs}

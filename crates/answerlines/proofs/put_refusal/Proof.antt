@@ -1,3 +1,4 @@
+-- The promises of `number` and `place` are rewritten into that of `put_refused`; `refused-line-most` bounds the length.
 use Rattle.answerlines.specs.Writing.{refusalLine}
 use Rattle.text.proofs.Decimals.{refused-line-most}
 use native.Mathlib.Omega.{arith}

@@ -1,3 +1,4 @@
+-- Two cases: where the nodes put no byte, a dash follows (`none-shown`), else only the line feed (`some-shown`).
 use Rattle.answerlines.proofs.Lines.{none-shown, some-shown}
 use native.Mathlib.Omega.{arith}
 use borrow.Author.Needs.{needs}

@@ -1,3 +1,4 @@
+-- Case by case of what is said, the callee's promise is rewritten into the definition.
 use native.Mathlib.Omega.{arith}
 use borrow.Author.Needs.{needs}
 use Rattle.answerlines.proofs.put_ticked.Statement.{statement}

@@ -1,3 +1,4 @@
+-- `unreadableLine` unfolds into the numbered line that `put_numbered` promises.
 use Rattle.answerlines.specs.Writing.{unreadableLine}
 use borrow.Author.Needs.{needs}
 use Rattle.answerlines.proofs.put_unreadable.Statement.{statement}

@@ -1,3 +1,4 @@
+-- Two cases of `check`: refused (`refused-begins`), or passed (`passed-begins`), where `passes` yields what `kept` requires.
 use denote.Ref.{now}
 use Rattle.beginning.proofs.Passing.{passes, refused-begins, plan-sound, rows-few, passed-begins}
 use borrow.Author.Needs.{needs}

@@ -1,3 +1,4 @@
+-- Invariant: the table is that of the first i connections; each turn is `bus-tasks-turn`, and `take-all` makes them all.
 use mathlib.Core.Path.{_≡_, sym, _∙_}
 use native.Mathlib.Omega.{arith}
 use Prim.Native.Nat.{ℕ, _≤_, _<_, _-_}

@@ -1,3 +1,4 @@
+-- Invariant: the table counts the first m modules (`payloadBy`); a turn is `payloads-turn`, and `payload-fits` bounds a count.
 use mathlib.Core.Path.{_≡_}
 use native.Mathlib.Omega.{arith}
 use Prim.Native.Nat.{_≤_, _-_}

@@ -1,3 +1,4 @@
+-- Invariant: the table is that of the first i invocations (`invokedBy`); each turn is `invoked-more`, the end `take-all`.
 use borrow.Author.Needs.{needs}
 use mathlib.Core.Path.{_≡_, sym, _∙_}
 use native.Mathlib.Omega.{arith}

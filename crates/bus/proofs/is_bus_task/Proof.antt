@@ -1,3 +1,4 @@
+-- The table of `Senders::of` is rewritten into `sendersOf` and read at the task's number by `at-number`.
 use mathlib.Core.Bool.{false}
 use native.Mathlib.Omega.{arith}
 use Rattle.bus.specs.Senders.{sendersOf}

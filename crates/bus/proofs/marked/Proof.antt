@@ -1,3 +1,4 @@
+-- Each exit computes; where the task is invoked, both tests are rewritten into the definition.
 use borrow.Author.Needs.{needs}
 use Rattle.bus.proofs.marked.Statement.{statement}
 use Rattle.bus.proofs.marked.Tie as tie

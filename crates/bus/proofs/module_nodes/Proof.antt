@@ -1,3 +1,4 @@
+-- Invariant: the first m places hold the nodes of their modules (`stores`); behind the last module stands 0 (`filled-of`).
 use borrow.Author.Needs.{needs}
 use mathlib.Core.Path.{_≡_, refl, sym, _∙_}
 use lib.ListN.{length, getD, replicate}

@@ -1,3 +1,4 @@
+-- The test decides the `cond`; where it fails, adding 0 changes nothing (`add-zero`).
 use borrow.Author.Needs.{needs}
 use native.Mathlib.Nat.{add-zero}
 use Rattle.bus.proofs.one_more.Statement.{statement}

@@ -1,3 +1,4 @@
+-- Invariant: the table is that of the first t tasks (`sendingBy`); each turn is `sending-turn`, and at the end t is their number.
 use mathlib.Core.Path.{_≡_}
 use native.Mathlib.Omega.{arith}
 use Prim.Native.Nat.{_≤_, _-_}

@@ -1,3 +1,4 @@
+-- Invariant: the first t places hold the homes of their tasks (`stores`); behind the last task stands 0 (`filled-of`).
 use borrow.Author.Needs.{needs}
 use mathlib.Core.Path.{_≡_, refl, sym, ap, _∙_}
 use lib.ListN.{length, getD, replicate}

@@ -1,3 +1,4 @@
+-- Invariant: the first t places are filled by `node-there`; a place behind the tasks holds the node of module 0 (`node-behind`).
 use mathlib.Core.Path.{_≡_, refl, _∙_}
 use native.Mathlib.Omega.{arith}
 use Prim.Native.Nat.{_≤_, _-_}

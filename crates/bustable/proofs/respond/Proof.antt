@@ -1,3 +1,4 @@
+-- Three exits: too long, made, refused; each is one law (`long-response`, `made-response`, `refused-response`).
 use native.Mathlib.Omega.{arith}
 use Rattle.bustable.proofs.Answers.{long-response, made-response, refused-response}
 use borrow.Author.Needs.{needs}

@@ -1,3 +1,4 @@
+-- Plain rewriting of what `Rows::none` promises.
 use borrow.Author.Needs.{needs}
 use Rattle.checked.proofs.refused.Statement.{statement}
 use Rattle.checked.proofs.refused.Tie as tie

@@ -1,3 +1,4 @@
+-- Plain computation: `rowsOn` unfolds to the record returned.
 use Rattle.checked.specs.Checking.{rowsOn}
 use borrow.Author.Needs.{needs}
 use Rattle.checked.proofs.rows_on.Statement.{statement}

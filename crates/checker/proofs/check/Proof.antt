@@ -1,3 +1,4 @@
+-- Five exits, one law each, from too few rows (`way-few`) to a pass (`way-passed`); `judge-ready` is what `judge` requires.
 use mathlib.Core.Path.{refl}
 use Rattle.checker.proofs.Ways.{judge-ready, way-few, way-plan, way-records, way-judged, way-passed}
 use borrow.Author.Needs.{needs}

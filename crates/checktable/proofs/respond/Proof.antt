@@ -1,3 +1,4 @@
+-- Four exits, one law each: `long-plan`, `long-table`, `passed-response`, `refused-response`.
 use native.Mathlib.Omega.{arith}
 use Rattle.checktable.proofs.Answers.{long-plan, long-table, passed-response, refused-response}
 use borrow.Author.Needs.{needs}

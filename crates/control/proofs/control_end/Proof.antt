@@ -1,3 +1,4 @@
+-- Invariant: `next` and `stop` are those behind the first n nodes, each at most n * 2 ^ 48; a node that sends moves both.
 use borrow.Author.Needs.{needs}
 use mathlib.Core.Path.{_≡_, refl, sym, _∙_}
 use native.Mathlib.Omega.{arith}

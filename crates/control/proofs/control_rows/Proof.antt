@@ -1,4 +1,4 @@
--- The invariant: the rows of the nodes passed stand in the arrays (`Shown`). A row's stop fits since none is behind C (`shown-fits`).
+-- Invariant: the rows of the nodes passed stand in the arrays (`Shown`). Each stop fits, since none is behind C (`shown-fits`).
 use borrow.Author.Needs.{needs}
 use native.Mathlib.Omega.{arith}
 use mathlib.Core.Logic.{⊎-elim}

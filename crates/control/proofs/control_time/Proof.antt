@@ -1,3 +1,4 @@
+-- The promise of `sending_time` is the statement, once `seen` is unfolded.
 use borrow.Author.Needs.{needs}
 use Rattle.plan.specs.Memory.{seen}
 use Rattle.control.proofs.control_time.Statement.{statement}

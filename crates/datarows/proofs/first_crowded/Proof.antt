@@ -1,5 +1,4 @@
--- `judging::rowrules::first_crowded` meets its contract: no row before starts within a gap.
--- Assumes nothing.
+-- Invariant: no row so far breaks `gapKept`; a turn is `firstBad-upTo-more`, a hit `scan-hit`, the end `scan-end`.
 use mathlib.Core.Path.{_≡_, refl, sym}
 use mathlib.Core.Option.{none}
 use Prim.Native.Nat.{_-_, _≤_}

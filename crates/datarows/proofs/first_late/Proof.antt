@@ -1,5 +1,4 @@
--- `judging::rowrules::first_late` meets its contract: no row before stops after its deadline.
--- Assumes nothing.
+-- Invariant: no row so far breaks `dueKept`; a turn is `firstBad-upTo-more`, a hit `scan-hit`, the end `scan-end`.
 use mathlib.Core.Path.{_≡_, refl}
 use mathlib.Core.Option.{none}
 use Prim.Native.Nat.{_-_, _≤_}

@@ -1,5 +1,4 @@
--- `judging::rowrules::on_grid` meets its contract: 1 divides every number.
--- Assumes nothing.
+-- 1 divides every number (`one-dvd`, `divides-is`); any other resolution is what `divides` promises.
 use mathlib.Core.Path.{sym}
 use native.Mathlib.Nat.{one-dvd}
 use Rattle.laws.proofs.Divisors.{divides-is}

@@ -1,5 +1,4 @@
--- `judging::rowrules::release_of` meets its contract.
--- Assumes nothing.
+-- Both exits compute: the test decides that of `lookIn`.
 use borrow.Author.Tests.{lt-ltb, le-ltb}
 use Rattle.naming.specs.Places.{lookIn}
 use borrow.Author.Needs.{needs}

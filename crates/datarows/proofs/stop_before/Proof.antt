@@ -1,5 +1,4 @@
--- `judging::rowrules::stop_before` meets its contract.
--- Assumes nothing.
+-- The first row computes; for a later one `before-at` reads the place before.
 use Rattle.naming.proofs.Places.{before-at}
 use borrow.Author.Needs.{needs}
 use Rattle.datarows.proofs.stop_before.Statement.{statement}

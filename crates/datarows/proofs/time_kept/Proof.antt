@@ -1,5 +1,4 @@
--- `judging::rowrules::time_kept` meets its contract: nothing wraps in 64 bits.
--- Assumes nothing.
+-- Both exits compute: the test on what `wide` and `later` promise decides the conjunction; then `on_grid` has the rest.
 use mathlib.Core.Path.{sym}
 use borrow.Author.Tests.{eq-eqb, ne-eqb}
 use borrow.Author.Needs.{needs}

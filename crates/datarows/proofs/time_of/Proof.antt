@@ -1,5 +1,4 @@
--- `judging::rowrules::time_of` meets its contract.
--- Assumes nothing.
+-- Both exits compute: the test, on the place of the task, decides that of `lookIn`.
 use mathlib.Core.Path.{sym}
 use borrow.Author.Tests.{lt-ltb, le-ltb}
 use Rattle.naming.specs.Places.{lookIn}

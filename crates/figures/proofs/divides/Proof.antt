@@ -1,3 +1,4 @@
+-- The promise of `rest` is rewritten: the test is the definition's own.
 use borrow.Author.Needs.{needs}
 use Rattle.figures.proofs.divides.Statement.{statement}
 use Rattle.figures.proofs.divides.Tie as tie

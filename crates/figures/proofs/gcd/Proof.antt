@@ -1,3 +1,4 @@
+-- Invariant: the gcd of the pair held is that of the pair given; each turn is `gcd-step`, and the remainder is below the divisor.
 use borrow.Author.Needs.{needs}
 use mathlib.Core.Path.{_≡_, refl, sym, _∙_}
 use native.Mathlib.Nat.{mod-lt}

@@ -1,3 +1,4 @@
+-- Where a divides b, b is the lcm (`lcm-unique`); else the gcd is not 0 (`some`), and the definition's product fits 64 bits.
 use mathlib.Core.Path.{_≡_, sym, _∙_}
 use mathlib.Core.Bool.{false}
 use mathlib.Core.Logic.{_⊎_, inl, inr}

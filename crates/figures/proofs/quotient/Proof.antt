@@ -1,3 +1,4 @@
+-- Two cases: by 0 the quotient is 0 (`div-zero`); else it is the division itself.
 use native.Mathlib.Nat.{div-zero}
 use borrow.Author.Needs.{needs}
 use Rattle.figures.proofs.quotient.Statement.{statement}

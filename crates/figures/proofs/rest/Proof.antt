@@ -1,3 +1,4 @@
+-- Two cases: by 0 the rest is the number itself (`mod-zero`); else it is the remainder itself.
 use mathlib.Core.Path.{sym}
 use native.Mathlib.Nat.{mod-zero}
 use borrow.Author.Needs.{needs}

@@ -1,3 +1,4 @@
+-- In each exit the test decides the definition's own test (`end-none`, `end-all`); the bound is arithmetic.
 use borrow.Author.Needs.{needs}
 use Rattle.framerows.proofs.Filled.{end-none, end-all}
 use Rattle.framerows.proofs.end_in.Statement.{statement}

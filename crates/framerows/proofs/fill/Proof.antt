@@ -1,5 +1,4 @@
--- `framerows::fill` meets its contract: a walk of its MIR, by hand, with a loop. The borrow is open over the loop, and the frame table is a second row (`Two.antt`).
--- All that it knows of `frame_table`, `end_in` and `within` is that each meets its contract. Assumes nothing.
+-- A walk of the MIR by hand, the borrow open over its loop. Invariant: the first k rows are written; a turn is `stores-turn`.
 use mathlib.Core.Path.{_≡_, refl, sym, _∙_, ap, subst}
 use Prim.Native.Nat.{ℕ, _+_, _-_, _*_, _≤_, _<_, _^_, zero-le}
 use native.Mathlib.Nat.{lt-of-lt-of-le, le-antisymm}

@@ -1,3 +1,4 @@
+-- Invariant: the first k places hold their frames, the others zero rows (`stores`); a turn is `stores-turn`.
 use mathlib.Core.Path.{_≡_}
 use Prim.Native.Nat.{_-_, _≤_}
 use native.Mathlib.Omega.{arith}

@@ -1,3 +1,4 @@
+-- In each exit the test decides the definition's own test (`within-below`, `within-past`); the bound is arithmetic.
 use borrow.Author.Needs.{needs}
 use Rattle.framerows.proofs.Filled.{within-below, within-past}
 use Rattle.framerows.proofs.within.Statement.{statement}

@@ -1,3 +1,4 @@
+-- Invariant: the frames before the place reached are stored (`Walked`); a turn takes one task and deadline, and the root rises.
 use mathlib.Core.Path.{refl}
 use native.Mathlib.Omega.{arith}
 use Prim.Native.Nat.{_-_}

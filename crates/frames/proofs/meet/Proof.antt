@@ -1,3 +1,4 @@
+-- Invariant: `best` is at least the ends of the runs already past, at most the latest of all (`Taking`); a turn raises the root.
 use mathlib.Core.Path.{refl}
 use native.Mathlib.Nat.{le-of-dvd}
 use native.Mathlib.Omega.{arith}

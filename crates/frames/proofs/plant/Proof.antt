@@ -1,3 +1,4 @@
+-- Invariant: the first i runs have their keys, the rest the limit (`Planting`); each turn is `planting-more`.
 use mathlib.Core.Path.{refl}
 use native.Mathlib.Omega.{arith}
 use Prim.Native.Nat.{_-_}

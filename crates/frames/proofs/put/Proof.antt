@@ -1,3 +1,4 @@
+-- Three cases: no frame (`put-nothing`), no place left (`put-full`), and one frame stored (`put-one`).
 use native.Mathlib.Omega.{arith}
 use borrow.Author.Needs.{needs}
 use Rattle.frames.proofs.Storing.{put-nothing, put-full, put-one}

@@ -1,3 +1,4 @@
+-- In each branch the test decides the definition's own `cond` (`lt-ltb`, `le-ltb`).
 use lib.ListN.{length}
 use borrow.Author.Tests.{lt-ltb, le-ltb}
 use native.Mathlib.Numerals.{add-one}

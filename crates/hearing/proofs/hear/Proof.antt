@@ -1,3 +1,4 @@
+-- Case by case of what the line says, the callees' promises are rewritten into `heardLine`.
 use Rattle.hearing.specs.Heard.{heardLine}
 use borrow.Author.Needs.{needs}
 use Rattle.hearing.proofs.hear.Statement.{statement}

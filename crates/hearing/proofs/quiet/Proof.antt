@@ -1,3 +1,4 @@
+-- Invariant: the ticks left lead to the same last station (`Going`); behind a refusal they change nothing (`going-refused`).
 use mathlib.Core.Path.{sym, _∙_}
 use Rattle.hearing.proofs.Ticking.{left, Going, going-none, going-turn, going-refused, going-end}
 use Rattle.hearing.specs.Heard.{afterTick, afterNothing}

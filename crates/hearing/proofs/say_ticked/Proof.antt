@@ -1,3 +1,4 @@
+-- The line is no longer than the buffer, so that the part written has its length (`length-take-le`).
 use native.Mathlib.Omega.{arith}
 use lib.Seq.{length-take-le}
 use mathlib.Core.Path.{sym}

@@ -1,3 +1,4 @@
+-- `left` reads from the promise of the station's `tick` what the rule leaves, which is `afterTick` unfolded.
 use Rattle.hearing.proofs.Ticking.{left}
 use Rattle.hearing.specs.Heard.{afterTick}
 use borrow.Author.Needs.{needs}

@@ -1,3 +1,4 @@
+-- Both cases compute; where a result is given, the case is rewritten into the definition.
 use borrow.Author.Needs.{needs}
 use Rattle.history.proofs.as_change.Statement.{statement}
 use Rattle.history.proofs.as_change.Tie as tie

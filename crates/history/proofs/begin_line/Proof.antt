@@ -1,3 +1,4 @@
+-- The promise of `ended_by`, into which that of `none` is rewritten.
 use mathlib.Core.Path.{_∙_}
 use borrow.Author.Needs.{needs}
 use Rattle.history.proofs.begin_line.Statement.{statement}

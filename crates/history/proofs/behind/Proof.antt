@@ -1,3 +1,4 @@
+-- Invariant: the first i bytes match, and what is left of the word decides (`Matched`); each exit is one law of it.
 use Rattle.history.proofs.Words.{Matched, matched-none, matched-turn, matched-short, matched-wrong, matched-end}
 use lib.ListN.{length}
 use Prim.Native.Nat.{_-_, _≤_}

@@ -1,3 +1,4 @@
+-- In both branches the promises of `modes` and `is_end` and the test are rewritten into the definition.
 use mathlib.Core.Path.{_∙_}
 use borrow.Author.Needs.{needs}
 use Rattle.history.proofs.ended_by.Statement.{statement}

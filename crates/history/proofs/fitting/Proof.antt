@@ -1,3 +1,4 @@
+-- Three exits: no pair, one that fits, one that does not; each rewrites the callees' promises into `fits`.
 use borrow.Author.Needs.{needs}
 use Rattle.history.proofs.fitting.Statement.{statement}
 use Rattle.history.proofs.fitting.Tie as tie

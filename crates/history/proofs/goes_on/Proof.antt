@@ -1,3 +1,4 @@
+-- Three exits: no space, a digit behind it, none; each rewrites the callees' promises into `goesOn`.
 use Rattle.history.specs.Reading.{goesOn}
 use borrow.Author.Needs.{needs}
 use Rattle.history.proofs.goes_on.Statement.{statement}

@@ -1,3 +1,4 @@
+-- Both cases compute; where there is an end, the case is rewritten into the definition.
 use borrow.Author.Needs.{needs}
 use Rattle.history.proofs.is_end.Statement.{statement}
 use Rattle.history.proofs.is_end.Tie as tie

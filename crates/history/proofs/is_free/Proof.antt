@@ -1,3 +1,4 @@
+-- A place within is what the method promises; behind the list stands its default (`List·getD-eq-default`), which is free.
 use Rattle.history.specs.Reading.{isFree, noPlace}
 use Prim.Native.Nat.{_≤_}
 use lib.ListN.{length, List·getD-eq-default}

@@ -1,3 +1,4 @@
+-- Invariant: the line ends where it did, sought from here; a turn is `line-more`, the exits are `line-feed` and `line-over`.
 use Rattle.history.proofs.Words.{line-over, line-feed, line-more}
 use Rattle.history.specs.Reading.{lineEnd}
 use lib.ListN.{length}

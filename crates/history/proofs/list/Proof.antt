@@ -1,3 +1,4 @@
+-- In both cases the promise of `behind` is rewritten into `listAt`, and that of `none` or `pairs` closes it.
 use Rattle.history.specs.Reading.{listAt}
 use mathlib.Core.Path.{_∙_}
 use borrow.Author.Needs.{needs}

@@ -1,3 +1,4 @@
+-- Four exits: one of three parts is missing, or none is; each rewrites the callees' promises into `pairAt`.
 use Rattle.history.specs.Reading.{pairAt}
 use borrow.Author.Needs.{needs}
 use Rattle.history.proofs.pair_at.Statement.{statement}

@@ -1,3 +1,4 @@
+-- Invariant: the pairs from here on complete the whole list (`Going`); each turn ends further on (`going-less`).
 use Rattle.history.proofs.Listing.{Going, going-none, going-wrong, going-end, going-less, going-turn}
 use lib.ListN.{length}
 use Prim.Native.Nat.{_-_}

@@ -1,3 +1,4 @@
+-- Three exits: no number, one that ends the line, one that does not; each is rewritten into the definition.
 use mathlib.Core.Path.{_∙_}
 use borrow.Author.Tests.{eq-eqb, ne-eqb}
 use borrow.Author.Needs.{needs}

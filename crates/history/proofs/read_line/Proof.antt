@@ -1,3 +1,4 @@
+-- Four exits, by the word that stands in front or none; each rewrites the callees' promises into `readLine`.
 use Rattle.history.specs.Reading.{readLine}
 use mathlib.Core.Path.{_∙_}
 use borrow.Author.Needs.{needs}

@@ -1,3 +1,4 @@
+-- Three exits: no results, no word `modes`, or both; each rewrites the callees' promises into the definition.
 use mathlib.Core.Path.{_∙_}
 use borrow.Author.Needs.{needs}
 use Rattle.history.proofs.tick_line.Statement.{statement}

@@ -1,3 +1,4 @@
+-- A store within computes; one behind the end changes nothing (`set-out`).
 use lib.Seq.{set-out}
 use native.Mathlib.Omega.{arith}
 use mathlib.Core.Path.{sym}

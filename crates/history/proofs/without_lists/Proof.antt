@@ -1,3 +1,4 @@
+-- The promise of `none` is rewritten in for both lists; the rest computes.
 use borrow.Author.Needs.{needs}
 use Rattle.history.proofs.without_lists.Statement.{statement}
 use Rattle.history.proofs.without_lists.Tie as tie

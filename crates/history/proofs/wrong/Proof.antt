@@ -1,3 +1,4 @@
+-- The promise of `none` is rewritten in; the rest computes.
 use borrow.Author.Needs.{needs}
 use Rattle.history.proofs.wrong.Statement.{statement}
 use Rattle.history.proofs.wrong.Tie as tie

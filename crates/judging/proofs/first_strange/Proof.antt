@@ -1,5 +1,4 @@
--- `judging::first_strange` meets its contract: the part already seen is as fixed.
--- Assumes nothing.
+-- Invariant: the control rows so far are as fixed; a turn is `firstBad-upTo-more`, a hit `scan-hit`, the end `scan-end`.
 use mathlib.Core.Path.{_≡_, refl, sym, _∙_}
 use mathlib.Core.Option.{none}
 use Prim.Native.Nat.{_-_, _≤_}

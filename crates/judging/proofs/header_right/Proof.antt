@@ -1,5 +1,4 @@
--- `judging::header_right` meets its contract: one test after the other.
--- Assumes nothing.
+-- At each of the five exits the tests that led there decide the conjunction `headerSame`.
 use borrow.Author.Tests.{eq-eqb, ne-eqb}
 use Rattle.judging.specs.Judged.{headerSame}
 use Rattle.judging.proofs.header_right.Statement.{statement}

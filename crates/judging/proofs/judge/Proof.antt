@@ -1,5 +1,4 @@
--- `judging::judge` meets its contract: the header, the control rows, then the data rows.
--- Assumes nothing.
+-- Three exits: `wrong-header`, `strange-control`, `same-controls`; the header's test gives the counts that `by_rows` requires.
 use native.Mathlib.Omega.{arith}
 use borrow.Author.Tests.{not-true, not-false}
 use Rattle.laws.specs.Lists.{firstBad, upTo}

@@ -1,5 +1,4 @@
--- `judging::last_stop` meets its contract.
--- Assumes nothing.
+-- No control row computes; else `before-at` reads the place before.
 use Rattle.naming.proofs.Places.{before-at}
 use borrow.Author.Needs.{needs}
 use Rattle.judging.proofs.last_stop.Statement.{statement}

@@ -1,5 +1,4 @@
--- `judging::same_control` meets its contract.
--- Assumes nothing.
+-- At each of the three exits the tests that led there decide the conjunction.
 use borrow.Author.Tests.{eq-eqb, ne-eqb}
 use Rattle.judging.proofs.same_control.Statement.{statement}
 use Rattle.judging.proofs.same_control.Tie as tie

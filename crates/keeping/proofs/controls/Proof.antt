@@ -1,3 +1,4 @@
+-- Plain computation: `controlsOf` unfolds to the record returned.
 use mathlib.Core.Path.{refl}
 use Rattle.keeping.specs.Keeping.{controlsOf}
 use borrow.Author.Needs.{needs}

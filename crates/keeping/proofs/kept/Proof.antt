@@ -1,3 +1,4 @@
+-- Each part is its callee's promise; the tables by number that `modules` and `tasks` require are those of `Senders::of`.
 use native.Mathlib.Omega.{arith}
 use Rattle.bus.specs.Senders.{sendersOf}
 use Rattle.keeping.specs.Keeping.{keptFrom}

@@ -1,3 +1,4 @@
+-- Invariant: the three arrays are filled below m (`Filled`), each turn by `mode_at`; at the end each is whole (`filled-all`).
 use mathlib.Core.Path.{ap}
 use Prim.Native.Nat.{_≤_, _-_}
 use lib.ListN.{replicate}

@@ -1,3 +1,4 @@
+-- Invariant: both arrays are filled below m (`Filled`), the senders read by number (`by-number-at`); `filled-all` ends it.
 use Rattle.plan.specs.declared.Module.{Module}
 use mathlib.Core.Bool.{false}
 use mathlib.Core.Path.{ap}

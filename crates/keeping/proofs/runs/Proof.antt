@@ -1,3 +1,4 @@
+-- Invariant: the invocations from `left` on are stored (`Stored`); a turn is `stored-turn`, and `names` bounds its place.
 use mathlib.Core.Path.{ap, _∙_}
 use Prim.Native.Nat.{_-_}
 use native.Mathlib.Omega.{arith}

@@ -1,3 +1,4 @@
+-- Invariant: the four arrays are filled below t (`Filled`), and a size fits a byte (`size-small`); `filled-all` ends it.
 use mathlib.Core.Bool.{false}
 use mathlib.Core.Path.{ap}
 use Prim.Native.Nat.{_≤_, _-_}

@@ -1,3 +1,4 @@
+-- Each exit is a case of the rule's end: `ten-message`, `ten-control`, `eleven` or `sound`, by the tests failed and passed.
 use mathlib.Core.Path.{sym, ap, _∙_}
 use native.Mathlib.Omega.{arith}
 use borrow.Author.Tests.{not-true, not-false}

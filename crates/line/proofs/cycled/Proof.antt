@@ -1,3 +1,4 @@
+-- Each refusal is a case of the rule: `six`, `seven`, `eight`. Past them `past-eight` gives what `framed` requires.
 use mathlib.Core.Path.{refl, sym, ap, _∙_}
 use borrow.Author.Tests.{not-true, not-false}
 use Rattle.laws.proofs.Divisors.{divides-true}

@@ -1,3 +1,4 @@
+-- Two cases of the count: too many frames are refusal 9 (`nine`); else `few-frames` and `onward` give what `closed` requires.
 use mathlib.Core.Path.{sym}
 use Rattle.plan.specs.Memory.{seen}
 use Rattle.answers.specs.declared.Refusal.the-variants.{TooManyFrames}

@@ -1,3 +1,4 @@
+-- Two cases of the reading: a sound plan is kept and laid out (`sound-laid`), a refusal is passed on (`refused-laid`).
 use Rattle.line.proofs.Reading.{sound-kept, sound-laid, refused-laid}
 use borrow.Author.Needs.{needs}
 use Rattle.line.proofs.lay_out.Statement.{statement}

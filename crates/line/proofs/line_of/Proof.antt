@@ -1,4 +1,4 @@
--- Each part is the layout's by what is required, and the line that is built of them is the layout's line (`line-is`).
+-- Each part is the layout's by what is required; the line built of them is the layout's (`line-is`). The gap fits (`gap-small`).
 use Rattle.plan.specs.Memory.{seen, busSeen}
 use Rattle.payloads.proofs.Small.{gap-small}
 use Rattle.line.proofs.Built.{line-is}

@@ -1,3 +1,4 @@
+-- The promise of `Line::none` is rewritten into the record.
 use borrow.Author.Needs.{needs}
 use Rattle.line.proofs.refused.Statement.{statement}
 use Rattle.line.proofs.refused.Tie as tie

@@ -1,3 +1,4 @@
+-- Plain arithmetic: `needed` unfolded is the sum, and both counts are small.
 use Rattle.linetable.specs.Steps.{needed}
 use borrow.Author.Needs.{needs}
 use Rattle.linetable.proofs.bytes_needed.Statement.{statement}

@@ -1,3 +1,4 @@
+-- Three exits: no room for a frame (`no-room`), a short buffer (`short-made`), and the table written (`written-made`).
 use mathlib.Core.Path.{refl}
 use native.Mathlib.Omega.{arith}
 use lib.ListN.{length}

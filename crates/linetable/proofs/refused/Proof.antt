@@ -1,3 +1,4 @@
+-- The promise of `Rows::none` is rewritten into the record.
 use borrow.Author.Needs.{needs}
 use Rattle.linetable.proofs.refused.Statement.{statement}
 use Rattle.linetable.proofs.refused.Tie as tie

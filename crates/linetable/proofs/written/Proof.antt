@@ -1,3 +1,4 @@
+-- The callees' promises for rows, bytes and starts make the table by `written-table`; the line's laws grant what they require.
 use Rattle.linetable.proofs.Ways.{few-frames, few-controls, tasks-long, deadlines-long, times-long, written-table}
 use borrow.Author.Needs.{needs}
 use Rattle.linetable.proofs.written.Statement.{statement}

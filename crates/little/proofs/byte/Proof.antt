@@ -1,5 +1,4 @@
--- `records::little::byte` meets its contract: behind the end of a list its default stands.
--- Assumes nothing.
+-- Within, the read computes; behind the end, by either test, the default stands (`List·getD-eq-default`).
 use mathlib.Core.Path.{sym}
 use Prim.Native.Nat.{_+_}
 use denote.Ref.{now}

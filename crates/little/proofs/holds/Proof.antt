@@ -1,5 +1,4 @@
--- `records::little::holds` meets its contract: n bytes stand at a place if it is no further on than n bytes before the end.
--- Assumes nothing.
+-- Where there are n bytes, at ≤ end - n and at + n ≤ end are one test (`room-behind`); where not, the second is false.
 use mathlib.Core.Path.{_≡_, refl, sym}
 use mathlib.Core.Bool.{Bool, true, false}
 use native.Mathlib.Omega.{arith}

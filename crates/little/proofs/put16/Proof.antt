@@ -1,5 +1,4 @@
--- `records::little::put16` meets its contract: the bytes stored one by one are the number's.
--- Assumes nothing.
+-- The two bytes stored one by one are the number's (`stored-sets`).
 use denote.Ref.{now}
 use Rattle.laws.specs.Numbers.{bytes}
 use Rattle.laws.proofs.Little.{stored-sets}

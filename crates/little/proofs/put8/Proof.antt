@@ -1,5 +1,4 @@
--- `records::little::put8` meets its contract: the bytes stored one by one are the number's.
--- Assumes nothing.
+-- The byte stored is the number's, which is below 256 (`stored-sets`).
 use mathlib.Core.Path.{_≡_}
 use mathlib.Core.List.{_∷_, []}
 use Prim.Native.Nat.{_%_}

@@ -1,5 +1,4 @@
--- `records::little::put_whole` meets its contract: the bytes stored in their places are the number's.
--- Assumes nothing.
+-- The four bytes stored in their places are the number's (`stored-sets`); no store changes the length (`length-set`).
 use denote.Ref.{now}
 use mathlib.Core.Path.{_∙_, ap, sym}
 use Prim.Native.Nat.{ℕ, _+_, _/_, _%_}

@@ -1,5 +1,4 @@
--- `records::little::read8` meets its contract: the bytes added up are the number that they stand for.
--- Assumes nothing.
+-- The byte read is the number that it stands for (`number-added`).
 use native.Mathlib.Omega.{arith}
 use denote.Ref.{now}
 use Rattle.laws.proofs.Little.{number-added}

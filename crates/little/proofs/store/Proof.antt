@@ -1,5 +1,4 @@
--- `records::little::store` meets its contract: a store behind the end changes nothing.
--- Assumes nothing.
+-- A store within computes; one behind the end, by either test, changes nothing (`set-out`).
 use mathlib.Core.Path.{sym}
 use lib.Seq.{set-out}
 use borrow.Author.Needs.{needs}

@@ -1,3 +1,4 @@
+-- Three exits: `too-few-rows`, `plan-refused`, and a sound line's table (`placed-made`); each passes the check by `made-says`.
 use mathlib.Core.Path.{refl}
 use lib.ListN.{length}
 use Rattle.answers.specs.declared.Refusal.the-variants.{TooFewRows}

@@ -1,5 +1,4 @@
--- `judging::naming::before` meets its contract: the two ends bracket the place, and the key in the middle settles one side.
--- Assumes nothing.
+-- Invariant: the two ends bracket the place (`Bracket`); the middle key settles one side (`bracket-up`, `bracket-down`).
 use Prim.Native.Nat.{_-_}
 use native.Mathlib.Omega.{arith}
 use Rattle.naming.specs.Places.{keyAt}

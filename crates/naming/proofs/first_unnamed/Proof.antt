@@ -1,5 +1,4 @@
--- `judging::naming::first_unnamed` meets its contract: a row is new where its frame has a number and no mark.
--- Assumes nothing.
+-- Invariant: the rows so far are new, and their `marks` are set; a row past the frames or marked is the hit (`scan-hit`).
 use mathlib.Core.Path.{_≡_, refl}
 use mathlib.Core.Option.{none}
 use Prim.Native.Nat.{_-_, _≤_}

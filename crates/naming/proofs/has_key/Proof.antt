@@ -1,5 +1,4 @@
--- `judging::naming::has_key` meets its contract.
--- Assumes nothing.
+-- Both exits compute: the test decides that of `hasKey`.
 use borrow.Author.Tests.{lt-ltb, le-ltb}
 use Rattle.naming.specs.Places.{keyAt, hasKey}
 use borrow.Author.Needs.{needs}

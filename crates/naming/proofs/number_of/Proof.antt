@@ -1,6 +1,4 @@
--- `judging::naming::number_of` meets its contract: no two frames have one key, so the guess is right where the key stands there; else the
--- search parts the frames where the pair stands, or would stand.
--- Assumes nothing.
+-- No two frames have one key, so where it stands is the number (`look-found`); else the search missed it (`look-missed`).
 use Rattle.naming.proofs.Names.{look-found, look-missed}
 use borrow.Author.Needs.{needs}
 use Rattle.naming.proofs.number_of.Statement.{statement}

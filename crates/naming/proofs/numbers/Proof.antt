@@ -1,5 +1,4 @@
--- `judging::naming::numbers` meets its contract: one store for each row.
--- Assumes nothing.
+-- Invariant: the first k places are filled by `numberAt` (`stores`); a turn is `stores-turn` on what `number_of` promises.
 use mathlib.Core.Path.{_≡_, refl}
 use Prim.Native.Nat.{_-_, _≤_}
 use native.Mathlib.Omega.{arith}

@@ -1,5 +1,4 @@
--- `judging::naming::starts_by_frame` meets its contract: each start is laid at the number of its row's frame.
--- Assumes nothing.
+-- Invariant: the first k starts are laid out (`spread`); a turn lays one (`spread-more`), or none (`spread-past`).
 use mathlib.Core.Path.{_≡_, refl}
 use Prim.Native.Nat.{_-_, _≤_}
 use native.Mathlib.Omega.{arith}

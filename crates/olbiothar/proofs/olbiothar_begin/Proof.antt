@@ -1,3 +1,4 @@
+-- `begun-from` joins the promises of `changes_for`, `begin` and `answer_begun`.
 use Rattle.olbiothar.proofs.Beginning.{begun-from}
 use mathlib.Core.Path.{refl}
 use borrow.Author.Needs.{needs}

@@ -1,5 +1,4 @@
--- `olbiothar::olbiothar_check` meets its contract: a walk of its MIR, by hand. All that is lent goes to `tables::check` for good, at the borrows' own lifetimes, shares and names, and its answer
--- to `checked`; of both the proof knows only that they meet their contracts. Assumes nothing.
+-- A walk of the MIR by hand: all that is lent goes to `tables::check` for good, and its answer through `checked`.
 use mathlib.Core.Path.{_≡_, refl, ap, _∙_}
 use Prim.Native.Nat.{ℕ}
 use mathlib.Core.List.{List, [], _∷_}

@@ -1,5 +1,4 @@
--- `olbiothar::olbiothar_make` meets its contract: a walk of its MIR, by hand. All that is lent goes to `tables::make` for good, at the borrows' own lifetimes, shares and names, and its answer
--- to `made`; of both the proof knows only that they meet their contracts. Assumes nothing.
+-- A walk of the MIR by hand: all that is lent goes to `tables::make` for good, and its answer through `made`.
 use mathlib.Core.Path.{_≡_, refl, ap, _∙_}
 use Prim.Native.Nat.{ℕ}
 use mathlib.Core.List.{List, [], _∷_}

@@ -1,3 +1,4 @@
+-- Case by case, what is said is rewritten into the definition; a refusal adds the promise of `refused`.
 use borrow.Author.Needs.{needs}
 use Rattle.outward.proofs.answer_said.Statement.{statement}
 use Rattle.outward.proofs.answer_said.Tie as tie

@@ -1,3 +1,4 @@
+-- In both exits the flag decides the definition's own test (`change-none`, `change-some`).
 use Rattle.outward.proofs.Inputs.{change-none, change-some}
 use Rattle.outward.proofs.change_for.Statement.{statement}
 use Rattle.outward.proofs.change_for.Tie as tie

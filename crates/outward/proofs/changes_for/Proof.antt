@@ -1,3 +1,4 @@
+-- Invariant: the first m places are filled as the definition says (`Filled`); behind the last all are (`filled-end`).
 use Rattle.outward.specs.Numbers.{changeAt, changesFor}
 use Rattle.stationruns.specs.declared.Change.the-variants as change
 use Rattle.laws.proofs.Turns.{Filled, filled-none, filled-turn, filled-end}

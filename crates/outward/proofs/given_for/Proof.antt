@@ -1,3 +1,4 @@
+-- In both exits the flag decides the definition's own test (`given-none`, `given-some`).
 use Rattle.outward.proofs.Inputs.{given-none, given-some}
 use Rattle.outward.proofs.given_for.Statement.{statement}
 use Rattle.outward.proofs.given_for.Tie as tie

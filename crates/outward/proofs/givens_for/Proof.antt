@@ -1,3 +1,4 @@
+-- Invariant: the first t places are filled as the definition says (`Filled`); behind the last all are (`filled-end`).
 use Rattle.outward.specs.Numbers.{givenAt, givensFor}
 use Rattle.stationruns.specs.declared.Given.the-variants as giving
 use Rattle.laws.proofs.Turns.{Filled, filled-none, filled-turn, filled-end}

@@ -1,3 +1,4 @@
+-- The promises of `number` and `place` are rewritten in; the rest computes.
 use borrow.Author.Needs.{needs}
 use Rattle.outward.proofs.refused.Statement.{statement}
 use Rattle.outward.proofs.refused.Tie as tie

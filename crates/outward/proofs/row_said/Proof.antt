@@ -1,3 +1,4 @@
+-- Case by case, what is said is rewritten into the definition; where no row starts, so is the promise of `no_row`.
 use borrow.Author.Needs.{needs}
 use Rattle.outward.proofs.row_said.Statement.{statement}
 use Rattle.outward.proofs.row_said.Tie as tie

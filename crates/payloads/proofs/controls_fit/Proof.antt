@@ -1,3 +1,4 @@
+-- Invariant: the first n payloads fit (`all-on`). One that is too large ends the scan (`all-here`); else `all-end`.
 use mathlib.Core.Path.{_≡_, refl}
 use mathlib.Core.Bool.{true}
 use Prim.Native.Nat.{_-_, _≤_}

@@ -1,3 +1,4 @@
+-- Both exits compute: the test decides the `cond`.
 use Rattle.payloads.proofs.message_keeps.Statement.{statement}
 use Rattle.payloads.proofs.message_keeps.Tie as tie
 

@@ -1,3 +1,4 @@
+-- Invariant: the first t places hold their tasks' times (`stores-turn`); a kept plan's times fit (`time-small`).
 use mathlib.Core.Path.{_≡_}
 use native.Mathlib.Omega.{arith}
 use lib.ListN.{length, replicate}

@@ -1,3 +1,4 @@
+-- Invariant: the messages of the first t tasks fit (`all-on`). One that does not ends the scan (`all-here`); else `all-end`.
 use mathlib.Core.Path.{_≡_, refl, _∙_}
 use mathlib.Core.Bool.{true}
 use native.Mathlib.Omega.{arith}

@@ -1,3 +1,4 @@
+-- Invariant: none of the first t tasks is flagged (`any-on`). One that is ends the scan (`any-here`); else `any-end`.
 use mathlib.Core.Path.{_≡_, refl}
 use mathlib.Core.Bool.{false}
 use Prim.Native.Nat.{_-_, _≤_}

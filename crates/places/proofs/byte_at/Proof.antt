@@ -1,3 +1,4 @@
+-- Two cases: within the slice its byte, below 256 since the slice is of bytes; behind its end the default 0.
 use denote.Ref.{now}
 use mathlib.Core.Path.{sym}
 use lib.ListN.{List·getD-eq-default}

@@ -1,3 +1,4 @@
+-- Invariant: the first k modes pass (`bad-part-more`). One that fails ends the scan (`bad-part-hit`); else `bad-part-end`.
 use borrow.Author.Needs.{needs}
 use borrow.Author.Tests.{not-true, not-false}
 use mathlib.Core.Path.{_≡_, refl, sym, _∙_}

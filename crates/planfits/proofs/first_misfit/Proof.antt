@@ -1,3 +1,4 @@
+-- Invariant: the first k invocations fit; `fits-at` makes the test the rule's. One that fails is `met-upTo`, none `none-upTo`.
 use borrow.Author.Needs.{needs}
 use borrow.Author.Tests.{not-true, not-false}
 use mathlib.Core.Path.{_≡_, refl, sym, _∙_}
@@ -46,9 +47,16 @@ loop-again : tie.Need-loop-again Inv-loop μ-loop
 unfolding invocationLaid modeLaid taskLaid
 loop-again c = (
   search needs,
-  firstBad-upTo-more (fitsAt (seen (c .before .before .before .before .before .before .before .before .before .before .before .before .before .before .args .t1))) (c .before .before .before .before .before .before .before .before .before .before .loop .k) (c .before .before .before .before .before .before .before .before .before .before .loop .inv .1)
-      (fits-at (c .before .before .before .before .before .before .before .before .before .before .before .before .before .before .args .t1) (sizes (c .before .before .before .before .before .before .before .before .before .before .before .before .before .before .args .t1) _ (c .before .before .before .before .before .before .before .before .before .before .before .before .before .before .good .0)) _ (c .before .before .before .before .before .before .before .before .before .before .loop .k) _ _ (omega arith) refl
-      (c .before .before .before .before .mode-if .ensures ∙ rw (c .before .before .before .before .before .before .before .place .ensures, c .before .before .before .before .before .before .before .before .before .before .before .before .before .mode-count .ensures .0)) (c .before .before .task-if .ensures ∙ rw (c .before .before .before .before .before .before .place2 .ensures, c .before .before .before .before .before .before .before .before .before .before .before .before .task-count .ensures .0))
+  let c1 = c .before .before .before .before in
+      let c2 = c1 .before .before .before in
+      let c3 = c2 .before .before .before in
+      let c4 = c3 .before .before .before in
+      let c5 = c4 .before in
+      let a = c5 .args in
+      firstBad-upTo-more (fitsAt (seen (a .t1))) (c3 .loop .k) (c3 .loop .inv .1)
+      (fits-at (a .t1) (sizes (a .t1) _ (c5 .good .0)) _ (c3 .loop .k) _ _ (omega arith) refl
+      (c1 .mode-if .ensures ∙ rw (c2 .place .ensures, c4 .mode-count .ensures .0))
+      (c .before .before .task-if .ensures ∙ rw (c1 .before .before .place2 .ensures, c3 .before .before .task-count .ensures .0))
       ∙ sym (c .before .fits-its-mode .ensures) ∙ not-false _ (c .if1 .left)),
 )
 

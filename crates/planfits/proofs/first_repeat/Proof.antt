@@ -1,3 +1,4 @@
+-- Outer invariant: the first `later` are fresh; inner: none of the first `earlier` is the same run. A pair met is `pair-met`.
 use borrow.Author.Needs.{needs}
 use mathlib.Core.Path.{_≡_, refl}
 use mathlib.Core.Bool.{false}

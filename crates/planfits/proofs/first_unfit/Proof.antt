@@ -1,3 +1,4 @@
+-- Four exits, each a case of `rule5`: `unfit-module`, `unfit-mode`, `unfit-invocation`, `all-fit`; the counts bound each sum.
 use borrow.Author.Needs.{needs}
 use native.Mathlib.Omega.{arith}
 use Rattle.planfits.proofs.LowestUnfit.{unfit-module, unfit-mode, unfit-invocation, all-fit}

@@ -1,3 +1,4 @@
+-- Invariant: the first m modules have a mode. One that has none ends the scan (`met-upTo`); else `none-upTo`.
 use borrow.Author.Needs.{needs}
 use borrow.Author.Tests.{not-true, not-false}
 use mathlib.Core.Path.{_≡_, refl, sym, _∙_}

@@ -1,3 +1,4 @@
+-- The promises of `quotient`, `divides` and `both` are rewritten into `fitsThese`.
 use borrow.Author.Needs.{needs}
 use Rattle.plan.specs.Memory.{modeSeen, taskSeen}
 use Rattle.planfits.specs.Fits.{fitsThese}

@@ -1,3 +1,4 @@
+-- Invariant: none of the first k modes is of this home (`any-part-missed`). One that is ends the scan (`any-part-hit`).
 use borrow.Author.Needs.{needs}
 use borrow.Author.Tests.{eq-eqb, ne-eqb}
 use mathlib.Core.Path.{_≡_, refl, sym, _∙_}

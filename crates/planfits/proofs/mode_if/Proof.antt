@@ -1,3 +1,4 @@
+-- Both exits compute: the test decides the `cond`.
 use Rattle.plan.specs.Memory.{modeLaid}
 use Rattle.planfits.proofs.mode_if.Statement.{statement}
 use Rattle.planfits.proofs.mode_if.Tie as tie

@@ -1,3 +1,4 @@
+-- The promise of `both` is the statement, once `sameRun` is unfolded.
 use borrow.Author.Needs.{needs}
 use Rattle.rules.specs.Plan.{sameRun}
 use Rattle.plan.specs.Memory.{invocationSeen}

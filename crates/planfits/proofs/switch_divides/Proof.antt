@@ -1,3 +1,4 @@
+-- The promise of `divides` is the statement, once `switchDivides` is unfolded.
 use borrow.Author.Needs.{needs}
 use Rattle.rules.specs.Plan.{switchDivides}
 use Rattle.plan.specs.Memory.{modeSeen}

@@ -1,3 +1,4 @@
+-- Both exits compute: the test decides the `cond`.
 use Rattle.plan.specs.Memory.{taskLaid}
 use Rattle.planfits.proofs.task_if.Statement.{statement}
 use Rattle.planfits.proofs.task_if.Tie as tie

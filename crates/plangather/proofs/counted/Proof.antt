@@ -1,3 +1,4 @@
+-- Three exits: kind below 3, above 7, or a thing; the tests decide `isThing`, and the definitions compute.
 use borrow.Author.Needs.{needs}
 use borrow.Author.Tests.{lt-leb, le-leb}
 use native.Mathlib.Omega.{arith}

@@ -1,3 +1,4 @@
+-- Invariant: the plan so far and the walk still to come make the whole answer (`SoFar`); each kind's store is a `withRecord`.
 use borrow.Author.Needs.{needs}
 use mathlib.Core.Path.{sym, _∙_}
 use native.Mathlib.Omega.{arith}

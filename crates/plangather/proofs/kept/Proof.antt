@@ -1,3 +1,4 @@
+-- Three exits: the tests decide the definition's `ltb`; a kind of 8 or more has no places (`List·getD-eq-default`).
 use borrow.Author.Needs.{needs}
 use borrow.Author.Tests.{lt-ltb, le-ltb}
 use native.Mathlib.Omega.{arith}

@@ -1,3 +1,4 @@
+-- Five exits, one for each way of the rules: `way-count`, `way-names`, `way-ranges`, `way-unfit` and `way-sound`.
 use borrow.Author.Needs.{needs}
 use mathlib.Core.Path.{refl, sym, ap, _∙_}
 use Rattle.planfits.specs.Scans.{unfitOf}

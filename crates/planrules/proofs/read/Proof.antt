@@ -1,3 +1,4 @@
+-- Two cases of the gathering's outcome: whole, the promise of `judged` is passed on; broken, it is refusal 1 (`way-broken`).
 use borrow.Author.Needs.{needs}
 use mathlib.Core.Path.{sym, _∙_}
 use Rattle.planrules.proofs.Judging.{with-outcome, way-broken}

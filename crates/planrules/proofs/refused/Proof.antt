@@ -1,3 +1,4 @@
+-- The promise of `Plan::empty` is rewritten into the record.
 use borrow.Author.Needs.{needs}
 use Rattle.planrules.proofs.refused.Statement.{statement}
 use Rattle.planrules.proofs.refused.Tie as tie

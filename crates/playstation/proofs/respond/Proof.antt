@@ -1,3 +1,4 @@
+-- In both branches the tests of the lengths are rewritten into `answered`, and the callee's promise closes it.
 use Rattle.playstation.specs.Answered.{answered}
 use mathlib.Core.Path.{_∙_}
 use borrow.Author.Needs.{needs}

@@ -1,5 +1,4 @@
--- `records::allowed` meets its contract: each sort of file has its own order of kinds.
--- Assumes nothing.
+-- Three exits: an unknown kind makes the conjunction false; a known one has the promise of the order of its sort of file.
 use borrow.Author.Needs.{needs}
 use Rattle.records.proofs.allowed.Statement.{statement}
 use Rattle.records.proofs.allowed.Tie as tie

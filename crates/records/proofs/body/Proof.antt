@@ -1,5 +1,4 @@
--- `records::body` meets its contract: a part that is cut is what is left of the file, and one that lies behind it is empty.
--- Assumes nothing.
+-- Within the file it is the slice; a cut part is all that is left (`cut`); one turned or behind is empty (`turned`, `behind`).
 use mathlib.Core.Path.{_≡_, sym, _∙_}
 use mathlib.Core.List.{List, []}
 use mathlib.Core.Logic.{⊎-elim}

@@ -1,5 +1,4 @@
--- `records::body_at` meets its contract: the body is what the step that stands there says.
--- Assumes nothing.
+-- For a record it is what `body` promises at the step's places; any other step has the empty body (`none`).
 use mathlib.Core.Path.{_≡_, refl, sym, _∙_}
 use mathlib.Core.List.{List, [], _∷_}
 use mathlib.Core.Logic.{⊎-elim}

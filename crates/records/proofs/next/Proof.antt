@@ -1,5 +1,4 @@
--- `records::next` meets its contract: at each `return` the tests that led there are the definition's.
--- Assumes nothing.
+-- At each of the six exits the tests that led there decide those of `nextAt`; `known-length` gives an allowed kind's length.
 use mathlib.Core.Path.{sym, _∙_}
 use borrow.Author.Tests.{le-ltb, lt-ltb, le-leb, lt-leb, eq-eqb, ne-eqb}
 use Rattle.records.specs.Reader.{nextAt}

@@ -1,11 +1,9 @@
-use mathlib.Core.Path.{_≡_, refl, sym, ap, _∙_}
+-- Invariant: the rest, scattered on, gives the whole; a turn is `scatter-on`, or `scatter-past` for a number above 255.
+use mathlib.Core.Path.{_≡_, sym, _∙_}
 use Prim.Native.Nat.{_-_, _≤_}
-use native.Mathlib.Omega.{arith}
-use lib.ListN.{length, length-set, replicate}
-use Rattle.laws.specs.Loops.{stores}
-use Rattle.laws.proofs.Loops.{stores-none, stores-turn}
-use Rattle.rows.specs.Rows.{scattered, taskAt, stopAt, tableRows}
-use Rattle.rows.proofs.Filled.{getD-past, scatter-on, scatter-past, scatter-end, stop-past}
+use lib.ListN.{length}
+use Rattle.rows.specs.Rows.{scattered}
+use Rattle.rows.proofs.Filled.{scatter-on, scatter-past, scatter-end}
 use borrow.Author.Needs.{needs}
 use Rattle.rows.proofs.starts_by_number.Statement.{statement}
 use Rattle.rows.proofs.starts_by_number.Tie as tie

@@ -1,11 +1,7 @@
-use mathlib.Core.Path.{_≡_, refl, sym, ap, _∙_}
+-- For a task below 32 it computes; for another the time is 0, and the sum is the start itself (`stop-past`).
+use mathlib.Core.Path.{_≡_, _∙_}
 use Prim.Native.Nat.{_-_, _≤_}
-use native.Mathlib.Omega.{arith}
-use lib.ListN.{length, length-set, replicate}
-use Rattle.laws.specs.Loops.{stores}
-use Rattle.laws.proofs.Loops.{stores-none, stores-turn}
-use Rattle.rows.specs.Rows.{scattered, taskAt, stopAt, tableRows}
-use Rattle.rows.proofs.Filled.{getD-past, scatter-on, scatter-past, scatter-end, stop-past}
+use Rattle.rows.proofs.Filled.{stop-past}
 use borrow.Author.Needs.{needs}
 use Rattle.rows.proofs.stop_of.Statement.{statement}
 use Rattle.rows.proofs.stop_of.Tie as tie

@@ -1,11 +1,11 @@
-use mathlib.Core.Path.{_≡_, refl, sym, ap, _∙_}
+-- Invariant: the first j places of the three arrays are filled as the definition says (`stores`); a turn is `stores-turn`.
+use mathlib.Core.Path.{_≡_, _∙_}
 use Prim.Native.Nat.{_-_, _≤_}
 use native.Mathlib.Omega.{arith}
-use lib.ListN.{length, length-set, replicate}
+use lib.ListN.{replicate}
 use Rattle.laws.specs.Loops.{stores}
 use Rattle.laws.proofs.Loops.{stores-none, stores-turn}
-use Rattle.rows.specs.Rows.{scattered, taskAt, stopAt, tableRows}
-use Rattle.rows.proofs.Filled.{getD-past, scatter-on, scatter-past, scatter-end, stop-past}
+use Rattle.rows.specs.Rows.{taskAt, stopAt, tableRows}
 use borrow.Author.Needs.{needs}
 use Rattle.rows.proofs.table_rows.Statement.{statement}
 use Rattle.rows.proofs.table_rows.Tie as tie

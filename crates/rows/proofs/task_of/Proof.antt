@@ -1,11 +1,7 @@
-use mathlib.Core.Path.{_≡_, refl, sym, ap, _∙_}
+-- Within, the read computes; behind the 256 places stands 0 (`getD-past`).
+use mathlib.Core.Path.{_≡_, _∙_}
 use Prim.Native.Nat.{_-_, _≤_}
-use native.Mathlib.Omega.{arith}
-use lib.ListN.{length, length-set, replicate}
-use Rattle.laws.specs.Loops.{stores}
-use Rattle.laws.proofs.Loops.{stores-none, stores-turn}
-use Rattle.rows.specs.Rows.{scattered, taskAt, stopAt, tableRows}
-use Rattle.rows.proofs.Filled.{getD-past, scatter-on, scatter-past, scatter-end, stop-past}
+use Rattle.rows.proofs.Filled.{getD-past}
 use borrow.Author.Needs.{needs}
 use Rattle.rows.proofs.task_of.Statement.{statement}
 use Rattle.rows.proofs.task_of.Tie as tie

@@ -1,3 +1,4 @@
+-- Two cases of `wrong_start`: a place, below 16 (`firstBad-upTo-within`), is refused; none is what `started` promises.
 use mathlib.Core.Path.{sym, ap, _∙_}
 use native.Mathlib.Omega.{arith}
 use Prim.Native.Nat.{_<_}

@@ -1,3 +1,4 @@
+-- Nothing given computes; for a mode the promises of `both` and of the read are rewritten into the conjunction.
 use borrow.Author.Needs.{needs}
 use Rattle.starting.proofs.holds_own.Statement.{statement}
 use Rattle.starting.proofs.holds_own.Tie as tie

@@ -1,3 +1,4 @@
+-- Plain rewriting of what `Station::not_begun` promises.
 use borrow.Author.Needs.{needs}
 use Rattle.starting.proofs.refused.Statement.{statement}
 use Rattle.starting.proofs.refused.Tie as tie

@@ -1,3 +1,4 @@
+-- The promise of `modes_after` is rewritten into `startedBy`.
 use Rattle.starting.specs.Starting.{startedBy}
 use borrow.Author.Needs.{needs}
 use Rattle.starting.proofs.started.Statement.{statement}

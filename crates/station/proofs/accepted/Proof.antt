@@ -1,5 +1,4 @@
--- `station::accepted` meets its contract: the steps but for the nodes are the rules'.
--- Assumes nothing.
+-- For any nodes, `accepted-way` makes the promises of the four callees into the turn of the rules.
 use Rattle.station.proofs.Ticking.{accepted-way}
 use borrow.Author.Needs.{needs}
 use Rattle.station.proofs.accepted.Statement.{statement}

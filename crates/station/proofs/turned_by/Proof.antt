@@ -1,5 +1,4 @@
--- `station::turned_by` meets its contract: a refusal leaves all at rest, and what is not refused is accepted.
--- Assumes nothing.
+-- A refusal leaves all at rest (`refused-way`); that nothing was refused is what `accepted` requires.
 use mathlib.Core.Path.{sym, ap, _∙_}
 use Rattle.stationjudge.specs.Judging.{judgedOf}
 use Rattle.station.proofs.Ticking.{refused-way}

@@ -1,3 +1,4 @@
+-- Both exits compute: what `is_byte_of` says decides the `cond`.
 use borrow.Author.Needs.{needs}
 use Rattle.stationbus.proofs.byte_from.Statement.{statement}
 use Rattle.stationbus.proofs.byte_from.Tie as tie

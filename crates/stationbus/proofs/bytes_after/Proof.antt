@@ -1,3 +1,4 @@
+-- No row: the rule gives what stood there (`stores-idle`). A row: `bytes_from`'s promise, with the sender read rewritten.
 use mathlib.Core.Path.{_∙_}
 use denote.Ref.{now}
 use Rattle.laws.proofs.Stores.{stores-idle}

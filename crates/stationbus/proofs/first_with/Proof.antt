@@ -1,3 +1,4 @@
+-- Invariant: the rows so far have another time (`Passed`); an equal time is the first one that fails (`passed-hit`).
 use borrow.Author.Tests.{eq-eqb, ne-eqb}
 use mathlib.Core.Path.{refl}
 use Prim.Native.Nat.{_≤_, _-_}

@@ -1,3 +1,4 @@
+-- No row computes; for a row it is what `has_message` promises, with the reads of the arrays rewritten.
 use mathlib.Core.Path.{_∙_}
 use borrow.Author.Needs.{needs}
 use Rattle.stationbus.proofs.full_after.Statement.{statement}

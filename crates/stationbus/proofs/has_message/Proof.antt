@@ -1,3 +1,4 @@
+-- Two cases of the first test: passed, the divisibility decides (`message-yes`); failed, the conjunction is false (`message-no`).
 use mathlib.Core.Path.{_∙_}
 use mathlib.Core.Bool.{false}
 use lib.Dec.{ltb}

@@ -1,3 +1,4 @@
+-- No row: the rule gives what stood there (`stores-idle`). A row: `held_from`'s promise. `stores-within` reads both back.
 use mathlib.Core.Path.{_≡_, sym, ap, _∙_}
 use lib.ListN.{length}
 use denote.Ref.{now}

@@ -1,3 +1,4 @@
+-- Both exits compute: the test, rewritten by the callees' promises, decides the `cond`.
 use borrow.Author.Needs.{needs}
 use Rattle.stationbus.proofs.held_at.Statement.{statement}
 use Rattle.stationbus.proofs.held_at.Tie as tie

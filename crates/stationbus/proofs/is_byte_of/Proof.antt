@@ -1,3 +1,4 @@
+-- Plain rewriting: the promises of `both` and of the two reads are the conjunction.
 use borrow.Author.Needs.{needs}
 use Rattle.stationbus.proofs.is_byte_of.Statement.{statement}
 use Rattle.stationbus.proofs.is_byte_of.Tie as tie

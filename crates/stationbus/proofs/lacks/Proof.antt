@@ -1,3 +1,4 @@
+-- Too few rows make the first test false; else the invariant is that the flag says whether the rows so far passed (`Tested`).
 use borrow.Author.Tests.{le-leb, lt-leb}
 use Prim.Native.Nat.{_≤_, _-_}
 use Rattle.laws.proofs.Turns.{Tested, tested-none, tested-turn, tested-end}

@@ -1,3 +1,4 @@
+-- No row computes; for a row it is what `value_at` promises, with the task's read rewritten.
 use mathlib.Core.Path.{_∙_}
 use borrow.Author.Needs.{needs}
 use Rattle.stationbus.proofs.load_after.Statement.{statement}

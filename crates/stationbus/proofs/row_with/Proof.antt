@@ -1,3 +1,4 @@
+-- Where `lacks` says yes no row fails the test, so none is found (`none-with`); else it is what `first_with` promises.
 use denote.Ref.{now}
 use Rattle.stationbus.proofs.Ways.{none-with}
 use borrow.Author.Needs.{needs}

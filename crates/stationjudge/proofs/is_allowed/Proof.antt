@@ -1,3 +1,4 @@
+-- No change computes; for a change the promises of `both`, `byte_at` and `divides` are rewritten into the conjunction.
 use borrow.Author.Needs.{needs}
 use Rattle.stationjudge.proofs.is_allowed.Statement.{statement}
 use Rattle.stationjudge.proofs.is_allowed.Tie as tie

@@ -1,3 +1,4 @@
+-- Three exits: refused before, a place found by `not_allowed`, none found; a found place is below 16 (`firstBad-upTo-within`).
 use mathlib.Core.Path.{sym, ap, _∙_}
 use native.Mathlib.Omega.{arith}
 use native.Mathlib.Nat.{zero-add}

@@ -1,3 +1,4 @@
+-- One exit for each scan that finds a place and one for none; a found place is below 32 (`firstBad-upTo-within`).
 use mathlib.Core.Path.{sym, ap, _∙_}
 use native.Mathlib.Omega.{arith}
 use native.Mathlib.Nat.{zero-add}

@@ -1,3 +1,4 @@
+-- Invariant: the modules so far passed (`Passed`); a turn adds `is_allowed`, a failed test is the first bad one (`passed-hit`).
 use mathlib.Core.Path.{_∙_}
 use Prim.Native.Nat.{_≤_, _-_}
 use Rattle.laws.proofs.Turns.{Passed, passed-none, passed-turn, passed-hit, passed-end}

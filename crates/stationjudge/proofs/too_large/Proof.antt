@@ -1,3 +1,4 @@
+-- Invariant: the tasks so far passed (`Passed`); a turn adds `fits`, a failed test is the first bad one (`passed-hit`).
 use Prim.Native.Nat.{_≤_, _-_}
 use Rattle.laws.proofs.Turns.{Passed, passed-none, passed-turn, passed-hit, passed-end}
 use Rattle.stationjudge.specs.Judging.{fitsTest}

@@ -1,3 +1,4 @@
+-- Plain rewriting: the three reads of the arrays are those of `controlAt`.
 use borrow.Author.Needs.{needs}
 use Rattle.stationmoves.proofs.control_row.Statement.{statement}
 use Rattle.stationmoves.proofs.control_row.Tie as tie

@@ -1,3 +1,4 @@
+-- Plain rewriting: the four reads of the arrays are those of `dataAt`.
 use borrow.Author.Needs.{needs}
 use Rattle.stationmoves.proofs.data_row.Statement.{statement}
 use Rattle.stationmoves.proofs.data_row.Tie as tie

@@ -1,5 +1,4 @@
--- `stationmoves::held_by` meets its contract: the row that stops now is the row that the rule looks for.
--- Assumes nothing.
+-- The row that `row_with` finds is put into both promises of `held_after`: it is the row that the rule looks for.
 use mathlib.Core.Path.{ap, _∙_}
 use Rattle.laws.specs.Loops.{stores}
 use Rattle.stationbus.specs.Bus.{heldRule}

@@ -1,3 +1,4 @@
+-- The rows found by `row_with` at the rest of the clock are put into what is said and what is played (`moved-made`).
 use mathlib.Core.Path.{ap, _∙_}
 use denote.Ref.{now}
 use Rattle.rules.specs.Station.{rowWith}

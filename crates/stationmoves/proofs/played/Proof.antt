@@ -1,5 +1,4 @@
--- `stationmoves::played` meets its contract: each part of the play is what its step gives.
--- Assumes nothing.
+-- Each part is its step's promise (`play-made`); the frames take the modes and out-boxes after the tick (`bytes-same`).
 use mathlib.Core.Path.{_∙_}
 use denote.Ref.{now}
 use Rattle.stationruns.specs.Inputs.{foundOf}

@@ -1,3 +1,4 @@
+-- Three exits by the rows found: the case and the promise of `control_row` or `data_row` are rewritten.
 use borrow.Author.Needs.{needs}
 use Rattle.stationmoves.proofs.started.Statement.{statement}
 use Rattle.stationmoves.proofs.started.Tie as tie

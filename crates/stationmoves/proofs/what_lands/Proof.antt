@@ -1,3 +1,4 @@
+-- Plain rewriting: the row that `row_with` finds is put into the promise of `lands`.
 use borrow.Author.Needs.{needs}
 use Rattle.stationmoves.proofs.what_lands.Statement.{statement}
 use Rattle.stationmoves.proofs.what_lands.Tie as tie

@@ -1,3 +1,4 @@
+-- A landing computes to false; without one it is what `is_quiet` promises.
 use borrow.Author.Needs.{needs}
 use Rattle.stationnodes.proofs.is_idle.Statement.{statement}
 use Rattle.stationnodes.proofs.is_idle.Tie as tie

@@ -1,3 +1,4 @@
+-- Invariant: the flag says whether no run so far ends (`Tested`); the test of a turn is `quietAt` by computation.
 use mathlib.Core.Path.{refl}
 use Prim.Native.Nat.{_≤_, _-_}
 use Rattle.laws.proofs.Turns.{Tested, tested-none, tested-turn, tested-end}

@@ -1,3 +1,4 @@
+-- Nothing lands, or on the sender: all stays (`stores-idle`). On another node one place changes (`stores-one`, `lands-here`).
 use mathlib.Core.Path.{_≡_, _∙_}
 use lib.ListN.{length}
 use Rattle.laws.proofs.Stores.{stores-idle, stores-one}

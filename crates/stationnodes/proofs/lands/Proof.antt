@@ -1,3 +1,4 @@
+-- Three exits by the row and by whether the frame is full; for a full one the three reads are rewritten.
 use borrow.Author.Needs.{needs}
 use Rattle.stationnodes.proofs.lands.Statement.{statement}
 use Rattle.stationnodes.proofs.lands.Tie as tie

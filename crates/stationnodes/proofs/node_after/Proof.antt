@@ -1,3 +1,4 @@
+-- What has landed is read back from the array just filled (`shown-of-landed`); `made` puts the two halves together.
 use mathlib.Core.Path.{_≡_}
 use lib.ListN.{length}
 use denote.Ref.{now}

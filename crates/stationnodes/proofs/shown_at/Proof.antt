@@ -1,3 +1,4 @@
+-- Four exits, one law each: own out-box (`shows-own`), landed (`shows-landed`), no message (`shows-old`), no end (`shows-none`).
 use mathlib.Core.Path.{sym, _∙_}
 use mathlib.Core.Bool.{false}
 use lib.Dec.{eqb}

@@ -1,3 +1,4 @@
+-- On a node it is what `value_at` promises; behind the nodes the default is read, which shows 0.
 use mathlib.Core.Path.{_≡_}
 use native.Mathlib.Omega.{arith}
 use lib.ListN.{length, List·getD-eq-default}

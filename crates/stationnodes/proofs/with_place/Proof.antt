@@ -1,3 +1,4 @@
+-- Within the array the write is `set` itself; behind it `set` changes nothing (`set-out`).
 use mathlib.Core.Path.{sym}
 use lib.Seq.{set-out}
 use native.Mathlib.Omega.{arith}

@@ -1,3 +1,4 @@
+-- Invariant: the flag says whether the places so far hold values (`Tested`); each turn adds what `is_value` promises.
 use Prim.Native.Nat.{_≤_, _-_}
 use Rattle.laws.proofs.Turns.{Tested, tested-none, tested-turn, tested-end}
 use Rattle.stationrange.specs.Ranges.{boxTest}

@@ -1,3 +1,4 @@
+-- Invariant: the flag says whether the node's bytes so far are modes (`Tested`); the test of a turn is `byteTest` by computation.
 use Prim.Native.Nat.{_≤_, _-_}
 use Rattle.laws.proofs.Turns.{Tested, tested-none, tested-turn, tested-end}
 use Rattle.stationrange.specs.Ranges.{byteTest}

@@ -1,3 +1,4 @@
+-- By congruence: the promises of `is_between` and `both` put together are the conjunction `countsTest`.
 use borrow.Author.Needs.{needs}
 use Rattle.stationrange.proofs.counts.Statement.{statement}
 use Rattle.stationrange.proofs.counts.Tie as tie

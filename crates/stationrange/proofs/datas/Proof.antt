@@ -1,3 +1,4 @@
+-- Invariant: the flag says whether the rows so far passed (`Tested`); each turn adds what `data_row` promises.
 use Prim.Native.Nat.{_≤_, _-_}
 use Rattle.laws.proofs.Turns.{Tested, tested-none, tested-turn, tested-end}
 use Rattle.stationrange.specs.Ranges.{dataTest}

@@ -1,3 +1,4 @@
+-- By congruence: what `both` promises is `isBetween` unfolded.
 use Rattle.rules.specs.StationRange.{isBetween}
 use borrow.Author.Needs.{needs}
 use Rattle.stationrange.proofs.is_between.Statement.{statement}

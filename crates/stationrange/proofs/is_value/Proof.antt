@@ -1,3 +1,4 @@
+-- Both tests are true of every u64: it is at most the largest one (`le-leb`) and below 2 ^ 64 (`lt-ltb`).
 use mathlib.Core.Path.{sym, _∙_}
 use native.Mathlib.Omega.{arith}
 use borrow.Author.Tests.{le-leb, lt-ltb}

@@ -1,3 +1,4 @@
+-- By congruence: the promises of the three calls of `both` put together are the conjunction.
 use borrow.Author.Needs.{needs}
 use Rattle.stationrange.proofs.play.Statement.{statement}
 use Rattle.stationrange.proofs.play.Tie as tie

@@ -1,3 +1,4 @@
+-- Invariant: the flag says whether the tasks so far passed (`Tested`); a turn is `thing`'s promise, with `wide` rewritten away.
 use Prim.Native.Nat.{_≤_, _-_}
 use Rattle.laws.proofs.Turns.{Tested, tested-none, tested-turn, tested-end}
 use Rattle.stationrange.specs.Ranges.{taskTest}

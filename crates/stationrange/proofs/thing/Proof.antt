@@ -1,3 +1,4 @@
+-- By congruence: the promises of `both` and `if_so` put together are the conjunction `thingTest`.
 use borrow.Author.Needs.{needs}
 use Rattle.stationrange.proofs.thing.Statement.{statement}
 use Rattle.stationrange.proofs.thing.Tie as tie

@@ -1,3 +1,4 @@
+-- Invariant: the flag says whether the nodes so far passed (`Tested`); each turn adds what `stationrange::bytes` promises.
 use Prim.Native.Nat.{_≤_, _-_}
 use Rattle.laws.proofs.Turns.{Tested, tested-none, tested-turn, tested-end}
 use Rattle.stationrefusals.specs.Refusing.{heldTest}

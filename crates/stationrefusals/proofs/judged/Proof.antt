@@ -1,3 +1,4 @@
+-- The promise of `judged_results` is rewritten into that of `judged_changes`; together they are `judgedBy` unfolded.
 use mathlib.Core.Path.{_∙_}
 use Rattle.stationrefusals.specs.Refusing.{judgedBy}
 use borrow.Author.Needs.{needs}

@@ -1,3 +1,4 @@
+-- `kept-all` puts the promises of the seven tests and the six calls of `both` together into `keptTest`.
 use Rattle.stationrefusals.proofs.Ways.{kept-all}
 use Rattle.stationrefusals.specs.Refusing.{keptTest}
 use borrow.Author.Needs.{needs}

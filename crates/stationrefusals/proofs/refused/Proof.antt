@@ -1,3 +1,4 @@
+-- Two cases of the range test: passed, the judgement stands (`judged-on`); failed, it is refusal 40 (`refused-out`).
 use denote.Ref.{now}
 use Rattle.stationrefusals.specs.Refusing.{judgedBy, refusedBy}
 use Rattle.stationrefusals.proofs.Ways.{judged-on, refused-out}

@@ -1,3 +1,4 @@
+-- `state-all` puts the promises of the tests and of the four calls of `both` together into `stateTest`.
 use lib.Dec.{leb}
 use Rattle.stationrefusals.specs.Refusing.{stateTest}
 use Rattle.stationrefusals.proofs.Ways.{state-all}

@@ -1,3 +1,4 @@
+-- No result computes; a result is what `has_bytes` promises.
 use borrow.Author.Needs.{needs}
 use Rattle.stationruns.proofs.fits.Statement.{statement}
 use Rattle.stationruns.proofs.fits.Tie as tie

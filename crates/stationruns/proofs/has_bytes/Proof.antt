@@ -1,3 +1,4 @@
+-- Below 8 bytes the table holds the powers of 256, checked place by place (`limit`); from 8 on each u64 fits (`large`).
 use mathlib.Core.Path.{_≡_, refl, sym}
 use mathlib.Core.Bool.{Bool}
 use mathlib.Core.List.{List, [], _∷_}

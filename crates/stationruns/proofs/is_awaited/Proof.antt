@@ -1,3 +1,4 @@
+-- Two cases of `is_result`: with a result it is what `Run::is_awaited` promises, without one the disjunction is true.
 use borrow.Author.Needs.{needs}
 use Rattle.stationruns.proofs.is_awaited.Statement.{statement}
 use Rattle.stationruns.proofs.is_awaited.Tie as tie

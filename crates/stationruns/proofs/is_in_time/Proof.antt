@@ -1,3 +1,4 @@
+-- Where the result came, before or now, the disjunction holds (`came`); else the last chance alone decides it (`missing`).
 use mathlib.Core.Path.{_≡_, refl, sym, _∙_}
 use mathlib.Core.Bool.{Bool, true, false, not, _||_}
 use Rattle.stationruns.specs.Runs.{lastChance}

@@ -1,3 +1,4 @@
+-- Plain rewriting: the four reads of the arrays are those of `runAt`.
 use borrow.Author.Needs.{needs}
 use Rattle.stationruns.proofs.run_at.Statement.{statement}
 use Rattle.stationruns.proofs.run_at.Tie as tie

@@ -1,3 +1,4 @@
+-- Two cases of `is_change`: a change computes to 1, else it is what `one_on` promises.
 use borrow.Author.Needs.{needs}
 use Rattle.stationsteps.proofs.age_at.Statement.{statement}
 use Rattle.stationsteps.proofs.age_at.Tie as tie

@@ -1,3 +1,4 @@
+-- Within the array it is what `is_change` promises; behind it the default is read, and that is no change.
 use mathlib.Core.Path.{_≡_}
 use Prim.Native.Nat.{_≤_}
 use lib.ListN.{length}

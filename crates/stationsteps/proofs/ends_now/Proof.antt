@@ -1,3 +1,4 @@
+-- Invariant: the places so far are filled by `endsRule` (`Filled`); a turn is the promise of `ends` on that of `run_at`.
 use mathlib.Core.Path.{_∙_}
 use Prim.Native.Nat.{_≤_, _-_}
 use Rattle.laws.proofs.Turns.{Filled, filled-none, filled-turn, filled-end}

@@ -1,3 +1,4 @@
+-- Invariant: the places so far are filled by `modeRule` (`Filled`); reads behind the array are told by `mode-read`.
 use Rattle.stationsteps.proofs.Ways.{mode-read}
 use mathlib.Core.Path.{_∙_}
 use Prim.Native.Nat.{_≤_, _-_}

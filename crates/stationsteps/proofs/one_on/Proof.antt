@@ -1,3 +1,4 @@
+-- Both exits compute: the test decides that of `oneOn`.
 use borrow.Author.Tests.{lt-ltb, le-ltb}
 use Rattle.rules.specs.Station.{oneOn}
 use borrow.Author.Needs.{needs}

@@ -1,3 +1,4 @@
+-- Invariant: the places so far are filled by `outRule` (`Filled`); reads behind the array are told by `out-read`.
 use Rattle.stationsteps.proofs.Ways.{out-read}
 use mathlib.Core.Path.{_∙_}
 use Prim.Native.Nat.{_≤_, _-_}

@@ -1,3 +1,4 @@
+-- The four stores, one behind the other, are one store of the record's bytes (`control-put`).
 use Rattle.tablebytes.proofs.Glued.{control-put}
 use borrow.Author.Needs.{needs}
 use Rattle.tablebytes.proofs.put_control.Statement.{statement}

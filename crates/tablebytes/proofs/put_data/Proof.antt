@@ -1,3 +1,4 @@
+-- The five stores, one behind the other, are one store of the record's bytes (`data-put`).
 use Rattle.tablebytes.proofs.Glued.{data-put}
 use borrow.Author.Needs.{needs}
 use Rattle.tablebytes.proofs.put_data.Statement.{statement}

@@ -1,3 +1,4 @@
+-- The four stores, one behind the other, are one store of the record's bytes (`header-put`).
 use Rattle.tablebytes.proofs.Glued.{header-put}
 use borrow.Author.Needs.{needs}
 use Rattle.tablebytes.proofs.put_header.Statement.{statement}

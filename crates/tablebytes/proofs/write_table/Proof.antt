@@ -1,3 +1,4 @@
+-- Header, control rows, data rows and last byte, stored one behind the other, are the table's bytes (`table-put`).
 use Rattle.tablebytes.specs.Rows.{controlIn, dataIn}
 use Rattle.tablebytes.proofs.Glued.{table-put}
 use borrow.Author.Needs.{needs}

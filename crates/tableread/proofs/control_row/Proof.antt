@@ -1,5 +1,4 @@
--- `judging::table::control_row` meets its contract: a store for each number where a place is left, and none else.
--- Assumes nothing.
+-- Two cases of k < 8: with a place left each store is what its read promises, else `placed` keeps the arrays.
 use mathlib.Core.Path.{refl}
 use borrow.Author.Tests.{lt-ltb, le-ltb}
 use borrow.Author.Needs.{needs}

@@ -1,6 +1,4 @@
--- `judging::table::data_row` meets its contract: a store for each number where a place is left, and none else; a body that is cut out of the
--- file says what the file says there.
--- Assumes nothing.
+-- Two cases of k < 256, as `placed` has; the body cut out says what the file says there (`front-number`, `part-number`).
 use mathlib.Core.Path.{refl, _∙_}
 use native.Mathlib.Omega.{arith}
 use borrow.Author.Tests.{lt-ltb, le-ltb}

@@ -1,5 +1,4 @@
--- `judging::table::first_record` meets its contract: the numbers of the body at their offsets.
--- Assumes nothing.
+-- The promises of the three reads are the numbers of the body at their offsets (`header-numbers`).
 use Rattle.tableread.proofs.Gathering.{header-numbers}
 use borrow.Author.Needs.{needs}
 use Rattle.tableread.proofs.first_record.Statement.{statement}

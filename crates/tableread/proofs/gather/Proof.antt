@@ -1,5 +1,4 @@
--- `judging::table::gather` meets its contract: what is gathered so far and what the rest of the file comes to are the whole.
--- Assumes nothing.
+-- Invariant: what is held, with the rest of the file gathered in, is the whole; one law for each step (`row-turn` and such).
 use mathlib.Core.Path.{_≡_, sym}
 use Prim.Native.Nat.{_+_, _-_, _≤_}
 use native.Mathlib.Omega.{arith}

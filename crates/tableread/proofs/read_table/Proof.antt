@@ -1,5 +1,4 @@
--- `judging::table::read_table` meets its contract: the table of a file that is whole, no table else.
--- Assumes nothing.
+-- Two cases of the outcome: a whole file gives what was gathered (`read-whole`), a broken one no table (`read-broken`).
 use denote.Ref.{now}
 use Rattle.tableread.specs.Memory.{tableFrom}
 use Rattle.tableread.proofs.Gathering.{read-whole, read-broken}

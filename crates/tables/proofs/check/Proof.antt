@@ -1,5 +1,4 @@
--- `tables::check` meets its contract: a walk of its MIR, by hand. Plan and table go to `checker::check` and the rows to `framerows::fill`, for good, at the borrow's own
--- lifetime, share and name; of both the proof knows only that they meet their contracts. Assumes nothing.
+-- A walk of the MIR by hand: `checker::check` and `framerows::fill` get the borrows for good; `checks-lent` joins what they say.
 use mathlib.Core.Path.{_≡_, refl, ap}
 use Prim.Native.Nat.{ℕ}
 use mathlib.Core.List.{List, [], _∷_}

@@ -1,5 +1,4 @@
--- `tables::make` meets its contract: a walk of its MIR, by hand. The plan and the buffer go to `maker::made` and the rows to `framerows::fill`, each for good, at the
--- borrow's own lifetime, share and name; of both the proof knows only that they meet their contracts. Assumes nothing.
+-- A walk of the MIR by hand: `maker::made` and `framerows::fill` get the borrows for good; `makes-lent` joins what they say.
 use mathlib.Core.Path.{_≡_, refl, ap}
 use Prim.Native.Nat.{ℕ}
 use mathlib.Core.List.{List, [], _∷_}

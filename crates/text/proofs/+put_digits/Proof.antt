@@ -1,3 +1,4 @@
+-- The measure is x, which falls to x / 10; the last digit goes behind the digits of that (`put-digit`), and 0 has none.
 use borrow.Author.Needs.{needs}
 use mathlib.Core.Path.{_≡_, _∙_}
 use native.Mathlib.Nat.{pos-of-ne-zero}

@@ -1,3 +1,4 @@
+-- Within, the read computes; behind the end the default stands (`List·getD-eq-default`).
 use mathlib.Core.Path.{sym}
 use lib.ListN.{List·getD-eq-default}
 use borrow.Author.Needs.{needs}

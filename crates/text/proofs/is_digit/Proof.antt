@@ -1,6 +1,5 @@
-use mathlib.Core.Path.{sym, ap}
-use mathlib.Core.Bool.{Bool, _&&_}
-use lib.Dec.{leb}
+-- In each exit the test against 48 is rewritten into the definition (`lt-leb`, `le-leb`).
+use mathlib.Core.Bool.{_&&_}
 use borrow.Author.Tests.{lt-leb, le-leb}
 use borrow.Author.Needs.{needs}
 use Rattle.text.proofs.is_digit.Statement.{statement}

@@ -1,5 +1,6 @@
+-- Invariant: the first i bytes of s are stored; a turn is `put-byte`, and behind the last that is all of s (`take-all`).
 use borrow.Author.Needs.{needs}
-use mathlib.Core.Path.{_≡_, sym, ap, _∙_}
+use mathlib.Core.Path.{_≡_, ap, _∙_}
 use Prim.Native.Nat.{ℕ, _+_, _-_, _≤_}
 use native.Mathlib.Omega.{arith}
 use lib.ListN.{length, take}

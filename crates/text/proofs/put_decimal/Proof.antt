@@ -1,3 +1,4 @@
+-- Two cases: 0 is one byte (`zero-put`); any other number is its digits (`digits-put`), at most 20 (`digits-most`).
 use mathlib.Core.Path.{_∙_}
 use native.Mathlib.Nat.{pos-of-ne-zero}
 use native.Mathlib.Omega.{arith}

@@ -1,3 +1,4 @@
+-- `passedLine` unfolds into the bytes that `put_bytes` promises.
 use Rattle.text.specs.Text.{passedLine}
 use borrow.Author.Needs.{needs}
 use Rattle.text.proofs.put_passed.Statement.{statement}

@@ -1,3 +1,4 @@
+-- `refused-put` joins the five pieces; `decimal-most` bounds the numbers, so that no place overflows.
 use mathlib.Core.Path.{_≡_, _∙_}
 use native.Mathlib.Nat.{zero-add}
 use native.Mathlib.Omega.{arith}

@@ -1,3 +1,4 @@
+-- `tooLongLine` unfolds into the bytes that `put_bytes` promises.
 use Rattle.text.specs.Text.{tooLongLine}
 use borrow.Author.Needs.{needs}
 use Rattle.text.proofs.put_too_long.Statement.{statement}

@@ -1,3 +1,4 @@
+-- A store within computes; one behind the end changes nothing (`set-out`).
 use mathlib.Core.Path.{sym}
 use lib.Seq.{set-out}
 use borrow.Author.Needs.{needs}

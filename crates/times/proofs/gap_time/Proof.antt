@@ -1,3 +1,4 @@
+-- The promise of `ticks_of_bits` is the statement, once `gapTime` is unfolded.
 use borrow.Author.Needs.{needs}
 use Rattle.plan.specs.Memory.{busSeen}
 use Rattle.rules.specs.Frames.{gapTime}

@@ -1,3 +1,4 @@
+-- The quotient's promise makes the product `up`; `up-le` bounds it, so that it does not wrap.
 use borrow.Author.Needs.{needs}
 use mathlib.Core.Path.{_≡_}
 use native.Mathlib.Omega.{arith}

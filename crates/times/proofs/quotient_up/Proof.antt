@@ -1,3 +1,4 @@
+-- Two cases: by 0 the answer is 0 (`ceil-by-zero`); else the expression is `ceil` itself, and `ceil-le` bounds it.
 use borrow.Author.Needs.{needs}
 use mathlib.Core.Path.{refl}
 use Rattle.laws.specs.Numbers.{ceil}

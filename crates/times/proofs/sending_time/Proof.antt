@@ -1,3 +1,4 @@
+-- The promises of `larger` and `ticks_of_bits` are rewritten into `sendingTime`.
 use borrow.Author.Needs.{needs}
 use mathlib.Core.Path.{_∙_}
 use Rattle.plan.specs.Memory.{busSeen}

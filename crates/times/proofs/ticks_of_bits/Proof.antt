@@ -1,3 +1,4 @@
+-- The promises of both roundings are rewritten into `ticksOfBits`; their bounds give the bound by arithmetic.
 use borrow.Author.Needs.{needs}
 use mathlib.Core.Path.{_∙_}
 use native.Mathlib.Omega.{arith}

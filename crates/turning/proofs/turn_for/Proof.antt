@@ -1,3 +1,4 @@
+-- `turns-for` puts the promises of the five callees together, for any nodes that are `Valued`.
 use Rattle.turning.proofs.Ticking.{turns-for}
 use borrow.Author.Needs.{needs}
 use Rattle.turning.proofs.turn_for.Statement.{statement}

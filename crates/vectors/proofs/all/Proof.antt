@@ -1,3 +1,4 @@
+-- The invariant says nothing: each case ends behind its begin, so that the bytes left fall.
 use lib.ListN.{length}
 use Prim.Native.Nat.{_-_}
 use borrow.Author.Needs.{needs}

@@ -1,3 +1,4 @@
+-- Invariant: the count is at most the place, so that it does not overflow.
 use lib.ListN.{length}
 use Prim.Native.Nat.{_-_, _≤_}
 use borrow.Author.Needs.{needs}

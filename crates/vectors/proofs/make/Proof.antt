@@ -1,3 +1,4 @@
+-- The test says that the room fits the buffer, so that the part lent has its length (`length-take-le`).
 use mathlib.Core.Path.{sym}
 use lib.Seq.{length-take-le}
 use borrow.Author.Needs.{needs}

@@ -1,3 +1,4 @@
+-- Invariant: the count is at most the rows passed, and these at most 256, so that it does not overflow.
 use Prim.Native.Nat.{_-_, _≤_}
 use borrow.Author.Needs.{needs}
 use Rattle.vectors.proofs.zeros.Statement.{statement}

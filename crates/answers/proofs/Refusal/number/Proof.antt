@@ -1,5 +1,4 @@
--- `answers::Refusal::number` meets its contract: each arm is given which case `self` is.
--- Assumes nothing.
+-- Plain computation: each of the 27 arms is told which case `self` is.
 use borrow.Author.Needs.{needs}
 use Rattle.answers.proofs.Refusal.number.Statement.{statement}
 use Rattle.answers.proofs.Refusal.number.Tie as tie

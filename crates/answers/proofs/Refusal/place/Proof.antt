@@ -1,5 +1,4 @@
--- `answers::Refusal::place` meets its contract: each arm is given which case `self` is, with the place that it binds.
--- Assumes nothing.
+-- Each of the 27 arms is told which case `self` is, with the place bound; `count` and `place` promise the rest.
 use borrow.Author.Needs.{needs}
 use Rattle.answers.proofs.Refusal.place.Statement.{statement}
 use Rattle.answers.proofs.Refusal.place.Tie as tie

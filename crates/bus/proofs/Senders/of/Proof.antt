@@ -1,3 +1,4 @@
+-- The promises of the callees for tasks, modules and payloads are rewritten into `sendersOf`, field by field.
 use borrow.Author.Needs.{needs}
 use Rattle.bus.specs.Senders.{sendersOf}
 use Rattle.bus.proofs.Senders.of.Statement.{statement}

@@ -1,3 +1,4 @@
+-- Invariant: the period of the first i runs; a turn is `period-more`. It fits since it divides the grid (`period-below`).
 use borrow.Author.Needs.{needs}
 use mathlib.Core.Path.{_≡_, refl, sym, _∙_}
 use native.Mathlib.Omega.{arith}

@@ -1,3 +1,4 @@
+-- Invariant: the period of the first i runs divides the grid (`divides-more`); a run that does not is enough (`divides-not`).
 use borrow.Author.Needs.{needs}
 use mathlib.Core.Path.{_≡_, sym, _∙_}
 use native.Mathlib.Omega.{arith}

@@ -1,3 +1,4 @@
+-- Invariant: the grid is that of the first i modes (`gridAmong`); each turn is `grid-turn`, and `take-all` makes them all.
 use borrow.Author.Needs.{needs}
 use mathlib.Core.Path.{_≡_, refl}
 use native.Mathlib.Omega.{arith}

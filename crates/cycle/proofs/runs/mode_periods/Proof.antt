@@ -1,3 +1,4 @@
+-- Invariant: the first m places hold the periods of their modes (`stores`); behind the last mode stands 0 (`filled-of`).
 use borrow.Author.Needs.{needs}
 use mathlib.Core.Path.{_≡_, refl, sym, ap, _∙_}
 use lib.ListN.{length, getD, replicate}

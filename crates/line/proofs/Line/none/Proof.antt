@@ -1,3 +1,4 @@
+-- Plain computation: `noLine` unfolded is the struct that is built.
 use mathlib.Core.Path.{refl}
 use Rattle.line.specs.Line.{noLine}
 use Rattle.line.proofs.Line.none.Statement.{statement}

@@ -31,16 +31,13 @@ use denote.Struct.Laws as LL
 use denote.Triple.Spec.{tripleOf}
 use denote.Triple.Statement.{Contract}
 use denote.Triple.Clauses.{ensured, lasts}
-use Rattle.rules.specs.StationRange.{ticked}
-use Rattle.stationruns.specs.Inputs.{inputOf}
 use Rattle.units.proofs.Ticks as Ti
 use Rattle.units.proofs.Ticks.Laws as Ti′
 use Rattle.stationnodes.specs.declared.Node.{Node}
 use Rattle.stationnodes.proofs.Node as N
 use Rattle.stationnodes.proofs.Node.Laws as N′
 use Rattle.station.specs.Parts.{nodesBy}
-use Rattle.station.specs.Memory.{keptOf, stateOf}
-use Rattle.station.specs.Turns.{Valued, moved}
+use Rattle.station.specs.Turns.{moved}
 use Rattle.station.specs.declared.Station.{Station}
 use Rattle.station.specs.declared.Turn.{Turn}
 use Rattle.station.proofs.Lent.{mach, Known, numbers-same, array-lent}
@@ -59,8 +56,7 @@ use Rattle.station.proofs.Turn.Laws as Tu′
 use Rattle.station.proofs.Station as T
 use Rattle.station.proofs.Station.Laws as T′
 use Rattle.station.proofs.nodes_turned as nodes-turned
-use Rattle.turning.specs.Turning.{TurnsFor}
-use Rattle.outward.specs.Numbers.{givensFor, changesFor}
+use Rattle.turning.specs.Turning.{TurnsWith}
 use Rattle.turning.specs.declared.Answered.{Answered}
 use Rattle.turning.proofs.turn_for as turn-for
 use Rattle.olbiothar.proofs.Stored.{Nodes, nodes-mach, nodes-in}
@@ -126,15 +122,96 @@ module _ {M : Type 1} (𝓤 : URA M) (H : Heap 𝓤) (A : Atoms 𝓤) (at-mem : 
           (α ∷ [], (κ₁, (κ₂, (κ₃, (κ₄, tt))))),
           (fullShare, (q₁, (q₂, (q₃, (q₄, tt))))),
           tt,
-          (h .modules, (h .modes, (h .tasks, (h .controls, (h .datas, (h .period, (h .play, (array 640 (γ .0) (h .runs), (array 4736 (γ .1 .0) (h .carries), (array 4992 (γ .1 .1 .0) (h .deadlines), (array 6016 (γ .1 .1 .1 .0) (h .starts), (array 7040 (γ .1 .1 .1 .1) (h .stops), (rs, (gs, (ms, (cs, tt)))))))))))))))),
-          (LL.val Mo.the-type Mo′.the-laws (h .modules) ∷ [], (LL.val Md.the-type Md′.the-laws (h .modes) ∷ [], (LL.val Ta.the-type Ta′.the-laws (h .tasks) ∷ [], (LL.val Co.the-type Co′.the-laws (h .controls) ∷ [], (vint w16 (h .datas) ∷ [], (LL.val Ti.the-type Ti′.the-laws (h .period) ∷ [], (LL.val Pl.the-type Pl′.the-laws (h .play) ∷ [], (vptr b (o + 640) ∷ [], (vptr b (o + 4736) ∷ [], (vptr b (o + 4992) ∷ [], (vptr b (o + 6016) ∷ [], (vptr b (o + 7040) ∷ [], (vptr (rs .ptr .0) (rs .ptr .1) ∷ [], (vptr (gs .ptr .0) (gs .ptr .1) ∷ [], (vptr (ms .ptr .0) (ms .ptr .1) ∷ [], (vptr (cs .ptr .0) (cs .ptr .1) ∷ [], tt)))))))))))))))),
+          (
+            h .modules,
+            (
+              h .modes,
+              (
+                h .tasks,
+                (
+                  h .controls,
+                  (
+                    h .datas,
+                    (
+                      h .period,
+                      (
+                        h .play,
+                        (
+                          array 640 (γ .0) (h .runs),
+                          (
+                            array 4736 (γ .1 .0) (h .carries),
+                            (
+                              array 4992 (γ .1 .1 .0) (h .deadlines),
+                              (
+                                array 6016 (γ .1 .1 .1 .0) (h .starts),
+                                (array 7040 (γ .1 .1 .1 .1) (h .stops), (rs, (gs, (ms, (cs, tt))))),
+                              ),
+                            ),
+                          ),
+                        ),
+                      ),
+                    ),
+                  ),
+                ),
+              ),
+            ),
+          ),
+          (
+            LL.val Mo.the-type Mo′.the-laws (h .modules) ∷ [],
+            (
+              LL.val Md.the-type Md′.the-laws (h .modes) ∷ [],
+              (
+                LL.val Ta.the-type Ta′.the-laws (h .tasks) ∷ [],
+                (
+                  LL.val Co.the-type Co′.the-laws (h .controls) ∷ [],
+                  (
+                    vint w16 (h .datas) ∷ [],
+                    (
+                      LL.val Ti.the-type Ti′.the-laws (h .period) ∷ [],
+                      (
+                        LL.val Pl.the-type Pl′.the-laws (h .play) ∷ [],
+                        (
+                          vptr b (o + 640) ∷ [],
+                          (
+                            vptr b (o + 4736) ∷ [],
+                            (
+                              vptr b (o + 4992) ∷ [],
+                              (
+                                vptr b (o + 6016) ∷ [],
+                                (
+                                  vptr b (o + 7040) ∷ [],
+                                  (
+                                    vptr (rs .ptr .0) (rs .ptr .1) ∷ [],
+                                    (
+                                      vptr (gs .ptr .0) (gs .ptr .1) ∷ [],
+                                      (
+                                        vptr (ms .ptr .0) (ms .ptr .1) ∷ [],
+                                        (vptr (cs .ptr .0) (cs .ptr .1) ∷ [], tt),
+                                      ),
+                                    ),
+                                  ),
+                                ),
+                              ),
+                            ),
+                          ),
+                        ),
+                      ),
+                    ),
+                  ),
+                ),
+              ),
+            ),
+          ),
         ),
         tt,
       )
 
       abbrev Owned : ℕ → Names → Fml
       Owned α γ =
-          owns (Mo.the-row ∷ Md.the-row ∷ Ta.the-row ∷ Co.the-row ∷ u16 ∷ Ti.the-row ∷ Pl.the-row ∷ ShrRef (named 0) (α ∷ []) (Array u32 1024) ∷ ShrRef (named 0) (α ∷ []) (Array u8 256) ∷ ShrRef (named 0) (α ∷ []) (Array u32 256) ∷ ShrRef (named 0) (α ∷ []) (Array u32 256) ∷ ShrRef (named 0) (α ∷ []) (Array u32 256) ∷ ShrRef (named 1) κ₁ (Array u64 32) ∷ ShrRef (named 2) κ₂ (Array u8 32) ∷ ShrRef (named 3) κ₃ (Array u8 16) ∷ ShrRef (named 4) κ₄ (Array u8 16) ∷ [])
+          owns (Mo.the-row ∷ Md.the-row ∷ Ta.the-row ∷ Co.the-row ∷ u16 ∷ Ti.the-row ∷ Pl.the-row
+          ∷ ShrRef (named 0) (α ∷ []) (Array u32 1024) ∷ ShrRef (named 0) (α ∷ []) (Array u8 256) ∷ ShrRef (named 0) (α ∷ []) (Array u32 256)
+          ∷ ShrRef (named 0) (α ∷ []) (Array u32 256) ∷ ShrRef (named 0) (α ∷ []) (Array u32 256) ∷ ShrRef (named 1) κ₁ (Array u64 32)
+          ∷ ShrRef (named 2) κ₂ (Array u8 32) ∷ ShrRef (named 3) κ₃ (Array u8 16) ∷ ShrRef (named 4) κ₄ (Array u8 16) ∷ [])
           (to-turn α γ .0 .3) (to-turn α γ .0 .4)
 
       joined : (α : ℕ) (γ : Names) → ent 𝓤 (sep 𝓤 (mean 𝓤 H A (‵ (flft (α ∷ []) fullShare) ⊛ Tokens)) (sem 𝓤 H A (Owned α γ))) (Turning .pre (to-turn α γ))
@@ -167,7 +244,7 @@ module _ {M : Type 1} (𝓤 : URA M) (H : Heap 𝓤) (A : Atoms 𝓤) (at-mem : 
           move ! (1 ∷ 0 ∷ []) $ use2 W (raw (Turning .pre (to-turn α (γ₁, (γ₂, (γ₃, (γ₄, γ₅))))))) (joined α (γ₁, (γ₂, (γ₃, (γ₄, γ₅))))) $ frame ! $ done !)))))
 
       abbrev pub TurnSays : Answered → Type 0
-      TurnSays r = (nodes : List Node) → Valued nodes → TurnsFor (moved h (h .play) nodes) (ticked (keptOf (moved h (h .play) nodes)) (stateOf (moved h (h .play) nodes)) (inputOf (givensFor (rs .now) (gs .now)) (changesFor (ms .now) (cs .now)))) r
+      TurnSays r = TurnsWith (moved h (h .play)) (rs .now) (gs .now) (ms .now) (cs .now) r
 
       pub turning-said : (α : ℕ) (γ : Names) (r : Answered)
           → ent 𝓤 (ensured 𝓤 H A turn-for.ended (turn-for.clauses 𝓤 H A at-mem run) (to-turn α γ .0 .0) (to-turn α γ .0 .3) tt r) (fact 𝓤 (TurnSays r))

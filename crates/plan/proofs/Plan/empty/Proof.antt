@@ -1,3 +1,4 @@
+-- Plain computation: the zero things and `emptyPlan` unfold to the struct that is built.
 use mathlib.Core.Path.{refl}
 use Rattle.plan.specs.Memory.{emptyPlan, layOut, busLaid, noPlan, noBus, moduleLaid, modeLaid, taskLaid, invocationLaid, connectionLaid, noConnection}
 use Rattle.plan.proofs.Plan.empty.Statement.{statement}

@@ -1,3 +1,4 @@
+-- Invariant: the first k counts are within their ranges. One that is not ends the scan (`met-upTo`); else `none-upTo`.
 use borrow.Author.Needs.{needs}
 use borrow.Author.Tests.{not-true, not-false}
 use mathlib.Core.Path.{_≡_, refl, sym, _∙_}

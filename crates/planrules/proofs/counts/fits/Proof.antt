@@ -1,3 +1,4 @@
+-- The promise of `both` is the statement, once `countsFit` and its two tables are unfolded.
 use borrow.Author.Needs.{needs}
 use Rattle.rules.specs.Plan.{leastCounts, mostCounts}
 use Rattle.planrules.specs.Tests.{countsFit}

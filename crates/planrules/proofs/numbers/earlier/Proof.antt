@@ -1,3 +1,4 @@
+-- Case by case of what was found and of the test, the definition computes.
 use borrow.Author.Needs.{needs}
 use Rattle.planrules.proofs.numbers.earlier.Statement.{statement}
 use Rattle.planrules.proofs.numbers.earlier.Tie as tie

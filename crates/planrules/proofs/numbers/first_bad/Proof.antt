@@ -1,3 +1,4 @@
+-- Invariant, for either test: what was found, else the first bad of the rest, is the answer (`Scanned`). `Wrong` cannot be.
 use borrow.Author.Needs.{needs}
 use mathlib.Core.Path.{sym, _∙_}
 use native.Mathlib.Omega.{arith}
@@ -17,7 +18,7 @@ abbrev μ-loop : tie.MeasureT-loop
 μ-loop s counts previous₀ at₀ n₀ named₀ ranged₀ previous at n named ranged = length s - at
 
 loop-holds : tie.Need-loop-holds Inv-loop μ-loop
-loop-holds c = (scanned-none _ _ (c .before .pre), scanned-none _ _ (c .before .pre))
+loop-holds c = (scanned-none (c .before .pre), scanned-none (c .before .pre))
 
 add-n : tie.Need-add-n Inv-loop μ-loop
 add-n c =
@@ -25,7 +26,7 @@ add-n c =
     let c2 = c1 .before .before .before in
     omega (
       arith,
-      scanned-number _ _ _ _ _ _ (c2 .loop .inv .0) _ _ _
+      scanned-number (c2 .loop .inv .0)
           (sym (c1 .before .before .next .ensures) ∙ c1 .kind .given .1),
       c2 .before .before .good .0 .0,
     )
@@ -33,28 +34,33 @@ add-n c =
 loop-less : tie.Need-loop-less Inv-loop μ-loop
 loop-less c =
     let c1 = c .before .before .before .before .before .before in
-    scanned-less _ _ _ _ _ _ (c1 .before .before .before .loop .inv .0) _ _ _
+    scanned-less (c1 .before .before .before .loop .inv .0)
     (sym (c1 .before .before .next .ensures) ∙ c1 .kind .given .1)
 
 loop-again : tie.Need-loop-again Inv-loop μ-loop
-loop-again c = (
-  scanned-more _ _ _ _ _ _ (c .before .before .before .before .before .before .before .before .before .loop .inv .0) _ _ _ _ _ _ (sym (c .before .before .before .before .before .before .before .before .next .ensures) ∙ c .before .before .before .before .before .before .kind .given .1) (c .before .before .before .before .body .ensures) (c .before .before .before .names-are-there .ensures) (c .before .before .earlier .ensures),
-  scanned-more _ _ _ _ _ _ (c .before .before .before .before .before .before .before .before .before .loop .inv .1) _ _ _ _ _ _ (sym (c .before .before .before .before .before .before .before .before .next .ensures) ∙ c .before .before .before .before .before .before .kind .given .1) (c .before .before .before .before .body .ensures) (c .before .numbers-are-within .ensures) (c .earlier2 .ensures),
-)
+loop-again c =
+    let c1 = c .before .before .before .before in
+    let c2 = c1 .before .before in
+    let c3 = c2 .before .before in
+    let l = c3 .before .loop in
+    let read = sym (c3 .next .ensures) ∙ c2 .kind .given .1 in (
+      scanned-more (l .inv .0) read (c1 .body .ensures) (c .before .before .before .names-are-there .ensures)
+          (c .before .before .earlier .ensures),
+      scanned-more (l .inv .1) read (c1 .body .ensures) (c .before .numbers-are-within .ensures) (c .earlier2 .ensures),
+    )
 
 returns : tie.Need-returns Inv-loop μ-loop
 returns c =
     let c1 = c .before .before in
     let c2 = c1 .before in
     rw (
-      scanned-end _ _ _ _ _ _ (c2 .loop .inv .0) (sym (c1 .next .ensures) ∙ c .enum-told .given .1),
-      scanned-end _ _ _ _ _ _
-          (c2 .loop .inv .1) (sym (c1 .next .ensures) ∙ c .enum-told .given .1),
+      scanned-end (c2 .loop .inv .0) (sym (c1 .next .ensures) ∙ c .enum-told .given .1),
+      scanned-end (c2 .loop .inv .1) (sym (c1 .next .ensures) ∙ c .enum-told .given .1),
     )
 
 returns-2 : tie.Need-returns-2 Inv-loop μ-loop
 returns-2 c =
-    scanned-wrong _ _ _ _ _ _ (c .before .before .before .loop .inv .0) _
+    scanned-wrong (c .before .before .before .loop .inv .0)
     (sym (c .before .before .next .ensures) ∙ c .enum-told2 .given .1)
 
 pub first-bad-spec : {M : Type 1} → statement M

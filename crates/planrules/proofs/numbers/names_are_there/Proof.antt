@@ -1,3 +1,4 @@
+-- One case for each kind that names something, by rewriting the callees' promises; the others name nothing (`no-names`).
 use borrow.Author.Needs.{needs}
 use mathlib.Core.Path.{sym}
 use Rattle.rules.specs.Records.{recordOf, fields, kinds}

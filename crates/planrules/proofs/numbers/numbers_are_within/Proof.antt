@@ -1,3 +1,4 @@
+-- One case for each kind that has ranges, by the callee's promise; the others have none (`no-ranges`).
 use borrow.Author.Needs.{needs}
 use mathlib.Core.Path.{sym}
 use Rattle.planrules.proofs.RecordTests.{no-ranges}

@@ -1,5 +1,4 @@
--- `records::kinds::body_length` meets its contract: an entry of the table is the kind's length, and a kind behind the table is unknown.
--- Assumes nothing.
+-- One test over the nineteen entries, computed, settles the table (`entry`); a kind behind it is unknown (`above`).
 use borrow.Author.Needs.{needs}
 use mathlib.Core.List.{List, [], _∷_}
 use mathlib.Core.Path.{refl, sym}

@@ -1,5 +1,4 @@
--- `records::kinds::known` meets its contract: 255 stands for the unknown kinds alone.
--- Assumes nothing.
+-- No body is 255 bytes long, so 255 stands for the unknown kinds alone (`known-told`).
 use borrow.Author.Needs.{needs}
 use Rattle.records.proofs.LengthTable.{known-told}
 use Rattle.records.proofs.kinds.known.Statement.{statement}

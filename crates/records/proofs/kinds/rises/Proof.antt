@@ -1,5 +1,4 @@
--- `records::kinds::rises` meets its contract: at each `return` the tests that led there are the definition's.
--- Assumes nothing.
+-- At each of the four exits the tests that led there decide the formula.
 use borrow.Author.Tests.{eq-eqb, ne-eqb, le-leb, lt-leb}
 use Rattle.records.proofs.kinds.rises.Statement.{statement}
 use Rattle.records.proofs.kinds.rises.Tie as tie

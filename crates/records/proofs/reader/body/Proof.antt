@@ -1,4 +1,4 @@
--- `records::reader::body` meets its contract: it takes the reader apart and calls `records::body_at` (`Taken.antt`). Assumes nothing.
+-- The MIR walk of `Taken.antt` (`taken-meets`) takes the reader apart; the claim is what `records::body_at` promises.
 use mathlib.Core.Path.{_≡_}
 use mathlib.Core.List.{[], _∷_}
 use mir.Syntax.{named}

@@ -1,5 +1,4 @@
--- `records::reader::body_from` meets its contract: a walk of its MIR, by hand. A reader that one call returns is held in a local and passed to the next. All that the
--- proof knows of `new`, `moved` and `body` is that each meets its contract. In a local MIR erases the lifetime of the struct's type (`typedLocal`). Assumes nothing.
+-- A walk of its MIR by hand: each reader is held in a local (`typedLocal`), and `same` chains the three promises.
 use mathlib.Core.Path.{_≡_, refl}
 use Prim.Native.Nat.{ℕ, _<_, _^_}
 use mathlib.Core.List.{List, [], _∷_}
@@ -177,7 +176,14 @@ module _ {M : Type 1} (𝓤 : URA M) (H : Heap 𝓤) (A : Atoms 𝓤) (W : Given
 module _ {M : Type 1} (𝓤 : URA M) (H : Heap 𝓤) (A : Atoms 𝓤) (W : Given 𝓤 H A) (mem : Memory → SProp 𝓤) (run : Routine → Fun 𝓤) (𝓣 : Tables 𝓤 H) (known-new : Triple 𝓤 (𝓣 .C #new) (New 𝓤 H A mem run)) (known-moved : Triple 𝓤 (𝓣 .C #moved) (Moved 𝓤 H A mem run)) (known-body : Triple 𝓤 (𝓣 .C #body) (Body 𝓤 H A mem run)) where
   meets : Meets 𝓤 H A whole.signature (WpFn 𝓤 H (𝓣 .C) (𝓣 .Λ) code.function) (whole.spec 𝓤 H A mem run)
   meets =
-      walk-meets 𝓤 H A whole.ended stayed W (goes-dropped 𝓤 H A W 1 Bytes yes (λ κs x f. refl), (goes-dropped 𝓤 H A W 1 (plain (λ κs. S.the-row)) yes (λ κs x f. refl), (goes-dropped 𝓤 H A W 1 (plain (λ κs. u8)) yes (λ κs x f. refl), (goes-dropped 𝓤 H A W 1 (plain (λ κs. usize)) yes (λ κs x f. refl), tt)))) (whole.clauses 𝓤 H A mem run) (WpFn 𝓤 H (𝓣 .C) (𝓣 .Λ) code.function) (WpFn-mono 𝓤 H (W .laws) 𝓣 code.function)
+      walk-meets 𝓤 H A whole.ended stayed W (
+        goes-dropped 𝓤 H A W 1 Bytes yes (λ κs x f. refl),
+        (
+          goes-dropped 𝓤 H A W 1 (plain (λ κs. S.the-row)) yes (λ κs x f. refl),
+          (goes-dropped 𝓤 H A W 1 (plain (λ κs. u8)) yes (λ κs x f. refl), (goes-dropped 𝓤 H A W 1 (plain (λ κs. usize)) yes (λ κs x f. refl), tt)),
+        ),
+      )
+      (whole.clauses 𝓤 H A mem run) (WpFn 𝓤 H (𝓣 .C) (𝓣 .Λ) code.function) (WpFn-mono 𝓤 H (W .laws) 𝓣 code.function)
       (walked 𝓤 H A whole.ended stayed (whole.clauses 𝓤 H A mem run) (WpFn 𝓤 H (𝓣 .C) (𝓣 .Λ) code.function) (λ κs. (slice-vals, (EL.vals S.the-type S′.the-laws, (uint-vals w8, (uint-vals w64, tt))))) (λ κs. (shr-slice-tells (named 0) (κs .0) u8, (EL.tells S.the-type S′.the-laws, (uint-tells w8, (uint-tells w64, tt)))))
       (λ κs qs bounds a g are. via 𝓤 _ (fst∗ 𝓤 _ (emp 𝓤)) (walk 𝓤 H A W mem run (κs .0) (qs .0) (a .0) (a .1 .0) (a .1 .1 .0) (a .1 .1 .1 .0) (are .1 .1 .0 .1) (are .1 .1 .1 .0 .1) 𝓣 known-new known-moved known-body (are .0) (are .1 .0))))
 

@@ -1,5 +1,4 @@
--- `records::reader::moved` meets its contract: a walk of its MIR, by hand. A reader is made anew of the slice and the sort of the one passed, and of the numbers passed,
--- whose facts take the place of its own numbers'. Assumes nothing.
+-- A walk of its MIR by hand: the slice and the sort stay, and the facts of the new numbers replace the old (`own-put`).
 use mathlib.Core.Path.{refl}
 use Prim.Native.Nat.{ℕ, _<_, _^_}
 use mathlib.Core.List.{[], _∷_}

@@ -1,5 +1,4 @@
--- `records::reader::new` meets its contract: a walk of its MIR, by hand. A reader is made of the slice and the sort passed and of two zeros, in the result's local.
--- Assumes nothing.
+-- A walk of its MIR by hand: slice, sort and two zeros make the reader in the result's local (`own-shut`).
 use mathlib.Core.Path.{refl}
 use Prim.Native.Nat.{ℕ}
 use mathlib.Core.List.{List, [], _∷_}

@@ -1,4 +1,4 @@
--- `records::reader::next` meets its contract: it takes the reader apart and calls `records::next` (`Taken.antt`). Assumes nothing.
+-- The MIR walk of `Taken.antt` (`taken-meets`) takes the reader apart; the claim is what `records::next` promises.
 use mathlib.Core.Path.{_≡_}
 use contract.Running.{givenOf, tables, tablesOf}
 use denote.Ref.{now}

@@ -1,3 +1,4 @@
+-- Plain computation: `rowsLaid` of no rows unfolds into the zeros.
 use mathlib.Core.Path.{refl}
 use Rattle.rows.specs.Rows.{rowsLaid}
 use Rattle.rows.proofs.Rows.none.Statement.{statement}

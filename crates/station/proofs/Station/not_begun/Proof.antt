@@ -1,3 +1,4 @@
+-- By computation, with the promise of `Node::zero` rewritten into `notBegun`.
 use Rattle.station.specs.Memory.{notBegun}
 use borrow.Author.Needs.{needs}
 use Rattle.station.proofs.Station.not_begun.Statement.{statement}

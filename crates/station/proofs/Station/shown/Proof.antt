@@ -1,3 +1,4 @@
+-- The promise of `shown_on` is `stateOf` unfolded, at the places of node and task.
 use Rattle.station.specs.Memory.{stateOf, stateBy}
 use borrow.Author.Needs.{needs}
 use Rattle.station.proofs.Station.shown.Statement.{statement}

@@ -1,3 +1,4 @@
+-- Two ways past the `if`: an idle turn leaves the nodes (`idle-turn`), another changes them as told (`moving-turn`).
 use mathlib.Core.Logic.{⊎-elim}
 use Rattle.station.proofs.Ticking.{idle-turn, moving-turn}
 use Rattle.station.proofs.Values.{station-valued}

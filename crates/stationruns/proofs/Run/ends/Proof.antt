@@ -1,3 +1,4 @@
+-- Two cases of `is_under_way`: under way it is what `divides` promises, else the conjunction is false.
 use borrow.Author.Needs.{needs}
 use Rattle.stationruns.proofs.Run.ends.Statement.{statement}
 use Rattle.stationruns.proofs.Run.ends.Tie as tie

@@ -1,3 +1,4 @@
+-- Three exits: the tests taken decide the conjunction; where they leave it open, `since_release` gives the number compared.
 use borrow.Author.Needs.{needs}
 use Rattle.stationruns.proofs.Run.is_awaited.Statement.{statement}
 use Rattle.stationruns.proofs.Run.is_awaited.Tie as tie

@@ -1,3 +1,4 @@
+-- Two cases of the first test: passed, `since_release` gives the number compared; failed, the conjunction is false.
 use borrow.Author.Needs.{needs}
 use Rattle.stationruns.proofs.Run.is_last_chance.Statement.{statement}
 use Rattle.stationruns.proofs.Run.is_last_chance.Tie as tie

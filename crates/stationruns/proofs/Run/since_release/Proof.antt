@@ -1,3 +1,4 @@
+-- The promises of `rest` and `less_one` are rewritten; the sum fits, for a remainder is at most what is divided (`mod-le`).
 use native.Mathlib.Omega.{arith}
 use native.Mathlib.Nat.{mod-le}
 use borrow.Author.Needs.{needs}

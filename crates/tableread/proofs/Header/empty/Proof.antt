@@ -1,5 +1,4 @@
--- `judging::table::Header::empty` meets its contract: nothing in it.
--- Assumes nothing.
+-- Plain computation: the header of `emptyTable` unfolds to zeros.
 use mathlib.Core.Path.{refl}
 use Rattle.tableread.specs.Memory.{emptyTable, layOut, noTable}
 use Rattle.tableread.proofs.Header.empty.Statement.{statement}

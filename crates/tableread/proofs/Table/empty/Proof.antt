@@ -1,5 +1,4 @@
--- `judging::table::Table::empty` meets its contract: nothing in it.
--- Assumes nothing.
+-- Plain computation, with the promise of `Header::empty` rewritten.
 use Rattle.tableread.specs.Memory.{emptyTable, layOut, noTable}
 use borrow.Author.Needs.{needs}
 use Rattle.tableread.proofs.Table.empty.Statement.{statement}

@@ -1,3 +1,4 @@
+-- Invariant: k is at most n, and the rows left fall; the loop's test guards each read.
 use Prim.Native.Nat.{_-_, _≤_}
 use borrow.Author.Needs.{needs}
 use Rattle.vectors.proofs.lines.say_rows.Statement.{statement}

@@ -1,3 +1,4 @@
+-- Invariant: i is at most the end, and the bytes left fall; the loop's test guards each read.
 use Prim.Native.Nat.{_-_, _≤_}
 use borrow.Author.Needs.{needs}
 use Rattle.vectors.proofs.lines.say_table.Statement.{statement}

@@ -1,3 +1,4 @@
+-- Invariant: the columns hold the runs of the first i invocations (`Laid`); a bus task is `laid-more`, another `laid-kept`.
 use borrow.Author.Needs.{needs}
 use mathlib.Core.Path.{refl}
 use mathlib.Core.Logic.{⊎-elim}

@@ -1,3 +1,4 @@
+-- The promise of `derive`, begun on zeros, is the laid frames (`laid-is`); the runs seen are those lent, by unfolding.
 use Rattle.cycle.specs.Runs as cycle
 use Rattle.frames.specs.Walk.{runAt, runsIn}
 use Rattle.frames.proofs.Laying.{laid-is}

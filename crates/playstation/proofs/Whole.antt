@@ -1,5 +1,4 @@
 -- A whole history: its first line, and what follows from it.
--- Assumes nothing.
 use mathlib.Core.Path.{_≡_, sym, ap, _∙_}
 use mathlib.Core.List.{List, [], _∷_}
 use native.Mathlib.Nat.{pos-of-ne-zero}
@@ -16,7 +15,7 @@ use Rattle.history.specs.Reading.{oneLine, readLine, lineEnd, changesOf}
 use Rattle.history.specs.declared.Line.{Line}
 use Rattle.history.specs.declared.What.{What}
 use Rattle.history.specs.declared.What.the-variants.{Begin, Tick, Quiet, Unreadable}
-use Rattle.playing.specs.Played.{begunBy, playedLines, played}
+use Rattle.playstation.specs.Played.{begunBy, playedLines, played}
 use Rattle.hearing.specs.Heard.{afterLines, linesOf, behindEnd}
 use Rattle.hearing.proofs.HistoryLines.{line-part, lines-here}
 

@@ -3,8 +3,6 @@ use mathlib.Core.List.{List, [], _∷_}
 use Prim.Native.Nat.{ℕ}
 use Rattle.rules.specs.Station as rules
 use Rattle.stationruns.specs.Inputs.{changeAt}
-use Rattle.stationruns.specs.declared.Given.{Given}
-use Rattle.stationruns.specs.declared.Change.{Change}
 use Rattle.station.specs.Memory.{notBegun}
 use Rattle.station.specs.declared.Station.{Station}
 use Rattle.beginning.specs.Begins.{stationFor}

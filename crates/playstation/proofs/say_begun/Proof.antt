@@ -1,10 +1,11 @@
+-- `begunLine` unfolds, so that its length is known and the part written has it (`length-take-le`).
 use Rattle.answerlines.specs.Writing.{begunLine}
 use native.Mathlib.Omega.{arith}
 use lib.Seq.{length-take-le}
 use mathlib.Core.Path.{sym}
 use borrow.Author.Needs.{needs}
-use Rattle.playing.proofs.say_begun.Statement.{statement}
-use Rattle.playing.proofs.say_begun.Tie as tie
+use Rattle.playstation.proofs.say_begun.Statement.{statement}
+use Rattle.playstation.proofs.say_begun.Tie as tie
 
 array-share-prefix-out : tie.Need-array-share-prefix-out
 unfolding begunLine

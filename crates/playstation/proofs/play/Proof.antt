@@ -1,12 +1,13 @@
-use Rattle.playing.proofs.Whole.{played-empty, played-begin, played-tick, played-quiet, played-unreadable}
+-- Five exits: no byte, or one of four cases of the first line; each is one law, `played-empty` to `played-unreadable`.
+use Rattle.playstation.proofs.Whole.{played-empty, played-begin, played-tick, played-quiet, played-unreadable}
 use Rattle.hearing.proofs.HistoryLines.{behind-later}
 use lib.Seq.{length-take-le}
 use native.Mathlib.Omega.{arith}
 use native.Mathlib.Nat.{pos-of-ne-zero}
 use mathlib.Core.Path.{sym}
 use borrow.Author.Needs.{needs}
-use Rattle.playing.proofs.play.Statement.{statement}
-use Rattle.playing.proofs.play.Tie as tie
+use Rattle.playstation.proofs.play.Statement.{statement}
+use Rattle.playstation.proofs.play.Tie as tie
 
 returns : tie.Need-returns
 returns c =
