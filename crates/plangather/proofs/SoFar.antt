@@ -101,42 +101,43 @@ module _ (s : List ℕ) where
   broken place (ok rs) g = refuse≢ok (sym g)
   broken place (refuse n q) g = rw (refuse-place g)
 
-  module _ (p : memory.Plan) (previous at : ℕ) (h : SoFar s p previous at) where
-    onwards : (step : Step) → nextAt Plan s previous at ≡ step
-        → gatherOn emptyPlan (records planFollows 1 s) ≡ gatherOn p (onward Plan 1 s step)
-    onwards step q = h .whole ∙ ap (gatherOn p) (one-step Plan 1 s previous at (h .inside) ∙ ap (onward Plan 1 s) q)
+-- the step that the reader takes from here is given as a value, with what it is
+module _ {s : List ℕ} {p : memory.Plan} {previous at : ℕ} (h : SoFar s p previous at) {step : Step}
+    (next-is : step ≡ nextAt Plan s previous at) where
+  onwards : {told : Step} → step ≡ told → gatherOn emptyPlan (records planFollows 1 s) ≡ gatherOn p (onward Plan 1 s told)
+  onwards q = h .whole ∙ ap (gatherOn p) (one-step Plan 1 s previous at (h .inside) ∙ ap (onward Plan 1 s) (sym next-is ∙ q))
 
-    pub so-far-more : (kind body next : ℕ) (q : memory.Plan) (lent : List ℕ) → nextAt Plan s previous at ≡ Record kind body next
-        → lent ≡ take (next - body) (drop body s) → q ≡ withRecord p (recordOf kind lent) → SoFar s q kind next
-    so-far-more kind body next q lent e l w =
-        let f = found Plan s previous at kind body next e in
-        let n : next - body ≡ bodyLength kind = omega (arith, f .body-place, f .next-place) in
-        let r : q ≡ withRecord p (recordOf kind (drop body s)) = rw (l, n, record-cut kind (drop body s)) at w in
-        record {
-          inside = f .fits;
-          whole =
-              onwards (Record kind body next) e
-              ∙ gather-before planFollows 1 p (recordOf kind (drop body s)) (from Plan 1 s kind next)
-              ∙ rw r;
-          counted = λ k t. rw r (omega (arith, counted-more p (recordOf kind (drop body s)) k t, h .counted k t, f .further));
-          sized = rw r (sizes-kept p (recordOf kind (drop body s)) ∙ h .sized);
-        }
+  pub so-far-more : {kind body next : ℕ} {q : memory.Plan} {lent : List ℕ} → step ≡ Record kind body next
+      → lent ≡ take (next - body) (drop body s) → q ≡ withRecord p (recordOf kind lent) → SoFar s q kind next
+  so-far-more {kind} {body} {next} {q} {lent} e l w =
+      let f = found Plan s previous at kind body next (sym next-is ∙ e) in
+      let n : next - body ≡ bodyLength kind = omega (arith, f .body-place, f .next-place) in
+      let r : q ≡ withRecord p (recordOf kind (drop body s)) = rw (l, n, record-cut kind (drop body s)) at w in
+      record {
+        inside = f .fits;
+        whole =
+            onwards e
+            ∙ gather-before planFollows 1 p (recordOf kind (drop body s)) (from Plan 1 s kind next)
+            ∙ rw r;
+        counted = λ k t. rw r (omega (arith, counted-more p (recordOf kind (drop body s)) k t, h .counted k t, f .further));
+        sized = rw r (sizes-kept p (recordOf kind (drop body s)) ∙ h .sized);
+      }
 
-    -- a record is counted at a place inside of the file, and what stands behind it is less
-    pub so-far-number : (kind body next : ℕ) → nextAt Plan s previous at ≡ Record kind body next → numberOf (p .counts) kind < length s
-    so-far-number kind body next e =
-        let f = found Plan s previous at kind body next e in
-        omega (arith, f .further, f .fits, number-least p kind at (h .counted))
+  -- a record is counted at a place inside of the file, and what stands behind it is less
+  pub so-far-number : {kind body next : ℕ} → step ≡ Record kind body next → numberOf (p .counts) kind < length s
+  so-far-number {kind} {body} {next} e =
+      let f = found Plan s previous at kind body next (sym next-is ∙ e) in
+      omega (arith, f .further, f .fits, number-least p kind at (h .counted))
 
-    pub so-far-less : (kind body next : ℕ) → nextAt Plan s previous at ≡ Record kind body next → length s - next < length s - at
-    so-far-less kind body next e =
-        let f = found Plan s previous at kind body next e in
-        omega (arith, f .further, f .fits)
+  pub so-far-less : {kind body next : ℕ} → step ≡ Record kind body next → length s - next < length s - at
+  so-far-less {kind} {body} {next} e =
+      let f = found Plan s previous at kind body next (sym next-is ∙ e) in
+      omega (arith, f .further, f .fits)
 
-    pub so-far-end : nextAt Plan s previous at ≡ End
-        → record { outcome = Whole; plan = p } ≡ gatheredOf (records planFollows 1 s)
-    so-far-end e = finished p (records planFollows 1 s) refl (onwards End e)
+  pub so-far-end : step ≡ End
+      → record { outcome = Whole; plan = p } ≡ gatheredOf (records planFollows 1 s)
+  so-far-end e = finished s p (records planFollows 1 s) refl (onwards e)
 
-    pub so-far-wrong : (place : ℕ) → nextAt Plan s previous at ≡ Wrong place
-        → record { outcome = Broken (record { 0 = place }); plan = emptyPlan } ≡ gatheredOf (records planFollows 1 s)
-    so-far-wrong place e = broken place (records planFollows 1 s) (onwards (Wrong place) e)
+  pub so-far-wrong : {place : ℕ} → step ≡ Wrong place
+      → record { outcome = Broken (record { 0 = place }); plan = emptyPlan } ≡ gatheredOf (records planFollows 1 s)
+  so-far-wrong {place} e = broken s place (records planFollows 1 s) (onwards e)

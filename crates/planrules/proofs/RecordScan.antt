@@ -72,53 +72,57 @@ pub record Scanned (s : List ℕ) (test : Rec → Bool) (previous at n : ℕ) (f
   pub whole : foundOf (firstBadOf test (records planFollows 1 s)) ≡ orLater f (shifted n (firstBadOf test (from Plan 1 s previous at)))
   pub counted : n ≤ at
 
-module _ {s : List ℕ} {test : Rec → Bool} where
-  pub scanned-none : isOk (records planFollows 1 s) ≡ true → Scanned s test 0 0 0 Nothing
-  unfolding records from
-  scanned-none e = record { inside = omega arith; sound = e; whole = ap foundOf (sym (shifted-none (firstBadOf test (records planFollows 1 s)))); counted = omega arith }
+pub scanned-none : {s : List ℕ} {test : Rec → Bool} → isOk (records planFollows 1 s) ≡ true → Scanned s test 0 0 0 Nothing
+unfolding records from
+scanned-none {s} {test} e =
+    record { inside = omega arith; sound = e; whole = ap foundOf (sym (shifted-none (firstBadOf test (records planFollows 1 s)))); counted = omega arith }
 
-  module _ {previous at n : ℕ} {f : Found} (h : Scanned s test previous at n f) where
-    onwards : (step : Step) → nextAt Plan s previous at ≡ step
-        → foundOf (firstBadOf test (records planFollows 1 s)) ≡ orLater f (shifted n (firstBadOf test (onward Plan 1 s step)))
-    onwards step q =
-        h .whole ∙ ap (λ (w : Res (List Rec)). orLater f (shifted n (firstBadOf test w))) (one-step Plan 1 s previous at (h .inside) ∙ ap (onward Plan 1 s) q)
+-- the step that the reader takes from here is given as a value, with what it is
+module _ {s : List ℕ} {test : Rec → Bool} {previous at n : ℕ} {f : Found} (h : Scanned s test previous at n f) {step : Step}
+    (next-is : step ≡ nextAt Plan s previous at) where
+  onwards : {told : Step} → step ≡ told
+      → foundOf (firstBadOf test (records planFollows 1 s)) ≡ orLater f (shifted n (firstBadOf test (onward Plan 1 s told)))
+  onwards q =
+      h .whole
+      ∙ ap (λ (w : Res (List Rec)). orLater f (shifted n (firstBadOf test w)))
+      (one-step Plan 1 s previous at (h .inside) ∙ ap (onward Plan 1 s) (sym next-is ∙ q))
 
-    sound-on : (step : Step) → nextAt Plan s previous at ≡ step → isOk (onward Plan 1 s step) ≡ true
-    sound-on step q =
-        sym (ap (isOk {A = List Rec}) (one-step Plan 1 s previous at (h .inside) ∙ ap (onward Plan 1 s) q)) ∙ h .sound
+  sound-on : {told : Step} → step ≡ told → isOk (onward Plan 1 s told) ≡ true
+  sound-on q =
+      sym (ap (isOk {A = List Rec}) (one-step Plan 1 s previous at (h .inside) ∙ ap (onward Plan 1 s) (sym next-is ∙ q))) ∙ h .sound
 
-    pub scanned-more : {kind body next : ℕ} {lent : List ℕ} {good : Bool} {g : Found} → nextAt Plan s previous at ≡ Record kind body next
-        → lent ≡ take (next - body) (drop body s) → good ≡ test (recordOf kind lent) → g ≡ earlierOf f good n
-        → Scanned s test kind next (n + 1) g
-    scanned-more {kind} {body} {next} {lent} {good} e l q t =
-        let u = found Plan s previous at kind body next e in
-        let w : next - body ≡ bodyLength kind = omega (arith, u .body-place, u .next-place) in
-        let v : test (recordOf kind (drop body s)) ≡ good = sym (rw (l, w, record-cut kind (drop body s)) at q) in
-        let behind : isOk (from Plan 1 s kind next) ≡ true
-        = sound-behind planFollows 1 test (recordOf kind (drop body s)) (from Plan 1 s kind next) (sound-on (Record kind body next) e) in
-        record {
-          inside = u .fits;
-          sound = behind;
-          whole =
-              onwards (Record kind body next) e
-              ∙ one-later planFollows 1 test (recordOf kind (drop body s)) n (from Plan 1 s kind next) behind f good v
-              ∙ rw t;
-          counted = omega (arith, h .counted, u .further);
-        }
+  pub scanned-more : {kind body next : ℕ} {lent : List ℕ} {good : Bool} {g : Found} → step ≡ Record kind body next
+      → lent ≡ take (next - body) (drop body s) → good ≡ test (recordOf kind lent) → g ≡ earlierOf f good n
+      → Scanned s test kind next (n + 1) g
+  scanned-more {kind} {body} {next} {lent} {good} e l q t =
+      let u = found Plan s previous at kind body next (sym next-is ∙ e) in
+      let w : next - body ≡ bodyLength kind = omega (arith, u .body-place, u .next-place) in
+      let v : test (recordOf kind (drop body s)) ≡ good = sym (rw (l, w, record-cut kind (drop body s)) at q) in
+      let behind : isOk (from Plan 1 s kind next) ≡ true
+      = sound-behind planFollows 1 test (recordOf kind (drop body s)) (from Plan 1 s kind next) (sound-on e) in
+      record {
+        inside = u .fits;
+        sound = behind;
+        whole =
+            onwards e
+            ∙ one-later planFollows 1 test (recordOf kind (drop body s)) n (from Plan 1 s kind next) behind f good v
+            ∙ rw t;
+        counted = omega (arith, h .counted, u .further);
+      }
 
-    pub scanned-end : nextAt Plan s previous at ≡ End → f ≡ foundOf (firstBadOf test (records planFollows 1 s))
-    scanned-end e = sym (onwards End e ∙ later-none f)
+  pub scanned-end : step ≡ End → f ≡ foundOf (firstBadOf test (records planFollows 1 s))
+  scanned-end e = sym (onwards e ∙ later-none f)
 
-    pub scanned-wrong : {C : Type 0} {place : ℕ} → nextAt Plan s previous at ≡ Wrong place → C
-    scanned-wrong {place = place} e = true-false (sym (sound-on (Wrong place) e))
+  pub scanned-wrong : {C : Type 0} {place : ℕ} → step ≡ Wrong place → C
+  scanned-wrong e = true-false (sym (sound-on e))
 
-    -- the next record is counted at a place inside of the file, and what stands behind it is less
-    pub scanned-number : {kind body next : ℕ} → nextAt Plan s previous at ≡ Record kind body next → n < length s
-    scanned-number {kind} {body} {next} e =
-        let u = found Plan s previous at kind body next e in
-        omega (arith, u .fits, u .further, h .counted)
+  -- the next record is counted at a place inside of the file, and what stands behind it is less
+  pub scanned-number : {kind body next : ℕ} → step ≡ Record kind body next → n < length s
+  scanned-number {kind} {body} {next} e =
+      let u = found Plan s previous at kind body next (sym next-is ∙ e) in
+      omega (arith, u .fits, u .further, h .counted)
 
-    pub scanned-less : {kind body next : ℕ} → nextAt Plan s previous at ≡ Record kind body next → length s - next < length s - at
-    scanned-less {kind} {body} {next} e =
-        let u = found Plan s previous at kind body next e in
-        omega (arith, u .fits, u .further)
+  pub scanned-less : {kind body next : ℕ} → step ≡ Record kind body next → length s - next < length s - at
+  scanned-less {kind} {body} {next} e =
+      let u = found Plan s previous at kind body next (sym next-is ∙ e) in
+      omega (arith, u .fits, u .further)

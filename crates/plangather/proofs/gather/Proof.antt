@@ -26,7 +26,7 @@ counted-requires c κs =
     let c2 = c1 .before .before .before in
     omega (
       arith,
-      so-far-number _ _ _ _ (c2 .loop .inv) _ _ _ (sym (c1 .before .before .next .ensures) ∙ c1 .kind .given .1),
+      so-far-number (c2 .loop .inv) (c1 .before .before .next .ensures) (c1 .kind .given .1),
       c2 .before .before .before .good .0 .0,
     )
 
@@ -69,134 +69,118 @@ element-set-from-p-5 c = kept-place _ _ 7 (sym (c .before .before .kept .ensures
 loop-less : tie.Need-loop-less Inv-loop μ-loop
 loop-less c =
     let c1 = c .before .before .before .before .before .before .before in
-    so-far-less _ _ _ _ (c1 .before .before .before .loop .inv) _ _ _
-    (sym (c1 .before .before .next .ensures) ∙ c1 .kind .given .1)
+    so-far-less (c1 .before .before .before .loop .inv) (c1 .before .before .next .ensures) (c1 .kind .given .1)
 
 loop-again : tie.Need-loop-again Inv-loop μ-loop
 loop-again c =
     let c1 = c .before .before .before in
     let c2 = c1 .before .before .before .before in
-    so-far-more _ _ _ _ (c2 .before .before .before .loop .inv) _ _ _ _ _
-    (sym (c2 .before .before .next .ensures) ∙ c2 .kind .given .1) (c1 .before .before .body .ensures)
+    so-far-more (c2 .before .before .before .loop .inv) (c2 .before .before .next .ensures) (c2 .kind .given .1) (c1 .before .before .body .ensures)
     (stored-bus _ _ _ _ _ (c1 .counted .ensures .0) (c1 .counted .ensures .1) _
     (sym (c .before .before .kept .ensures) ∙ c .before .match2 .keys1) (c .bus .ensures))
 
 loop-less-2 : tie.Need-loop-less-2 Inv-loop μ-loop
 loop-less-2 c =
     let c1 = c .before .before .before .before .before .before .before in
-    so-far-less _ _ _ _ (c1 .before .before .before .loop .inv) _ _ _
-    (sym (c1 .before .before .next .ensures) ∙ c1 .kind .given .1)
+    so-far-less (c1 .before .before .before .loop .inv) (c1 .before .before .next .ensures) (c1 .kind .given .1)
 
 loop-again-2 : tie.Need-loop-again-2 Inv-loop μ-loop
 unfolding recordOf fields kinds
 loop-again-2 c =
     let c1 = c .before .before .before in
     let c2 = c1 .before .before .before .before in
-    so-far-more _ _ _ _ (c2 .before .before .before .loop .inv) _ _ _ _ _
-    (sym (c2 .before .before .next .ensures) ∙ c2 .kind .given .1) (c1 .before .before .body .ensures)
+    so-far-more (c2 .before .before .before .loop .inv) (c2 .before .before .next .ensures) (c2 .kind .given .1) (c1 .before .before .body .ensures)
     (stored-nodes _ _ _ _ _ (c1 .counted .ensures .0) (c1 .counted .ensures .1) _
     (sym (c .before .before .kept .ensures) ∙ c .before .match2 .keys2) (c .read8 .ensures))
 
 loop-less-3 : tie.Need-loop-less-3 Inv-loop μ-loop
 loop-less-3 c =
     let c1 = c .before .before .before .before .before .before .before in
-    so-far-less _ _ _ _ (c1 .before .before .before .loop .inv) _ _ _
-    (sym (c1 .before .before .next .ensures) ∙ c1 .kind .given .1)
+    so-far-less (c1 .before .before .before .loop .inv) (c1 .before .before .next .ensures) (c1 .kind .given .1)
 
 loop-again-3 : tie.Need-loop-again-3 Inv-loop μ-loop
 loop-again-3 c =
     let c1 = c .before .before .before in
     let c2 = c1 .before .before .before .before in
-    so-far-more _ _ _ _ (c2 .before .before .before .loop .inv) _ _ _ _ _
-    (sym (c2 .before .before .next .ensures) ∙ c2 .kind .given .1) (c1 .before .before .body .ensures)
+    so-far-more (c2 .before .before .before .loop .inv) (c2 .before .before .next .ensures) (c2 .kind .given .1) (c1 .before .before .body .ensures)
     (stored-module _ _ _ _ _ (c1 .counted .ensures .0) (c1 .counted .ensures .1) _
     (sym (c .before .before .kept .ensures) ∙ c .before .match2 .keys3) (c .«module» .ensures))
 
 loop-less-4 : tie.Need-loop-less-4 Inv-loop μ-loop
 loop-less-4 c =
     let c1 = c .before .before .before .before .before .before .before in
-    so-far-less _ _ _ _ (c1 .before .before .before .loop .inv) _ _ _
-    (sym (c1 .before .before .next .ensures) ∙ c1 .kind .given .1)
+    so-far-less (c1 .before .before .before .loop .inv) (c1 .before .before .next .ensures) (c1 .kind .given .1)
 
 loop-again-4 : tie.Need-loop-again-4 Inv-loop μ-loop
 loop-again-4 c =
     let c1 = c .before .before .before in
     let c2 = c1 .before .before .before .before in
-    so-far-more _ _ _ _ (c2 .before .before .before .loop .inv) _ _ _ _ _
-    (sym (c2 .before .before .next .ensures) ∙ c2 .kind .given .1) (c1 .before .before .body .ensures)
+    so-far-more (c2 .before .before .before .loop .inv) (c2 .before .before .next .ensures) (c2 .kind .given .1) (c1 .before .before .body .ensures)
     (stored-mode _ _ _ _ _ (c1 .counted .ensures .0) (c1 .counted .ensures .1) _
     (sym (c .before .before .kept .ensures) ∙ c .before .match2 .keys4) (c .mode .ensures))
 
 loop-less-5 : tie.Need-loop-less-5 Inv-loop μ-loop
 loop-less-5 c =
     let c1 = c .before .before .before .before .before .before .before in
-    so-far-less _ _ _ _ (c1 .before .before .before .loop .inv) _ _ _
-    (sym (c1 .before .before .next .ensures) ∙ c1 .kind .given .1)
+    so-far-less (c1 .before .before .before .loop .inv) (c1 .before .before .next .ensures) (c1 .kind .given .1)
 
 loop-again-5 : tie.Need-loop-again-5 Inv-loop μ-loop
 loop-again-5 c =
     let c1 = c .before .before .before in
     let c2 = c1 .before .before .before .before in
-    so-far-more _ _ _ _ (c2 .before .before .before .loop .inv) _ _ _ _ _
-    (sym (c2 .before .before .next .ensures) ∙ c2 .kind .given .1) (c1 .before .before .body .ensures)
+    so-far-more (c2 .before .before .before .loop .inv) (c2 .before .before .next .ensures) (c2 .kind .given .1) (c1 .before .before .body .ensures)
     (stored-task _ _ _ _ _ (c1 .counted .ensures .0) (c1 .counted .ensures .1) _
     (sym (c .before .before .kept .ensures) ∙ c .before .match2 .keys5) (c .task .ensures))
 
 loop-less-6 : tie.Need-loop-less-6 Inv-loop μ-loop
 loop-less-6 c =
     let c1 = c .before .before .before .before .before .before .before in
-    so-far-less _ _ _ _ (c1 .before .before .before .loop .inv) _ _ _
-    (sym (c1 .before .before .next .ensures) ∙ c1 .kind .given .1)
+    so-far-less (c1 .before .before .before .loop .inv) (c1 .before .before .next .ensures) (c1 .kind .given .1)
 
 loop-again-6 : tie.Need-loop-again-6 Inv-loop μ-loop
 loop-again-6 c =
     let c1 = c .before .before .before in
     let c2 = c1 .before .before .before .before in
-    so-far-more _ _ _ _ (c2 .before .before .before .loop .inv) _ _ _ _ _
-    (sym (c2 .before .before .next .ensures) ∙ c2 .kind .given .1) (c1 .before .before .body .ensures)
+    so-far-more (c2 .before .before .before .loop .inv) (c2 .before .before .next .ensures) (c2 .kind .given .1) (c1 .before .before .body .ensures)
     (stored-invocation _ _ _ _ _ (c1 .counted .ensures .0) (c1 .counted .ensures .1) _
     (sym (c .before .before .kept .ensures) ∙ c .before .match2 .keys6) (c .invocation .ensures))
 
 loop-less-7 : tie.Need-loop-less-7 Inv-loop μ-loop
 loop-less-7 c =
     let c1 = c .before .before .before .before .before .before .before in
-    so-far-less _ _ _ _ (c1 .before .before .before .loop .inv) _ _ _
-    (sym (c1 .before .before .next .ensures) ∙ c1 .kind .given .1)
+    so-far-less (c1 .before .before .before .loop .inv) (c1 .before .before .next .ensures) (c1 .kind .given .1)
 
 loop-again-7 : tie.Need-loop-again-7 Inv-loop μ-loop
 loop-again-7 c =
     let c1 = c .before .before .before in
     let c2 = c1 .before .before .before .before in
-    so-far-more _ _ _ _ (c2 .before .before .before .loop .inv) _ _ _ _ _
-    (sym (c2 .before .before .next .ensures) ∙ c2 .kind .given .1) (c1 .before .before .body .ensures)
+    so-far-more (c2 .before .before .before .loop .inv) (c2 .before .before .next .ensures) (c2 .kind .given .1) (c1 .before .before .body .ensures)
     (stored-connection _ _ _ _ _ (c1 .counted .ensures .0) (c1 .counted .ensures .1) _
     (sym (c .before .before .kept .ensures) ∙ c .before .match2 .keys7) (c .connection .ensures))
 
 loop-less-8 : tie.Need-loop-less-8 Inv-loop μ-loop
 loop-less-8 c =
     let c1 = c .before .before .before .before .before .before in
-    so-far-less _ _ _ _ (c1 .before .before .before .loop .inv) _ _ _
-    (sym (c1 .before .before .next .ensures) ∙ c1 .kind .given .1)
+    so-far-less (c1 .before .before .before .loop .inv) (c1 .before .before .next .ensures) (c1 .kind .given .1)
 
 loop-again-8 : tie.Need-loop-again-8 Inv-loop μ-loop
 loop-again-8 c =
     let c1 = c .before .before in
     let c2 = c1 .before .before .before .before in
     let c3 = c2 .before .before .before in
-    so-far-more _ _ _ _ (c3 .loop .inv) _ _ _ _ _ (sym (c2 .before .before .next .ensures) ∙ c2 .kind .given .1)
+    so-far-more (c3 .loop .inv) (c2 .before .before .next .ensures) (c2 .kind .given .1)
     (c1 .before .before .body .ensures)
     (not-stored _ _ _ (c3 .loop .inv .sized) _ _ _ (c1 .counted .ensures .0) (c1 .counted .ensures .1) (c .before .kept .ensures)
     (c .match2 .rest))
 
 returns : tie.Need-returns Inv-loop μ-loop
 returns c =
-    so-far-end _ _ _ _ (c .before .before .before .loop .inv) (sym (c .before .before .next .ensures) ∙ c .enum-told .given .1)
+    so-far-end (c .before .before .before .loop .inv) (c .before .before .next .ensures) (c .enum-told .given .1)
 
 returns-2 : tie.Need-returns-2 Inv-loop μ-loop
 returns-2 c =
     let c1 = c .before .before .before .before in
-    rw (c .empty2 .ensures) (so-far-wrong _ _ _ _ (c1 .before .loop .inv) _
-    (sym (c1 .next .ensures) ∙ c .before .before .place .given .1))
+    rw (c .empty2 .ensures) (so-far-wrong (c1 .before .loop .inv) (c1 .next .ensures) (c .before .before .place .given .1))
 
 pub gather-spec : {M : Type 1} → statement M
 gather-spec =

@@ -12,12 +12,12 @@ returns-2 c =
     let c1 = c .before .before .before in
     let c2 = c1 .before .before .before .before in
     rw (c2 .before .before .before .row .given .1)
-    (c .has-message .ensures ∙ rw (
+    (rw (
       c .before .number-at .ensures,
       c1 .byte-at3 .ensures .0,
       c1 .before .byte-at2 .ensures .0,
       c2 .byte-at .ensures .0,
-    ))
+    ) at (c .has-message .ensures))
 
 pub full-after-spec : {M : Type 1} → statement M
 full-after-spec =

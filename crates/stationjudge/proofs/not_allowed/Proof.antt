@@ -23,7 +23,7 @@ loop-again c =
     let c2 = c1 .before .before .before .before .before .before in (
       search needs,
       passed-turn (c2 .loop .inv .1)
-          (c .before .is-allowed .ensures ∙ rw (c1 .number-at .ensures, c1 .before .byte-at .ensures .0)) (c .if1 .taken),
+          (rw (c1 .number-at .ensures, c1 .before .byte-at .ensures .0) at (c .before .is-allowed .ensures)) (c .if1 .taken),
     )
 
 returns : tie.Need-returns Inv-loop μ-loop
@@ -31,7 +31,7 @@ returns c =
     let c1 = c .before .before .before in
     let c2 = c1 .before .before .before .before .before in
     passed-hit (c2 .before .loop .inv .1) (c2 .loop-test .taken)
-    (c .before .is-allowed .ensures ∙ rw (c1 .number-at .ensures, c1 .before .byte-at .ensures .0)) (c .if1 .left)
+    (rw (c1 .number-at .ensures, c1 .before .byte-at .ensures .0) at (c .before .is-allowed .ensures)) (c .if1 .left)
 
 returns-2 : tie.Need-returns-2 Inv-loop μ-loop
 returns-2 c = passed-end (c .before .loop .inv .1) (c .before .loop .inv .0) (c .loop-test .left)

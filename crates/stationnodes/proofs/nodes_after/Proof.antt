@@ -21,7 +21,7 @@ loop-again : tie.Need-loop-again Inv-loop μ-loop
 unfolding nodeRule
 loop-again c =
     let c1 = c .before .before .before in
-    (search needs, filled-turn (c1 .loop .inv .1) (c .node-after .ensures ∙ rw (filled-next (c1 .loop .inv .1) noNode)))
+    (search needs, filled-turn (c1 .loop .inv .1) (rw (filled-next (c1 .loop .inv .1) noNode) at (c .node-after .ensures)))
 
 returns : tie.Need-returns Inv-loop μ-loop
 returns c = filled-end (c .before .loop .inv .1) (c .before .loop .inv .0) (c .loop-test .left)

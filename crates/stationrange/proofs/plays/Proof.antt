@@ -24,12 +24,12 @@ loop-again c =
     let c3 = c2 .before .before .before in (
       search needs,
       tested-turn (c3 .before .before .before .loop .inv .1) (c .both .ensures)
-          (c .before .play .ensures ∙ rw (
+          (rw (
             c2 .if-so .ensures,
             c2 .before .byte-at2 .ensures .0,
             c1 .number-at .ensures,
             c3 .byte-at .ensures .0,
-          )),
+          ) at (c .before .play .ensures)),
     )
 
 returns : tie.Need-returns Inv-loop μ-loop

@@ -21,7 +21,7 @@ loop-again c =
     let c1 = c .before .before .before in (
       search needs,
       tested-turn (c1 .before .before .before .before .loop .inv .1) (c .both .ensures)
-          (c .before .thing .ensures ∙ rw (c1 .wide .ensures)),
+          (rw (c1 .wide .ensures) at (c .before .thing .ensures)),
     )
 
 returns : tie.Need-returns Inv-loop μ-loop

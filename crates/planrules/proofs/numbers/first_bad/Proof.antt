@@ -1,6 +1,6 @@
 -- Invariant, for either test: what was found, else the first bad of the rest, is the answer (`Scanned`). `Wrong` cannot be.
 use borrow.Author.Needs.{needs}
-use mathlib.Core.Path.{sym, _∙_}
+use mathlib.Core.Path.{_∙_}
 use native.Mathlib.Omega.{arith}
 use lib.ListN.{length}
 use Prim.Native.Nat.{_-_}
@@ -26,27 +26,24 @@ add-n c =
     let c2 = c1 .before .before .before in
     omega (
       arith,
-      scanned-number (c2 .loop .inv .0)
-          (sym (c1 .before .before .next .ensures) ∙ c1 .kind .given .1),
+      scanned-number (c2 .loop .inv .0) (c1 .before .before .next .ensures) (c1 .kind .given .1),
       c2 .before .before .good .0 .0,
     )
 
 loop-less : tie.Need-loop-less Inv-loop μ-loop
 loop-less c =
     let c1 = c .before .before .before .before .before .before in
-    scanned-less (c1 .before .before .before .loop .inv .0)
-    (sym (c1 .before .before .next .ensures) ∙ c1 .kind .given .1)
+    scanned-less (c1 .before .before .before .loop .inv .0) (c1 .before .before .next .ensures) (c1 .kind .given .1)
 
 loop-again : tie.Need-loop-again Inv-loop μ-loop
 loop-again c =
     let c1 = c .before .before .before .before in
     let c2 = c1 .before .before in
     let c3 = c2 .before .before in
-    let l = c3 .before .loop in
-    let read = sym (c3 .next .ensures) ∙ c2 .kind .given .1 in (
-      scanned-more (l .inv .0) read (c1 .body .ensures) (c .before .before .before .names-are-there .ensures)
+    let l = c3 .before .loop in (
+      scanned-more (l .inv .0) (c3 .next .ensures) (c2 .kind .given .1) (c1 .body .ensures) (c .before .before .before .names-are-there .ensures)
           (c .before .before .earlier .ensures),
-      scanned-more (l .inv .1) read (c1 .body .ensures) (c .before .numbers-are-within .ensures) (c .earlier2 .ensures),
+      scanned-more (l .inv .1) (c3 .next .ensures) (c2 .kind .given .1) (c1 .body .ensures) (c .before .numbers-are-within .ensures) (c .earlier2 .ensures),
     )
 
 returns : tie.Need-returns Inv-loop μ-loop
@@ -54,14 +51,13 @@ returns c =
     let c1 = c .before .before in
     let c2 = c1 .before in
     rw (
-      scanned-end (c2 .loop .inv .0) (sym (c1 .next .ensures) ∙ c .enum-told .given .1),
-      scanned-end (c2 .loop .inv .1) (sym (c1 .next .ensures) ∙ c .enum-told .given .1),
+      scanned-end (c2 .loop .inv .0) (c1 .next .ensures) (c .enum-told .given .1),
+      scanned-end (c2 .loop .inv .1) (c1 .next .ensures) (c .enum-told .given .1),
     )
 
 returns-2 : tie.Need-returns-2 Inv-loop μ-loop
 returns-2 c =
-    scanned-wrong (c .before .before .before .loop .inv .0)
-    (sym (c .before .before .next .ensures) ∙ c .enum-told2 .given .1)
+    scanned-wrong (c .before .before .before .loop .inv .0) (c .before .before .next .ensures) (c .enum-told2 .given .1)
 
 pub first-bad-spec : {M : Type 1} → statement M
 first-bad-spec =
