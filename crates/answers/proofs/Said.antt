@@ -103,9 +103,6 @@ found (ResultTooLarge _) = refl
 found (ResultOverdue _) = refl
 found (ChangeNotAllowed _) = refl
 
-pub same-refusal : (x y : Refusal) → numberOf x ≡ numberOf y → placeOf x ≡ placeOf y → x ≡ y
-same-refusal x y n p = cc (found x, found y, n, p)
-
 -- No second refusal is said with the same number and place.
 pub said-once : {A : Type 0} → (x y : Refusal) → said {A = A} x ≡ said y → x ≡ y
 said-once x y e = cc (found x, found y, e)

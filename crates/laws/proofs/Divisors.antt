@@ -5,7 +5,7 @@ use mathlib.Core.Bool.{true, _&&_}
 use mathlib.Core.Logic.{_⊎_, inl, inr}
 use native.Mathlib.Nat.{not-suc-le-zero, le-of-suc-le-suc, zero-lt-suc, mul-zero, zero-mul, mul-comm, mul-assoc, mul-sub, suc-mul, mul-pos}
 use native.Mathlib.Nat.{mod-lt, mod-def, div-mul-le-self, div-lt-iff-lt-mul, lt-div-mul-add, mul-div-mul-left, eq-zero-or-pos, div-zero}
-use native.Mathlib.Nat.{dvd-refl, dvd-zero, dvd-mul-left, dvd-mul-right, dvd-trans, dvd-mod-iff, dvd-antisymm, eq-zero-of-zero-dvd, pos-of-dvd-of-pos, mul-div-cancel', div-mul-cancel, mul-dvd-mul-left, mul-dvd-mul-right, dvd-of-mul-dvd-mul-right}
+use native.Mathlib.Nat.{dvd-refl, dvd-zero, dvd-mul-left, dvd-mul-right, dvd-trans, dvd-mod-iff, dvd-antisymm, eq-zero-of-zero-dvd, mul-div-cancel', div-mul-cancel, mul-dvd-mul-left, mul-dvd-mul-right, dvd-of-mul-dvd-mul-right}
 use native.Mathlib.Omega.{arith}
 use Prim.Native.Nat.{ℕ, zero, suc, _+_, _*_, _-_, _/_, _%_, _≤_, _<_, _∣_}
 use Rattle.laws.specs.Numbers.{divides, euclid, gcd, lcm, ceil, up, down}
@@ -138,9 +138,6 @@ lcm-least a b m p q = by-case (eq-zero-or-pos (gcd a b))
 
 pub lcm-unique : (a b l : ℕ) → a ∣ l → b ∣ l → ((m : ℕ) → a ∣ m → b ∣ m → l ∣ m) → l ≡ lcm a b
 lcm-unique a b l p q h = dvd-antisymm (h (lcm a b) (lcm-left a b) (lcm-right a b)) (lcm-least a b l p q)
-
-pub lcm-pos : (a b : ℕ) → 0 < a → 0 < b → 0 < lcm a b
-lcm-pos a b h k = pos-of-dvd-of-pos (lcm-least a b (a * b) (dvd-mul-right a b) (dvd-mul-left b a)) (mul-pos h k)
 
 -- a number is a multiple of the lcm exactly when it is one of both
 pub lcm-divides : (a b m : ℕ) → divides (lcm a b) m ≡ (divides a m && divides b m)

@@ -1,4 +1,4 @@
--- Loops: the laws that carry a filling loop (`stores`) and a scan (`firstBelow`, `firstBad`). A scan's invariant is that the part
+-- Loops: the laws that carry a filling loop (`stores`) and a scan (`firstBad`). A scan's invariant is that the part
 -- already seen gives `none`; one law goes a turn further, one ends the scan, one returns the place that was met.
 use mathlib.Core.Path.{_≡_, refl, sym, ap, _∙_}
 use mathlib.Core.Bool.{Bool, true, false}
@@ -12,7 +12,7 @@ use lib.ListN.{length, getD, set, take, length-set}
 use lib.Seq.{ext-getD, getD-take, length-take-le, set-getD, getD-set-same, getD-set-other, take-all}
 use Prim.Native.Nat.{ℕ, zero, suc, _+_, _≤_, _<_, zero-le, suc-le-suc}
 use Rattle.laws.specs.Lists.{orNext, firstBad, tab, upTo}
-use Rattle.laws.specs.Loops.{stores, orAt, firstBelow}
+use Rattle.laws.specs.Loops.{stores}
 use Rattle.laws.proofs.Lists.{take-more, length-tab, getD-tab, length-upTo, getD-upTo, upTo-more}
 
 -- ---- stores
@@ -71,18 +71,6 @@ stores-all {A} (x ∷ old) f = ext-getD x whole _ (full ∙ sym (length-tab f 0 
     at-each i h =
         let w : i < n = rw full at h in
         stores-at (x ∷ old) f n i x w (omega arith) ∙ ap f (sym (zero-add i)) ∙ sym (getD-tab f 0 n i x w)
-
--- ---- firstBelow
-
-module _ (p : ℕ → Bool) where
-  pub hit : (n k : ℕ) → k < n → firstBelow p k ≡ none → p k ≡ true → firstBelow p n ≡ some k
-  hit zero k h e q = absurd (not-suc-le-zero h)
-  hit (suc n) k h e q = here (hit n k) (eq-or-lt-of-le (le-of-suc-le-suc h))
-    where
-      here : (k < n → firstBelow p k ≡ none → p k ≡ true → firstBelow p n ≡ some k) → (k ≡ n) ⊎ (k < n)
-          → orAt (firstBelow p n) (p n) n ≡ some k
-      here before (inl s) = rw (← s, e, q)
-      here before (inr l) = rw (before l e q)
 
 -- ---- firstBad, of a list read by places
 

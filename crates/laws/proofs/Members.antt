@@ -182,10 +182,6 @@ module _ {A : Type 0} where
     pairs-getD d (before a r) zero (suc k) h w = all-getD d a k (le-of-suc-le-suc w)
     pairs-getD d (before a r) (suc j) (suc k) h w = pairs-getD d r j k (le-of-suc-le-suc h) (le-of-suc-le-suc w)
 
-    pub pairs-weaker : {S : A → A → Type 0} {l : List A} → ((x y : A) → R x y → S x y) → Pairs R l → Pairs S l
-    pairs-weaker f alone = alone
-    pairs-weaker f (before {x} a r) = before (all-weaker (f x) a) (pairs-weaker f r)
-
     pub chain-getD : {l : List A} (d : A) → Chain R l → (k : ℕ) → suc k < length l → R (getD l k d) (getD l (suc k) d)
     chain-getD d no-link k w = absurd (not-suc-le-zero w)
     chain-getD d last-link k w = absurd (not-suc-le-zero (le-of-suc-le-suc w))

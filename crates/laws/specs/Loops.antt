@@ -1,7 +1,6 @@
--- Loops: what an array holds after some stores, where a scan first meets something, a list laid into a fixed number of places.
-use mathlib.Core.Bool.{Bool, true, false, cond}
+-- Loops: what an array holds after some stores, and a list laid into a fixed number of places.
+use mathlib.Core.Bool.{cond}
 use mathlib.Core.List.{List, [], _∷_}
-use mathlib.Core.Option.{Option, none, some}
 use lib.Dec.{ltb}
 use lib.ListN.{set}
 use Prim.Native.Nat.{ℕ, zero, suc}
@@ -21,14 +20,3 @@ module _ {A : Type 0} where
 -- a store into an array of `room` places; behind its end nothing is stored
 abbrev pub placed : {A : Type 0} → ℕ → List A → ℕ → A → List A
 placed room old k x = cond (ltb k room) (set old k x) old
-
--- what was found before, else n where the test holds
-abbrev pub orAt : Option ℕ → Bool → ℕ → Option ℕ
-orAt (some k) b n = some k
-orAt none true n = some n
-orAt none false n = none
-
--- the least k below n at which the test holds
-abbrev pub firstBelow : (ℕ → Bool) → ℕ → Option ℕ
-firstBelow p zero = none
-firstBelow p (suc n) = orAt (firstBelow p n) (p n) n

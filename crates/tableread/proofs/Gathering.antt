@@ -7,7 +7,7 @@ use lib.Dec.{eqb, leb}
 use lib.ListN.{length, getD, take, drop, replicate, length-map}
 use lib.Seq.{take-take, drop-drop}
 use borrow.Author.Tests.{ne-eqb, eqb-true, eqb-false, leb-true}
-use Prim.Native.Nat.{ℕ, zero, suc, _+_, _-_, _≤_}
+use Prim.Native.Nat.{_<_, ℕ, zero, suc, _+_, _-_, _≤_}
 use Rattle.laws.specs.Res.{Res, ok, refuse}
 use Rattle.laws.specs.Loops.{padTo}
 use Rattle.laws.specs.Numbers.{number}
@@ -226,34 +226,52 @@ module _ (s : List ℕ) (body : ℕ) where
   unfolding dataRowOf fields kinds
   row-numbers = rw (numbers-laid s body 18)
 
-module _ (s : List ℕ) (whole : Reading) (previous at : ℕ) (inside : at ≤ length s) (head : Header) (control rows : ℕ)
-    (nodes begins ends tasks deadlines starts stops : List ℕ)
-    (before : whole ≡ gatheredFrom (tableFrom head control rows nodes begins ends tasks deadlines starts stops) (from Table 20 s previous at)) where
-  further : {step : Step} → step ≡ nextAt Table s previous at
-      → whole ≡ gatheredFrom (tableFrom head control rows nodes begins ends tasks deadlines starts stops) (onward Table 20 s step)
-  further e =
-      before ∙ ap (gatheredFrom (tableFrom head control rows nodes begins ends tasks deadlines starts stops))
-      (one-step Table 20 s previous at inside ∙ ap (onward Table 20 s) (sym e))
+-- what is held so far: with the rest of the file gathered in, it is the whole
+pub record SoFar (s : List ℕ) (whole : Reading) (previous at : ℕ) (head : Header) (control rows : ℕ)
+    (nodes begins ends tasks deadlines starts stops : List ℕ) : Type 0 where
+  pub inside : at ≤ length s
+  pub counted : control + rows ≤ at
+  pub gathered : whole ≡ gatheredFrom (tableFrom head control rows nodes begins ends tasks deadlines starts stops) (from Table 20 s previous at)
 
-  pub wrong-turn : {step : Step} {p : ℕ} → step ≡ nextAt Table s previous at → step ≡ Wrong p → whole ≡ reading (Broken (record { 0 = p })) (tableFrom head control rows nodes begins ends tasks deadlines starts stops)
-  wrong-turn e r = further e ∙ ap (λ (x : Step). gatheredFrom (tableFrom head control rows nodes begins ends tasks deadlines starts stops) (onward Table 20 s x)) r
+-- the step that the reader takes from here is given as a value, with what it is
+module _ {s : List ℕ} {whole : Reading} {previous at : ℕ} {head : Header} {control rows : ℕ}
+    {nodes begins ends tasks deadlines starts stops : List ℕ}
+    (h : SoFar s whole previous at head control rows nodes begins ends tasks deadlines starts stops) {step : Step}
+    (next-is : step ≡ nextAt Table s previous at) where
+  abbrev held : memory.Table
+  held = tableFrom head control rows nodes begins ends tasks deadlines starts stops
 
-  pub end-turn : {step : Step} → step ≡ nextAt Table s previous at → step ≡ End → whole ≡ reading Whole (tableFrom head control rows nodes begins ends tasks deadlines starts stops)
-  end-turn e r = further e ∙ ap (λ (x : Step). gatheredFrom (tableFrom head control rows nodes begins ends tasks deadlines starts stops) (onward Table 20 s x)) r
+  onwards : {told : Step} → step ≡ told → whole ≡ gatheredFrom held (onward Table 20 s told)
+  onwards q =
+      h .gathered ∙ ap (gatheredFrom held) (one-step Table 20 s previous at (h .inside) ∙ ap (onward Table 20 s) (sym next-is ∙ q))
 
-  module _ {step : Step} {kind body next : ℕ} (e : step ≡ nextAt Table s previous at) (r : step ≡ Record kind body next) where
-    recorded : whole ≡ gatheredFrom (withRecord (tableFrom head control rows nodes begins ends tasks deadlines starts stops) (recordOf kind (drop body s))) (from Table 20 s kind next)
-    recorded =
-        further e ∙ ap (λ (x : Step). gatheredFrom (tableFrom head control rows nodes begins ends tasks deadlines starts stops) (onward Table 20 s x)) r
-        ∙ gathered-before (tableFrom head control rows nodes begins ends tasks deadlines starts stops) (recordOf kind (drop body s)) (from Table 20 s kind next)
+  pub wrong-turn : {p : ℕ} → step ≡ Wrong p → whole ≡ reading (Broken (record { 0 = p })) (tableFrom head control rows nodes begins ends tasks deadlines starts stops)
+  wrong-turn q = onwards q
 
-    pub facts : Found Table s previous at kind body next
-    facts = found Table s previous at kind body next (sym e ∙ r)
+  pub end-turn : step ≡ End → whole ≡ reading Whole (tableFrom head control rows nodes begins ends tasks deadlines starts stops)
+  end-turn q = onwards q
+
+  module _ {kind body next : ℕ} (r : step ≡ Record kind body next) where
+    facts : Found Table s previous at kind body next
+    facts = found Table s previous at kind body next (sym next-is ∙ r)
+
+    -- a row is counted at a place inside of the file, and what stands behind a record is less
+    pub rows-less : rows < length s
+    rows-less = omega (arith, h .counted, facts .further, facts .fits)
+
+    pub controls-less : control < length s
+    controls-less = omega (arith, h .counted, facts .further, facts .fits)
+
+    pub record-less : length s - next < length s - at
+    record-less = omega (arith, facts .further, facts .fits)
 
     -- the body of each kind is whole
-    pub row-next : kind ≡ 18 → next ≡ body + 13
+    row-next : kind ≡ 18 → next ≡ body + 13
     unfolding bodyLength fields kinds
     row-next k = let n : next ≡ at + 1 + 13 = rw k at (facts .next-place) in omega (arith, facts .body-place)
+
+    pub row-less : kind ≡ 18 → length s - (body + 13) < length s - at
+    row-less k = rw (sym (row-next k)) record-less
 
     pub row-fits : kind ≡ 18 → body + 13 ≤ length s
     row-fits k = omega (arith, row-next k, facts .fits)
@@ -269,34 +287,48 @@ module _ (s : List ℕ) (whole : Reading) (previous at : ℕ) (inside : at ≤ l
         let n : next ≡ at + 1 + 7 = rw k at (facts .next-place) in
         omega (arith, facts .body-place, facts .fits)
 
-    turned : {m : memory.Table} → withRecord (tableFrom head control rows nodes begins ends tasks deadlines starts stops) (recordOf kind (drop body s)) ≡ m
-        → whole ≡ gatheredFrom m (from Table 20 s kind next)
-    turned q = recorded ∙ ap (λ (m : memory.Table). gatheredFrom m (from Table 20 s kind next)) q
+    turned : {m : memory.Table} → withRecord held (recordOf kind (drop body s)) ≡ m → whole ≡ gatheredFrom m (from Table 20 s kind next)
+    turned q =
+        onwards r ∙ gathered-before held (recordOf kind (drop body s)) (from Table 20 s kind next)
+        ∙ ap (λ (m : memory.Table). gatheredFrom m (from Table 20 s kind next)) q
 
     pub row-turn : {tasks′ deadlines′ starts′ stops′ : List ℕ} → kind ≡ 18
         → tasks′ ≡ placed 256 tasks rows (number (take 1 (drop body s)))
         → deadlines′ ≡ placed 256 deadlines rows (number (take 4 (drop (body + 1) s)))
         → starts′ ≡ placed 256 starts rows (number (take 4 (drop (body + 5) s)))
         → stops′ ≡ placed 256 stops rows (number (take 4 (drop (body + 9) s)))
-        → whole ≡ gatheredFrom (tableFrom head control (rows + 1) nodes begins ends tasks′ deadlines′ starts′ stops′) (from Table 20 s kind (body + 13))
+        → SoFar s whole kind (body + 13) head control (rows + 1) nodes begins ends tasks′ deadlines′ starts′ stops′
     unfolding withRecord withRow tableFrom recordOf
     row-turn k a b c d =
-        rw (sym (row-next k)) (turned (rw (k, row-numbers s body, sym a, sym b, sym c, sym d)))
+        record {
+          inside = row-fits k;
+          counted = omega (arith, h .counted, facts .further, row-next k);
+          gathered = rw (sym (row-next k)) (turned (rw (k, row-numbers s body, sym a, sym b, sym c, sym d)));
+        }
 
     pub control-turn : {nodes′ begins′ ends′ : List ℕ} → kind ≡ 17
         → nodes′ ≡ placed 8 nodes control (number (take 1 (drop body s)))
         → begins′ ≡ placed 8 begins control (number (take 4 (drop (body + 1) s)))
         → ends′ ≡ placed 8 ends control (number (take 4 (drop (body + 5) s)))
-        → whole ≡ gatheredFrom (tableFrom head (control + 1) rows nodes′ begins′ ends′ tasks deadlines starts stops) (from Table 20 s kind next)
+        → SoFar s whole kind next head (control + 1) rows nodes′ begins′ ends′ tasks deadlines starts stops
     unfolding withRecord withControl tableFrom recordOf
-    control-turn k a b c = turned (rw (k, control-numbers s body, sym a, sym b, sym c))
+    control-turn k a b c =
+        record {
+          inside = facts .fits;
+          counted = omega (arith, h .counted, facts .further);
+          gathered = turned (rw (k, control-numbers s body, sym a, sym b, sym c));
+        }
 
     pub header-turn : {head′ : Header} → (kind ≡ 18 → ⊥) → (kind ≡ 17 → ⊥) → head′ ≡ headerOf (recordOf 16 (drop body s) .numbers)
-        → whole ≡ gatheredFrom (tableFrom head′ control rows nodes begins ends tasks deadlines starts stops) (from Table 20 s kind next)
+        → SoFar s whole kind next head′ control rows nodes begins ends tasks deadlines starts stops
     unfolding withRecord withHeader tableFrom recordOf
-    header-turn n m h =
+    header-turn n m e =
         let k : kind ≡ 16 = header-else previous kind (facts .in-order) (facts .no-end) n m in
-        turned (rw (k, sym h))
+        record {
+          inside = facts .fits;
+          counted = omega (arith, h .counted, facts .further);
+          gathered = turned (rw (k, sym e));
+        }
 
 -- ---- the end of reading
 

@@ -1,29 +1,17 @@
 -- A run of digits read from the front, with the value so far and the run that is left.
-use mathlib.Core.Bool.{Bool, true, false, _&&_, true≢false}
+use mathlib.Core.Bool.{true, false, _&&_, true≢false}
 use mathlib.Core.List.{List, [], _∷_, _++_}
 use mathlib.Core.Path.{_≡_, refl, sym, ap, _∙_}
 use native.Mathlib.Nat.{add-zero}
 use native.Mathlib.Numerals.{add-one}
 use native.Mathlib.Omega.{arith}
-use lib.Dec.{leb}
 use lib.ListN.{length, getD, drop}
 use lib.Seq.{drop-append-seam}
-use borrow.Author.Tests.{leb-true, lt-ltb, le-ltb}
+use borrow.Author.Tests.{lt-ltb, le-ltb}
 use Prim.Native.Nat.{ℕ, zero, suc, _+_, _-_, _*_, _^_, _≤_, _<_}
 use Rattle.text.specs.declared.Number.the-variants.{Digits, None}
 use Rattle.text.specs.Text.{decimal, isDigit, runOn, digitRun, valueFrom, numberAt, readDecimal}
 use Rattle.text.proofs.Decimals.{decimal-zero, decimal-digits, digits-count, value-decimal, run-decimal}
-
-digit-range : (t u : Bool) → (t && u) ≡ true → (t ≡ true) × (u ≡ true)
-digit-range true true e = (refl, refl)
-digit-range true false e = absurd (true≢false (sym e))
-digit-range false u e = absurd (true≢false (sym e))
-
-pub digit-least : (b : ℕ) → isDigit b ≡ true → 48 ≤ b
-digit-least b e = leb-true 48 b (digit-range (leb 48 b) (leb b 57) e .0)
-
-pub digit-most : (b : ℕ) → isDigit b ≡ true → b ≤ 57
-digit-most b e = leb-true b 57 (digit-range (leb 48 b) (leb b 57) e .1)
 
 -- a digit does not stand behind the end
 pub digit-within : (s : List ℕ) (k : ℕ) → isDigit (getD s k 0) ≡ true → k < length s
