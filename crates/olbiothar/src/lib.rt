@@ -5,7 +5,6 @@
 ghost use mathlib.Core.Path.{_≡_};
 ghost use Rattle.olbiothar.specs.Lent.{ChecksRows, MakesRows};
 ghost use Rattle.rules.specs.Station.{begin};
-ghost use Rattle.rules.specs.StationRange.{ticked};
 ghost use Rattle.stationruns.specs.Inputs.{changeAt};
 ghost use Rattle.olbiothar.specs.Playing.{begunBy};
 ghost use Rattle.turning.specs.Turning.{ruled, stationAfter, tickedBy};

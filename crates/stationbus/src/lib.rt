@@ -1,7 +1,7 @@
 // The frames of a tick: which row starts or stops now, (b) the mode bytes that land, (f) what is sent. Each step is on the array that it
 // changes; what it reads is lent.
 ghost use mathlib.Core.Path.{_≡_};
-ghost use mathlib.Core.Bool.{cond, false, _&&_};
+ghost use mathlib.Core.Bool.{cond, _&&_};
 ghost use lib.Dec.{leb};
 ghost use lib.ListN.{getD, length};
 ghost use Prim.Native.Nat.{ℕ, _<_};

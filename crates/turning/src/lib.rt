@@ -1,5 +1,4 @@
 // A tick but for the nodes, in the numbers that C has.
-ghost use Rattle.answers.specs.Refusals.{said};
 ghost use Rattle.station.specs.Turns.{stationBy};
 ghost use Rattle.turning.specs.Turning.{TurnsWith};
 use outward::Answer;
