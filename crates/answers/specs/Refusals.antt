@@ -1,7 +1,10 @@
 -- Document 01, "Refusal numbers", the checker's table and "The played station": the paper's number and place of each case.
 use Prim.Native.Nat.{ℕ}
-use Rattle.laws.specs.Res.{Res, refuse}
+use Rattle.laws.specs.Res.{Res, ok, refuse}
+use Rattle.rules.specs.Limits.{mostFrames}
 use Rattle.answers.specs.declared.Refusal.{Refusal}
+use Rattle.answers.specs.declared.Verdict.{Verdict}
+use Rattle.answers.specs.declared.Verdict.the-variants.{Passed, Refused}
 use Rattle.answers.specs.declared.Refusal.the-variants.{
   BadRecords,
   BadCount,
@@ -77,7 +80,7 @@ placeOf PayloadTooLarge = 0
 placeOf ControlTooLong = 0
 placeOf (NoRoom frame) = frame .0
 placeOf (BufferTooShort needed) = needed .0
-placeOf TooFewRows = 256
+placeOf TooFewRows = mostFrames
 placeOf (BadTableRecords offset) = offset .0
 placeOf WrongHeader = 0
 placeOf (WrongControlRow k) = k .0
@@ -95,3 +98,7 @@ placeOf (ChangeNotAllowed home) = home .0
 -- what the rules say where the code answers with this case
 abbrev pub said : {A : Type 0} → Refusal → Res A
 said x = refuse (numberOf x) (placeOf x)
+
+abbrev pub heard : Verdict → Res (Unit {0})
+heard Passed = ok tt
+heard (Refused x) = said x

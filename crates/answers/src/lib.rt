@@ -2,6 +2,7 @@
 ghost use mathlib.Core.Path.{_≡_};
 ghost use Rattle.answers.specs.Refusals.{numberOf, placeOf};
 use units::ByteCount;
+use units::Frame;
 use units::FrameNo;
 use units::ModuleNo;
 use units::Offset;
@@ -42,6 +43,12 @@ pub enum Refusal {
     ResultTooLarge(TaskNo),
     ResultOverdue(TaskNo),
     ChangeNotAllowed(ModuleNo),
+}
+
+// What was judged: nothing to refuse, or the first refusal that applies.
+pub enum Verdict {
+    Passed,
+    Refused(Refusal),
 }
 
 impl Refusal {
@@ -96,7 +103,7 @@ impl Refusal {
             Refusal::ControlTooLong => 0,
             Refusal::NoRoom(frame) => frame.0,
             Refusal::BufferTooShort(needed) => needed.count(),
-            Refusal::TooFewRows => 256,
+            Refusal::TooFewRows => Frame::MOST,
             Refusal::BadTableRecords(offset) => offset.0,
             Refusal::WrongHeader => 0,
             Refusal::WrongControlRow(record) => record.0,

@@ -21,7 +21,7 @@ use Rattle.laws.proofs.Res.{refuse≢ok, refuse-number, refuse-place, ok-inject
 use Rattle.laws.proofs.Turns.{same-bad}
 use Rattle.rules.specs.Records.{records, tableFollows}
 use Rattle.rules.specs.Plan.{Plan, readPlan}
-use Rattle.rules.specs.Frames.{ControlRow, noControlRow, Layout, layout, layoutOf, mostFrames}
+use Rattle.rules.specs.Frames.{ControlRow, noControlRow, Layout, layout, layoutOf}
 use Rattle.rules.specs.Table.{DataRow}
 use Rattle.rules.specs.Checker.{TableRead, Passed, passed, tableOf, judged, headerRight, controlAt, rowAt, noDataRow}
 use Rattle.rules.specs.Playing.{periodIn}
@@ -36,8 +36,9 @@ use Rattle.plan.specs.Memory.{seen}
 use Rattle.plan.proofs.Laid.{read-seen}
 use Rattle.planrules.specs.Reading.{Reads}
 use Rattle.planrules.specs.declared.Reading.{Reading}
-use Rattle.checked.specs.Checking.{Checks, heard, lentPassed, verdict}
-use Rattle.checked.specs.declared.Answer.the-variants as checker
+use Rattle.checked.specs.Checking.{Checks, lentPassed, verdict}
+use Rattle.answers.specs.Refusals.{heard}
+use Rattle.answers.specs.declared.Verdict.the-variants as checker
 use Rattle.checked.specs.declared.Checked.{Checked}
 use Rattle.tableread.specs.declared.Reading as tables
 use Rattle.tableread.specs.Memory.{nodeOf, beginOf, endOf, taskOf, deadlineOf, startOf, stopOf, layOut, readingOf}
@@ -51,7 +52,7 @@ use Rattle.stationrefusals.specs.declared.Play.{Play}
 use Rattle.station.specs.declared.Station.{Station}
 use Rattle.stationrefusals.specs.declared.Tasks.{Tasks}
 use Rattle.stationnodes.specs.declared.Node.{Node}
-use Rattle.starting.specs.declared.Answer.the-variants.{Refused}
+use Rattle.answers.specs.declared.Verdict.the-variants.{Refused}
 use Rattle.starting.specs.declared.Begun.{Begun}
 use Rattle.keeping.specs.Keeping as keeping
 use Rattle.keeping.specs.Keeping.{controlsOf, keptFrom, modesOf, modulesOf, runAmong, runsAmong, runsOf, tasksOf}
@@ -207,7 +208,7 @@ verdict-refused n p (ok c) e = refuse≢ok (sym e)
 verdict-refused n p (refuse m q) e = rw (refuse-number e, refuse-place e)
 
 lent-enough : (plan table : List ℕ) → lentPassed plan table 256 ≡ passed plan table
-unfolding lentPassed mostFrames
+unfolding lentPassed
 lent-enough plan table = refl
 
 module _ (plan table : List ℕ) (x : Checked) (says : Checks x (lentPassed plan table 256)) where
@@ -240,7 +241,7 @@ module _ (plan table : List ℕ) (c : Passed) (e : passed plan table ≡ ok c) {
   plan-sound = rw plan-seen (readable-kept plan (c .layout .plan) (tells plan table c e .reads))
 
   pub rows-few : (gathered .table .control ≤ 8) × (gathered .table .rows ≤ 256)
-  unfolding layOut rules.keptOf mostFrames
+  unfolding layOut rules.keptOf
   rows-few =
       let kept = kept-begins plan table c e in
       rw table-laid (kept .controlCount, kept .dataCount)

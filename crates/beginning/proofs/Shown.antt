@@ -11,7 +11,7 @@ use Rattle.laws.specs.Lists.{tab}
 use Rattle.laws.specs.Res.{Res, ok, refuse}
 use Rattle.laws.proofs.Bus.{table-at}
 use Rattle.laws.proofs.Res.{refuse≢ok}
-use Rattle.rules.specs.Frames.{mostFrames, taskNode}
+use Rattle.rules.specs.Frames.{taskNode}
 use Rattle.rules.specs.History.{boardValue, consumes}
 use Rattle.rules.specs.Plan.{Plan, readPlan}
 use Rattle.rules.specs.Playing.{Input}
@@ -26,10 +26,10 @@ use Rattle.station.specs.Memory.{keptBy, keptOf, laid, notBegun, stateOf}
 use Rattle.station.specs.declared.Station.{Station}
 use Rattle.station.proofs.Plays.{Plays, plays-follows}
 use Rattle.station.proofs.Sized.{Sized, laid-agrees, sized-laid}
-use Rattle.starting.specs.declared.Answer.the-variants.{Started}
+use Rattle.answers.specs.declared.Verdict.the-variants.{Passed}
 use Rattle.starting.specs.declared.Begun.{Begun}
 use Rattle.beginning.specs.Begins.{Begins, keptLaid, runLaid, stationLaid}
-use Rattle.starting.specs.Starting.{heard}
+use Rattle.answers.specs.Refusals.{heard}
 
 -- a mode and one of the 32 tasks have a place of their own
 run-place : (k : Kept) (μ t : ℕ) → μ < 32 → t < 32 → getD (tab (runLaid k) 0 1024) (μ * 32 + t) 0 ≡ k .run μ t
@@ -45,7 +45,7 @@ module _ (b : rules.Begun) where
 
   -- "keeps its own copy of what it needs"
   pub same-kept : SameKept (keptOf (stationLaid b)) k
-  unfolding stationLaid laid keptLaid keptOf keptBy mostFrames
+  unfolding stationLaid laid keptLaid keptOf keptBy
   same-kept =
       record {
         modules = refl;
@@ -107,13 +107,13 @@ record Beginning (r : Begun) (rule : Res rules.Begun) : Type 0 where
   is : rule ≡ ok b
   station : r .station ≡ stationLaid b
 
-begun-by : (r : Begun) (rule : Res rules.Begun) → Begins r rule → r .answer ≡ Started → Beginning r rule
+begun-by : (r : Begun) (rule : Res rules.Begun) → Begins r rule → r .answer ≡ Passed → Beginning r rule
 begun-by r (ok b) h e = record { b = b; is = refl; station = h .left }
 begun-by r (refuse n p) h e = refuse≢ok (sym (h .answered) ∙ ap heard e)
 
 -- A station that has begun, and a history of accepted ticks: what is seen of the station behind it is
 module _ (plan table : List ℕ) (starting : List Change) (r : Begun) (begins : Begins r (rules.begin plan table (changeAt starting)))
-    (started : r .answer ≡ Started) (p : Plan) (reads : readPlan plan ≡ ok p) (history : List Input) (after : Station)
+    (started : r .answer ≡ Passed) (p : Plan) (reads : readPlan plan ≡ ok p) (history : List Input) (after : Station)
     (plays : Plays (r .station) history after) where
   abbrev by : Beginning r (rules.begin plan table (changeAt starting))
   by = begun-by r (rules.begin plan table (changeAt starting)) begins started

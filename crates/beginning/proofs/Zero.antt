@@ -13,10 +13,10 @@ use Rattle.stationruns.specs.declared.Given.{Given}
 use Rattle.station.specs.Answers.{Answers, answerOf}
 use Rattle.station.specs.Memory.{keptBy, keptOf, notBegun, stateOf}
 use Rattle.station.specs.declared.Ticked.{Ticked}
-use Rattle.starting.specs.declared.Answer.the-variants.{Refused}
+use Rattle.answers.specs.declared.Verdict.the-variants.{Refused}
 use Rattle.starting.specs.declared.Begun.{Begun}
 use Rattle.beginning.specs.Begins.{Begins}
-use Rattle.starting.specs.Starting.{heard}
+use Rattle.answers.specs.Refusals.{heard}
 
 not-begun-ticked : (i : Input) → ticked (keptOf notBegun) (stateOf notBegun) i ≡ refuse 40 0
 unfolding ticked inRange keptInRange countsInRange isBetween keptOf keptBy notBegun

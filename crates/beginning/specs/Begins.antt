@@ -8,7 +8,7 @@ use Rattle.rules.specs.Station.{Kept}
 use Rattle.station.specs.Memory.{laid, notBegun}
 use Rattle.station.specs.declared.Station.{Station}
 use Rattle.starting.specs.declared.Begun.{Begun}
-use Rattle.starting.specs.Starting.{heard}
+use Rattle.answers.specs.Refusals.{heard}
 
 -- the period of mode j / 32 and task j % 32
 unfoldable pub runLaid : Kept → ℕ → ℕ

@@ -2,24 +2,25 @@
 ghost use Rattle.rules.specs.Station as rules;
 ghost use Rattle.stationruns.specs.Inputs.{changeAt};
 ghost use Rattle.beginning.specs.Begins.{Begins};
+use answers::Verdict;
 use checker::check;
-use frames::laid::Frames;
 use planrules::read;
 use starting::Begun;
 use starting::begin_with;
 use starting::refused;
 use stationruns::Change;
 use tableread::read_table;
+use units::Frame;
 
 // A station begins only with a passed table, else the checker's number is given; and with one mode of its own for each module.
 pub fn begin(plan: &[u8], table: &[u8], starting: [Change; 16]) -> Begun
     ensures { λ r. ⌜ Begins r (rules.begin (now (plan .entry)) (now (table .entry)) (changeAt starting)) ⌝ }
 {
-    let checked = check(plan, table, Frames::MOST);
+    let checked = check(plan, table, Frame::MOST);
     let answer = checked.answer;
     match answer {
-        checked::Answer::Refused(why) => refused(why),
-        checked::Answer::Passed => {
+        Verdict::Refused(why) => refused(why),
+        Verdict::Passed => {
             let reading = read(plan);
             let gathered = read_table(table);
             begin_with(keeping::kept(reading.plan, gathered.table), starting)

@@ -9,7 +9,6 @@ use Prim.Native.Nat.{ℕ, _≤_, _<_}
 use Rattle.io.specs.Counts.{Counts}
 use Rattle.laws.specs.Res.{Res, ok, refuse}
 use Rattle.laws.proofs.Res.{refuse≢ok, ok-injective, refuse-number, refuse-place}
-use Rattle.rules.specs.Frames.{mostFrames}
 use Rattle.rules.specs.Table.{MadeTable, madeTable, tableFor}
 use Rattle.rules.proofs.MadePasses.{table-made}
 use Rattle.answers.specs.declared.Refusal.{Refusal}
@@ -17,7 +16,7 @@ use Rattle.answers.specs.Refusals.{numberOf, placeOf}
 use Rattle.linetable.specs.declared.Answer.the-variants.{Made, Refused}
 use Rattle.linetable.specs.declared.Making.{Making}
 use Rattle.maker.specs.Making.{lentFor}
-use Rattle.linetable.specs.Making.{Makes, heard, lengthOf, bufferLeft}
+use Rattle.linetable.specs.Making.{Makes, heardMade, lengthOf, bufferLeft}
 use Rattle.linetable.proofs.Ways.{table-stored}
 use Rattle.text.specs.Text.{refusedLine, tooLongLine}
 use Rattle.text.proofs.Decimals.{refused-line-most}
@@ -52,7 +51,7 @@ long-response plan old out n h a =
 
 -- with 256 rows lent, 19 does not apply
 rows-lent : (plan : List ℕ) (room : ℕ) → lentFor plan 256 room ≡ tableFor plan room
-unfolding lentFor mostFrames
+unfolding lentFor
 rows-lent plan room = refl
 
 module _ (plan old out : List ℕ) (r : Making) (short : length plan ≤ 65536) (makes : Makes r old out (lentFor plan 256 (length old))) where
@@ -62,7 +61,7 @@ module _ (plan old out : List ℕ) (r : Making) (short : length plan ≤ 65536) 
   pub made-response : (n : ℕ) → r .answer ≡ Made n → Responds plan old out n
   made-response n e =
       rw (not-too-long (length old) plan short)
-      (go (tableFor plan (length old)) refl (sym (ap heard e) ∙ makes-table .answered) (makes-table .written))
+      (go (tableFor plan (length old)) refl (sym (ap heardMade e) ∙ makes-table .answered) (makes-table .written))
     where
       go : (x : Res MadeTable) → tableFor plan (length old) ≡ x → ok n ≡ lengthOf x → out ≡ bufferLeft x old
           → Front (written x) old out n × (53 ≤ length old → Counts n out)
@@ -77,7 +76,7 @@ module _ (plan old out : List ℕ) (r : Making) (short : length plan ≤ 65536) 
       → (line ≡ sets out 0 (refusedLine number place)) × (n ≡ length (refusedLine number place)) → Responds plan old line n
   refused-response x number place n line e c d h k a =
       rw (not-too-long (length old) plan short)
-      (go (tableFor plan (length old)) (ap₂ refuse c d ∙ sym (ap heard e) ∙ makes-table .answered) (makes-table .written))
+      (go (tableFor plan (length old)) (ap₂ refuse c d ∙ sym (ap heardMade e) ∙ makes-table .answered) (makes-table .written))
     where
       go : (x : Res MadeTable) → refuse number place ≡ lengthOf x → out ≡ bufferLeft x old
           → Front (written x) old line n × (53 ≤ length old → Counts n line)

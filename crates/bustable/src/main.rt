@@ -5,11 +5,11 @@ ghost use lib.ListN.{length};
 ghost use lib.Seq.{sets};
 ghost use Rattle.io.specs.Counts.{Counts};
 ghost use Rattle.bustable.specs.Answer.{answerFor};
-use frames::laid::Frames;
 use input::Input;
 use libc::STDIN_FILENO;
 use libc::STDOUT_FILENO;
 use linetable::Answer;
+use units::Frame;
 
 // The answer at the front of `out`; its length. No line has more than 53 bytes.
 fn respond(plan: &[u8], out: &mut [u8]) -> usize
@@ -19,7 +19,7 @@ fn respond(plan: &[u8], out: &mut [u8]) -> usize
     if plan.len() > 65536 {
         return text::put_too_long(&mut *out);
     }
-    let making = maker::made(plan, Frames::MOST, &mut *out);
+    let making = maker::made(plan, Frame::MOST, &mut *out);
     let answer = making.answer;
     match answer {
         Answer::Made(length) => length,

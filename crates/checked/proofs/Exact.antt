@@ -8,9 +8,10 @@ use Rattle.laws.specs.Res.{Res}
 use Rattle.rules.specs.Table.{FrameRow, zeroRow}
 use Rattle.rules.specs.Checker as rules
 use Rattle.rules.proofs.CheckerExact.{checker-exact, checker-refuses, unread-exact, rule-exact}
-use Rattle.checked.specs.declared.Answer.{Answer}
-use Rattle.checked.specs.declared.Answer.the-variants.{Passed}
-use Rattle.checked.specs.Checking.{heard, verdict, lentPassed, PassesExactly, RefusesExactly}
+use Rattle.answers.specs.declared.Verdict.{Verdict}
+use Rattle.answers.specs.declared.Verdict.the-variants.{Passed}
+use Rattle.checked.specs.Checking.{verdict, lentPassed, PassesExactly, RefusesExactly}
+use Rattle.answers.specs.Refusals.{heard}
 use Rattle.checked.proofs.Rules.{check-answer}
 use Rattle.checked.proofs.Unique.{heard-once}
 
@@ -18,7 +19,7 @@ use Rattle.checked.proofs.Unique.{heard-once}
 same-when : {A B C : Type 0} → (A → B) → (B → A) → B ↔ C → A ↔ C
 same-when to back e = (λ a. e .0 (to a), λ c. back (e .1 c))
 
-module _ (a : Answer) (plan table : List ℕ) where
+module _ (a : Verdict) (plan table : List ℕ) where
   -- the rules' answer where these rows are lent
   heard-is : (rows : List FrameRow) → heard a ≡ verdict (lentPassed plan table (length rows)) → heard a ≡ rules.check plan table rows .answer
   heard-is rows e = e ∙ sym (check-answer plan table rows)

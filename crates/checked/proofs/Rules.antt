@@ -8,7 +8,6 @@ use Prim.Native.Nat.{ℕ, _≤_, _<_}
 use Rattle.laws.specs.Res.{Res, ok, refuse}
 use Rattle.laws.proofs.Orders.{le-or-lt}
 use mathlib.Core.Logic.{_⊎_, inl, inr}
-use Rattle.rules.specs.Frames.{mostFrames}
 use Rattle.rules.specs.Table.{FrameRow, zeroRow, rowsThenZero}
 use Rattle.rules.specs.Checker as rules
 use Rattle.rules.specs.Checker.{passed, checkOutcome}
@@ -17,11 +16,11 @@ use Rattle.checked.specs.Checking.{verdict, rowsOf, lentPassed}
 
 module _ (plan table : List ℕ) (lent : ℕ) where
   pub enough-is : 256 ≤ lent → lentPassed plan table lent ≡ passed plan table
-  unfolding lentPassed mostFrames
+  unfolding lentPassed
   enough-is h = rw (le-leb 256 lent h)
 
   pub short-is : lent < 256 → lentPassed plan table lent ≡ refuse 19 256
-  unfolding lentPassed mostFrames
+  unfolding lentPassed
   short-is h = rw (lt-leb 256 lent h)
 
 outcome-answer : (rule : Res rules.Passed) (rows : List FrameRow) → checkOutcome rule rows .answer ≡ verdict rule

@@ -5,12 +5,13 @@ use Rattle.laws.proofs.Res.{refuse≢ok}
 use Rattle.rules.specs.Checker as rules
 use Rattle.answers.proofs.Said.{said-once}
 use Rattle.rows.specs.declared.Rows.{Rows}
-use Rattle.checked.specs.declared.Answer.{Answer}
-use Rattle.checked.specs.declared.Answer.the-variants.{Passed, Refused}
+use Rattle.answers.specs.declared.Verdict.{Verdict}
+use Rattle.answers.specs.declared.Verdict.the-variants.{Passed, Refused}
 use Rattle.checked.specs.declared.Checked.{Checked}
-use Rattle.checked.specs.Checking.{Checks, heard}
+use Rattle.checked.specs.Checking.{Checks}
+use Rattle.answers.specs.Refusals.{heard}
 
-pub heard-once : (x y : Answer) → heard x ≡ heard y → x ≡ y
+pub heard-once : (x y : Verdict) → heard x ≡ heard y → x ≡ y
 heard-once Passed Passed e = refl
 heard-once Passed (Refused y) e = refuse≢ok (sym e)
 heard-once (Refused x) Passed e = refuse≢ok e
@@ -20,5 +21,5 @@ pub checks-once : (a b : Checked) (rule : Res rules.Passed) → Checks a rule �
 checks-once a b rule p q =
     let answers : a .answer ≡ b .answer = heard-once (a .answer) (b .answer) (p .answered ∙ sym (q .answered)) in
     let rows : a .rows ≡ b .rows = p .left ∙ sym (q .left) in
-    ap {B = Checked} (λ (x : Answer). record { answer = x; rows = a .rows }) answers
+    ap {B = Checked} (λ (x : Verdict). record { answer = x; rows = a .rows }) answers
     ∙ ap {B = Checked} (λ (x : Rows). record { answer = b .answer; rows = x }) rows

@@ -5,23 +5,18 @@ use mathlib.Core.Logic.{_⊎_, _↔_}
 use lib.Dec.{leb}
 use Prim.Native.Nat.{ℕ, _+_, _≤_, _<_}
 use Rattle.laws.specs.Res.{Res, ok, refuse, _>>_, unless}
-use Rattle.rules.specs.Frames.{mostFrames}
+use Rattle.rules.specs.Limits.{mostFrames}
 use Rattle.rules.specs.Table.{FrameRow}
 use Rattle.rules.specs.Checker as rules
 use Rattle.rules.specs.Checker.{checkedRow, passed}
 use Rattle.rules.specs.Obeys.{Passes, CheckFault, UnreadAt, BrokenAt}
-use Rattle.answers.specs.Refusals.{said}
+use Rattle.answers.specs.Refusals.{said, heard}
 use Rattle.line.specs.declared.Line.{Line}
 use Rattle.rows.specs.declared.Rows.{Rows}
 use Rattle.rows.specs.Rows.{rowsLaid}
-use Rattle.checked.specs.declared.Answer.{Answer}
-use Rattle.checked.specs.declared.Answer.the-variants.{Passed, Refused}
+use Rattle.answers.specs.declared.Verdict.{Verdict}
+use Rattle.answers.specs.declared.Verdict.the-variants.{Passed, Refused}
 use Rattle.checked.specs.declared.Checked.{Checked}
-
--- the answer in the rules' words, and the rules' answer without what is handed on
-abbrev pub heard : Answer → Res (Unit {0})
-heard Passed = ok tt
-heard (Refused x) = said x
 
 abbrev pub verdict : Res rules.Passed → Res (Unit {0})
 verdict (ok c) = ok tt
@@ -49,12 +44,12 @@ rowsOn l starts =
     record { frames = l .frames; task = l .task; release = l .release; deadline = l .deadline; start = starts }
 
 -- The answer passes exactly the tables of laid out plans that keep every rule.
-unfoldable pub PassesExactly : Answer → List ℕ → List ℕ → ℕ → Type 0
+unfoldable pub PassesExactly : Verdict → List ℕ → List ℕ → ℕ → Type 0
 PassesExactly a plan table lent = (a ≡ Passed) ↔ ((256 ≤ lent) × Passes plan table)
 
 -- The answer refuses exactly by the first fault: 19 where too few rows are lent, else the plan's or the table's first; 20 exactly
 -- where the table first breaks the record rules; 21 to 27 exactly where that rule is the first that is broken, at its lowest record.
-pub record RefusesExactly (a : Answer) (plan table : List ℕ) (lent : ℕ) : Type 0 where
+pub record RefusesExactly (a : Verdict) (plan table : List ℕ) (lent : ℕ) : Type 0 where
   pub first :
       (n p : ℕ) →
       (heard a ≡ refuse n p) ↔ (((lent < 256) × (n ≡ 19) × (p ≡ 256)) ⊎ ((256 ≤ lent) × CheckFault plan table n p))

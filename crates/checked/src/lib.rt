@@ -2,20 +2,16 @@
 ghost use mathlib.Core.Path.{_≡_};
 ghost use mathlib.Core.List.{[]};
 ghost use Rattle.rows.specs.Rows.{rowsLaid};
-ghost use Rattle.checked.specs.declared.Answer.the-variants.{Refused};
+ghost use Rattle.answers.specs.declared.Verdict.the-variants.{Refused};
 ghost use Rattle.checked.specs.Checking.{rowsOn};
 use answers::Refusal;
+use answers::Verdict;
 use line::Line;
 use rows::Rows;
 
-pub enum Answer {
-    Passed,
-    Refused(Refusal),
-}
-
 // The answer, and the frames by number with the starts of the table that was checked; no rows where it is refused.
 pub struct Checked {
-    pub answer: Answer,
+    pub answer: Verdict,
     pub rows: Rows,
 }
 
@@ -23,7 +19,7 @@ pub fn refused(why: Refusal) -> Checked
     ensures { λ r. ⌜ r ≡ record { answer = Refused why; rows = rowsLaid [] } ⌝ }
 {
     Checked {
-        answer: Answer::Refused(why),
+        answer: Verdict::Refused(why),
         rows: Rows::none(),
     }
 }

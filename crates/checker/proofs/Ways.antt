@@ -16,24 +16,22 @@ use Rattle.rules.specs.Checker.{TableRead, tableOf, judged, passed, startIn, ch
 use Rattle.rules.proofs.RecordsExact.{records-refused}
 use Rattle.answers.specs.declared.Refusal.{Refusal}
 use Rattle.answers.specs.declared.Refusal.the-variants.{TooFewRows, BadTableRecords}
-use Rattle.answers.specs.Refusals.{numberOf, placeOf, said}
+use Rattle.answers.specs.Refusals.{numberOf, placeOf, said, heard}
 use Rattle.line.specs.declared.Laid.{Laid}
-use Rattle.line.specs.declared.Answer.the-variants as line
 use Rattle.line.specs.Line.{lineOf, taskOf, releaseOf, deadlineOf}
 use Rattle.line.specs.Laying as laying
 use Rattle.line.specs.Laying.{Lays, fileLaid}
 use Rattle.tableread.specs.declared.Reading.{Reading}
 use Rattle.tableread.specs.declared.Outcome.the-variants.{Whole, Broken}
 use Rattle.judging.specs.declared.Judgement.{Judgement}
-use Rattle.judging.specs.declared.Verdict.the-variants as judge
 use Rattle.naming.specs.Places.{Numbered}
 use Rattle.tableread.specs.Memory.{layOut, seen, readingOf}
-use Rattle.judging.specs.Judged.{framesOn, lineJudged, verdictSays, Right}
+use Rattle.judging.specs.Judged.{framesOn, lineJudged, Right}
 use Rattle.line.proofs.Drawn.{Drawn, drawn}
 use Rattle.judging.proofs.Layouts.{line-numbered, line-controls, line-right}
 use Rattle.rows.specs.declared.Rows.{Rows}
 use Rattle.rows.specs.Rows.{rowTask, rowRelease, rowDeadline, rowStart, rowsLaid}
-use Rattle.checked.specs.declared.Answer.the-variants.{Passed, Refused}
+use Rattle.answers.specs.declared.Verdict.the-variants.{Passed, Refused}
 use Rattle.checked.specs.declared.Checked.{Checked}
 use Rattle.checked.specs.Checking.{Checks, lentPassed, rowsOn, PassesExactly, RefusesExactly}
 use Rattle.checked.proofs.Rules.{enough-is, short-is}
@@ -63,16 +61,16 @@ laid-refused : (n p : ℕ) (rule : Res Layout) → laying.verdict rule ≡ refus
 laid-refused n p (ok l) e = refuse≢ok (sym e)
 laid-refused n p (refuse m q) e = rw (refuse-number e, refuse-place e)
 
-laid-sound : {C : Type 0} (rule : Res Layout) (x : Laid) → Lays x rule → x .answer ≡ line.Sound → ((l : Layout) → rule ≡ ok l → x .line ≡ lineOf l → C) → C
+laid-sound : {C : Type 0} (rule : Res Layout) (x : Laid) → Lays x rule → x .answer ≡ Passed → ((l : Layout) → rule ≡ ok l → x .line ≡ lineOf l → C) → C
 laid-sound (ok l) x h e go = go l refl (h .left)
 laid-sound (refuse n p) x h e go =
-    let z : ok tt ≡ refuse n p = sym (ap laying.heard e) ∙ h .answered in refuse≢ok (sym z)
+    let z : ok tt ≡ refuse n p = sym (ap heard e) ∙ h .answered in refuse≢ok (sym z)
 
 file-drawn : (plan : List ℕ) (l : Layout) → fileLaid plan ≡ ok l → Drawn l
 unfolding fileLaid
 file-drawn plan l e = bind-case (readPlan plan) layout e λ p isRead isLaid. drawn plan p l isRead isLaid
 
-module _ (plan : List ℕ) (x : Laid) (h : Lays x (fileLaid plan)) (e : x .answer ≡ line.Sound) where
+module _ (plan : List ℕ) (x : Laid) (h : Lays x (fileLaid plan)) (e : x .answer ≡ Passed) where
   pub judge-ready : Numbered (x .line .task) (x .line .deadline) (x .line .frames) × (x .line .controls ≤ 8)
   judge-ready =
       laid-sound (fileLaid plan) x h e λ l q same.
@@ -126,13 +124,13 @@ module _ (plan table : List ℕ) (lent : ℕ) (r : Checked) where
     unfolding passed fileLaid
     plan-refused n p e = bind-refused (readPlan plan) layout e (λ a. rw a) (λ q a b. rw (a, b))
 
-    pub way-plan : (why : Refusal) → x .answer ≡ line.Refused why → r ≡ refusedBy why → Says r plan table lent
+    pub way-plan : (why : Refusal) → x .answer ≡ Refused why → r ≡ refusedBy why → Says r plan table lent
     way-plan why q e =
-        let n : fileLaid plan ≡ said why = laid-refused (numberOf why) (placeOf why) (fileLaid plan) (sym (h .answered) ∙ ap laying.heard q) in
+        let n : fileLaid plan ≡ said why = laid-refused (numberOf why) (placeOf why) (fileLaid plan) (sym (h .answered) ∙ ap heard q) in
         says r plan table lent
         (checks-refused why r (lentPassed plan table lent) e (enough-is plan table lent enough ∙ plan-refused (numberOf why) (placeOf why) n))
 
-    module _ (sound : x .answer ≡ line.Sound) (reading : Reading) (is : reading ≡ readingOf (records tableFollows 20 table)) where
+    module _ (sound : x .answer ≡ Passed) (reading : Reading) (is : reading ≡ readingOf (records tableFollows 20 table)) where
       -- 20
       broken-refused : (l : Layout) → fileLaid plan ≡ ok l → (n p : ℕ) → records tableFollows 20 table ≡ refuse n p → passed plan table ≡ refuse 20 p
       unfolding passed fileLaid
@@ -168,19 +166,19 @@ module _ (plan table : List ℕ) (lent : ℕ) (r : Checked) where
         unfolding passed fileLaid
         judged-passed l rs laid areRows e = bind-case (readPlan plan) layout laid λ q isRead isLaid. rw (isRead, isLaid, areRows, e)
 
-        pub way-judged : (why : Refusal) → j .verdict ≡ judge.Refused why → r ≡ refusedBy why → Says r plan table lent
+        pub way-judged : (why : Refusal) → j .verdict ≡ Refused why → r ≡ refusedBy why → Says r plan table lent
         way-judged why q e =
             as-read λ l rs laid areRows same seenRight.
-            let n : judged l (tableOf rs) ≡ said why = sym (seenRight .verdict) ∙ ap verdictSays q in
+            let n : judged l (tableOf rs) ≡ said why = sym (seenRight .verdict) ∙ ap heard q in
             says r plan table lent
             (checks-refused why r (lentPassed plan table lent) e
             (enough-is plan table lent enough ∙ judged-refused l rs (numberOf why) (placeOf why) laid areRows n))
 
-        pub way-passed : j .verdict ≡ judge.Passed → (rows : Rows) → rows ≡ rowsOn (x .line) (j .starts)
+        pub way-passed : j .verdict ≡ Passed → (rows : Rows) → rows ≡ rowsOn (x .line) (j .starts)
             → r ≡ record { answer = Passed; rows = rows } → Says r plan table lent
         way-passed q rows e same-r =
             as-read λ l rs laid areRows same seenRight.
-            let n : judged l (tableOf rs) ≡ ok tt = sym (seenRight .verdict) ∙ ap verdictSays q in
+            let n : judged l (tableOf rs) ≡ ok tt = sym (seenRight .verdict) ∙ ap heard q in
             let passes : lentPassed plan table lent ≡ ok (record { layout = l; table = tableOf rs }) = enough-is plan table lent enough ∙ judged-passed l rs laid areRows n in
             let starts : j .starts ≡ padTo 256 0 (map (startIn (tableOf rs .rows)) (l .frames)) = rw n at (seenRight .starts) in
             let left : rows ≡ rowsLaid (map (checkedRow (tableOf rs)) (l .frames)) = e ∙ rw (same, starts) (rows-laid l (tableOf rs)) in

@@ -1,16 +1,15 @@
 // `check` by value: what a plan file, a table file and the number of lent frame rows come to, and the frame rows of a table that passes.
 ghost use Rattle.checked.specs.Checking.{Checks, lentPassed, PassesExactly, RefusesExactly};
 use answers::Refusal;
-use checked::Answer;
+use answers::Verdict;
 use checked::Checked;
 use checked::refused;
 use checked::rows_on;
-use frames::laid::Frames;
-use judging::Verdict;
 use judging::judge;
 use line::lay_out;
 use tableread::Outcome;
 use tableread::read_table;
+use units::Frame;
 
 // A table file by a plan file, where `lent` frame rows are lent: 19 before all, 1 to 11 of the plan, 20 to 27 of the table.
 pub fn check(plan: &[u8], table: &[u8], lent: usize) -> Checked
@@ -18,12 +17,12 @@ pub fn check(plan: &[u8], table: &[u8], lent: usize) -> Checked
     ensures { λ r. ⌜ PassesExactly (r .answer) (now (plan .entry)) (now (table .entry)) lent ⌝ }
     ensures { λ r. ⌜ RefusesExactly (r .answer) (now (plan .entry)) (now (table .entry)) lent ⌝ }
 {
-    if lent < Frames::MOST {
+    if lent < Frame::MOST {
         return refused(Refusal::TooFewRows);
     }
     let laid = lay_out(plan);
     let answer = laid.answer;
-    if let line::Answer::Refused(why) = answer {
+    if let Verdict::Refused(why) = answer {
         return refused(why);
     }
     let reading = read_table(table);
@@ -38,7 +37,7 @@ pub fn check(plan: &[u8], table: &[u8], lent: usize) -> Checked
     match verdict {
         Verdict::Refused(why) => refused(why),
         Verdict::Passed => Checked {
-            answer: Answer::Passed,
+            answer: Verdict::Passed,
             rows: rows_on(line, starts),
         },
     }

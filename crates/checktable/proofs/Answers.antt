@@ -13,9 +13,10 @@ use Rattle.rules.specs.Checker as rules
 use Rattle.rules.specs.Checker.{passed}
 use Rattle.answers.specs.declared.Refusal.{Refusal}
 use Rattle.answers.specs.Refusals.{numberOf, placeOf}
-use Rattle.checked.specs.declared.Answer.the-variants.{Passed, Refused}
+use Rattle.answers.specs.declared.Verdict.the-variants.{Passed, Refused}
 use Rattle.checked.specs.declared.Checked.{Checked}
-use Rattle.checked.specs.Checking.{Checks, heard, verdict, lentPassed}
+use Rattle.checked.specs.Checking.{Checks, verdict, lentPassed}
+use Rattle.answers.specs.Refusals.{heard}
 use Rattle.checked.proofs.Rules.{enough-is}
 use Rattle.text.specs.Text.{passedLine, refusedLine, tooLongLine}
 use Rattle.text.proofs.Decimals.{refused-line-most}

@@ -5,13 +5,13 @@ ghost use lib.ListN.{length};
 ghost use lib.Seq.{sets};
 ghost use Rattle.io.specs.Counts.{Counts};
 ghost use Rattle.checktable.specs.Answer.{answerFor};
-use checked::Answer;
-use frames::laid::Frames;
+use answers::Verdict;
 use input::Input;
 use input::file_room;
 use input::read_argument;
 use libc::STDERR_FILENO;
 use libc::STDOUT_FILENO;
+use units::Frame;
 
 // The line at the front of `out`; its length. No line has more than 53 bytes.
 fn respond(plan: &[u8], table: &[u8], out: &mut [u8]) -> usize
@@ -24,11 +24,11 @@ fn respond(plan: &[u8], table: &[u8], out: &mut [u8]) -> usize
     if table.len() > 65536 {
         return text::put_too_long(&mut *out);
     }
-    let checked = checker::check(plan, table, Frames::MOST);
+    let checked = checker::check(plan, table, Frame::MOST);
     let answer = checked.answer;
     match answer {
-        Answer::Passed => text::put_passed(&mut *out),
-        Answer::Refused(why) => { text::put_refused(&mut *out, why.number(), why.place()) }
+        Verdict::Passed => text::put_passed(&mut *out),
+        Verdict::Refused(why) => { text::put_refused(&mut *out, why.number(), why.place()) }
     }
 }
 

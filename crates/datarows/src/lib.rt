@@ -5,11 +5,12 @@ ghost use lib.Dec.{eqb};
 ghost use Prim.Native.Nat.{_+_, _≤_};
 ghost use Rattle.laws.specs.Lists.{firstBad, upTo};
 ghost use Rattle.laws.specs.Numbers as laws;
-ghost use Rattle.naming.specs.Places.{lookIn, beforeIn, spotOf};
+ghost use Rattle.naming.specs.Places.{lookIn, beforeIn};
+ghost use Rattle.places.specs.Found.{foundOf};
 ghost use Rattle.datarows.specs.Rows.{timeKept, releaseKept, dueKept, gapKept};
 use figures::divides;
 use figures::place;
-use naming::Spot;
+use places::Found;
 
 // Nothing wraps: the sum of two times has 64 bits.
 fn later(start: u32, time: u32) -> u64
@@ -58,18 +59,18 @@ pub fn first_mistimed<'a>(
     times: &[u32; 32],
     resolution: u32,
     count: usize,
-) -> Spot
+) -> Found
     requires { ⌜ count ≤ 256 ⌝ }
-    ensures { λ r. ⌜ r ≡ spotOf (firstBad (timeKept (now (tasks .entry)) (now (starts .entry)) (now (stops .entry)) (now (times .entry)) resolution) (upTo count)) ⌝ }
+    ensures { λ r. ⌜ r ≡ foundOf (firstBad (timeKept (now (tasks .entry)) (now (starts .entry)) (now (stops .entry)) (now (times .entry)) resolution) (upTo count)) ⌝ }
 {
     let mut k = 0;
     while k < count {
         if !time_kept(starts[k], stops[k], time_of(times, tasks[k]), resolution) {
-            return Spot::At(k);
+            return Found::At(k);
         }
         k += 1;
     }
-    Spot::Nowhere
+    Found::Nothing
 }
 
 fn release_of(releases: &[u32; 256], frame: usize) -> u32
@@ -84,33 +85,33 @@ pub fn first_early(
     releases: &[u32; 256],
     numbers: &[usize; 256],
     count: usize,
-) -> Spot
+) -> Found
     requires { ⌜ count ≤ 256 ⌝ }
-    ensures { λ r. ⌜ r ≡ spotOf (firstBad (releaseKept (now (starts .entry)) (now (releases .entry)) (now (numbers .entry))) (upTo count)) ⌝ }
+    ensures { λ r. ⌜ r ≡ foundOf (firstBad (releaseKept (now (starts .entry)) (now (releases .entry)) (now (numbers .entry))) (upTo count)) ⌝ }
 {
     let mut k = 0;
     while k < count {
         if starts[k] < release_of(releases, numbers[k]) {
-            return Spot::At(k);
+            return Found::At(k);
         }
         k += 1;
     }
-    Spot::Nowhere
+    Found::Nothing
 }
 
 // Rule 26: the first row that stops after its deadline.
-pub fn first_late<'a>(stops: &'a [u32; 256], deadlines: &'a [u32; 256], count: usize) -> Spot
+pub fn first_late<'a>(stops: &'a [u32; 256], deadlines: &'a [u32; 256], count: usize) -> Found
     requires { ⌜ count ≤ 256 ⌝ }
-    ensures { λ r. ⌜ r ≡ spotOf (firstBad (dueKept (now (stops .entry)) (now (deadlines .entry))) (upTo count)) ⌝ }
+    ensures { λ r. ⌜ r ≡ foundOf (firstBad (dueKept (now (stops .entry)) (now (deadlines .entry))) (upTo count)) ⌝ }
 {
     let mut k = 0;
     while k < count {
         if deadlines[k] < stops[k] {
-            return Spot::At(k);
+            return Found::At(k);
         }
         k += 1;
     }
-    Spot::Nowhere
+    Found::Nothing
 }
 
 fn stop_before(stops: &[u32; 256], k: usize, last: u32) -> u32
@@ -127,16 +128,16 @@ pub fn first_crowded<'a>(
     last: u32,
     gap: u32,
     count: usize,
-) -> Spot
+) -> Found
     requires { ⌜ count ≤ 256 ⌝ }
-    ensures { λ r. ⌜ r ≡ spotOf (firstBad (gapKept (now (starts .entry)) (now (stops .entry)) last gap) (upTo count)) ⌝ }
+    ensures { λ r. ⌜ r ≡ foundOf (firstBad (gapKept (now (starts .entry)) (now (stops .entry)) last gap) (upTo count)) ⌝ }
 {
     let mut k = 0;
     while k < count {
         if wide(starts[k]) < later(stop_before(stops, k, last), gap) {
-            return Spot::At(k);
+            return Found::At(k);
         }
         k += 1;
     }
-    Spot::Nowhere
+    Found::Nothing
 }

@@ -11,7 +11,7 @@ use Rattle.laws.specs.Loops.{stores}
 use Rattle.laws.proofs.Orders.{le-or-lt}
 use Rattle.laws.proofs.Loops.{stores-all, stores-at, stores-beyond, length-stores}
 use Rattle.rows.specs.declared.Rows.{Rows}
-use Rattle.framerows.specs.declared.Frame.{Frame}
+use Rattle.units.specs.declared.Frame.{Frame}
 use Rattle.framerows.specs.Frames.{zeroFrame, withinPlaces, frameAt, frameIn, frameTable, endIn, filled}
 
 -- ---- at most 256

@@ -12,7 +12,7 @@ use Rattle.laws.proofs.Orders.{le-or-lt}
 use Rattle.rules.specs.Table.{FrameRow, zeroRow, rowsThenZero}
 use Rattle.rows.specs.declared.Rows.{Rows}
 use Rattle.rows.specs.Rows.{rowTask, rowRelease, rowDeadline, rowStart, rowsLaid}
-use Rattle.framerows.specs.declared.Frame.{Frame}
+use Rattle.units.specs.declared.Frame.{Frame}
 use Rattle.framerows.specs.Frames.{rowOf, frameOf, withinPlaces, frameAt, frameIn, filled}
 use Rattle.framerows.proofs.Filled.{within-below, within-past, frame-there, frame-behind, filled-few, filled-all}
 

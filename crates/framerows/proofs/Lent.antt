@@ -21,10 +21,10 @@ use denote.Memory.{cellAt, shares}
 use denote.Index.{place, row, others, elem-out, elem-back, elem-put}
 use denote.Steps.{owned}
 use denote.Struct.Laws as LL
-use Rattle.framerows.specs.declared.Frame.{Frame}
+use Rattle.units.specs.declared.Frame.{Frame}
 use Rattle.framerows.specs.Frames.{zeroFrame}
-use Rattle.framerows.proofs.Frame as T
-use Rattle.framerows.proofs.Frame.Laws as T′
+use Rattle.units.proofs.Frame as T
+use Rattle.units.proofs.Frame.Laws as T′
 
 abbrev pub Row : RattleType
 Row = T.the-row

@@ -20,9 +20,9 @@ use denote.Array.{Array, array-vals, array-tells, array-makes, array-lawful}
 use denote.ArrayMemory.{array-apart, array-whole}
 use denote.Index.{place, row}
 use denote.Steps.{only, owned, peeks}
-use Rattle.framerows.specs.declared.Frame.{Frame}
+use Rattle.units.specs.declared.Frame.{Frame}
 use Rattle.framerows.specs.Frames.{zeroFrame}
-use Rattle.framerows.proofs.Frame.Laws as T′
+use Rattle.units.proofs.Frame.Laws as T′
 use Rattle.framerows.proofs.Lent.{Row, vals, mach, tells, makes, lawful, elem-known, elem-look}
 
 pub typed-array : {M : Type 1} (𝓤 : URA M) (H : Heap 𝓤) (A : Atoms 𝓤) (W : Given 𝓤 H A) (n : ℕ) (xs : List Frame) {v : Val} → Is (Array Row n) xs (v ∷ []) → Holds (hasTy (tyArray T′.mir n) v) × WT v

@@ -8,7 +8,7 @@ use Rattle.laws.specs.Lists.{tab}
 use Rattle.laws.specs.Loops.{stores}
 use Rattle.rules.specs.Table.{FrameRow}
 use Rattle.rows.specs.declared.Rows.{Rows}
-use Rattle.framerows.specs.declared.Frame.{Frame}
+use Rattle.units.specs.declared.Frame.{Frame}
 
 -- a frame row of these numbers
 abbrev pub frameOf : ℕ → ℕ → ℕ → ℕ → Frame

@@ -4,32 +4,9 @@ ghost use mathlib.Core.Path.{_≡_};
 ghost use Prim.Native.Nat.{_≤_};
 ghost use Rattle.framerows.specs.Frames.{zeroFrame, frameOf, withinPlaces, frameTable, endIn, filled};
 use rows::Rows;
+use units::Frame;
 use units::TaskNo;
 use units::Ticks;
-
-#[repr(C)]
-pub struct Frame {
-    pub task: TaskNo,
-    pub release: Ticks,
-    pub deadline: Ticks,
-    pub start: Ticks,
-}
-
-impl Frame {
-    // Refusals 9 and 19: a plan has at most this many frames, and as many rows are lent.
-    pub const MOST: usize = 256;
-
-    pub fn zero() -> Frame
-        ensures { λ r. ⌜ r ≡ zeroFrame ⌝ }
-    {
-        Frame {
-            task: TaskNo(0),
-            release: Ticks(0),
-            deadline: Ticks(0),
-            start: Ticks(0),
-        }
-    }
-}
 
 fn framed(task: u8, release: u32, deadline: u32, start: u32) -> Frame
     ensures { λ r. ⌜ r ≡ frameOf task release deadline start ⌝ }

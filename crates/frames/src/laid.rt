@@ -9,19 +9,18 @@ ghost use Rattle.frames.specs.Walk.{isFair};
 ghost use Rattle.frames.specs.Laid.{framesLaid};
 use crate::derive;
 use cycle::runs::Runs;
+use units::Frame;
 use units::Ticks;
 
 // An array for each number of a frame, zeros behind. The count is one more than there are places where there are too many frames.
 pub struct Frames {
     pub count: usize,
-    pub tasks: [u8; Frames::MOST],
-    pub releases: [u32; Frames::MOST],
-    pub deadlines: [u32; Frames::MOST],
+    pub tasks: [u8; Frame::MOST],
+    pub releases: [u32; Frame::MOST],
+    pub deadlines: [u32; Frame::MOST],
 }
 
 impl Frames {
-    pub const MOST: usize = 256;
-
     pub fn of(runs: Runs, period: Ticks) -> Frames
         requires { ⌜ runs .count ≤ 64 ⌝ }
         requires { ⌜ period .0 ≤ 1000000 ⌝ }
@@ -29,9 +28,9 @@ impl Frames {
         ensures { λ r. ⌜ r ≡ framesLaid (framesOf (messages (period .0) (runsSeen runs))) ⌝ }
     {
         let n = runs.count;
-        let mut tasks = [0; Frames::MOST];
-        let mut releases = [0; Frames::MOST];
-        let mut deadlines = [0; Frames::MOST];
+        let mut tasks = [0; Frame::MOST];
+        let mut releases = [0; Frame::MOST];
+        let mut deadlines = [0; Frame::MOST];
         let count = derive(
             &runs.tasks,
             &runs.periods,

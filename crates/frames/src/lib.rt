@@ -11,10 +11,10 @@ ghost use Rattle.frames.specs.Walk.{most, runsIn, isFair, keyOf, Ready, 
 pub mod laid;
 
 use figures::larger;
-use laid::Frames;
 use tree::grow;
 use tree::leaves;
 use tree::raise;
+use units::Frame;
 
 fn narrow(t: usize) -> u8
     requires { ⌜ t < 32 ⌝ }
@@ -109,9 +109,9 @@ fn put(
     d: u32,
     b: u32,
     n: usize,
-    tasks: &mut [u8; Frames::MOST],
-    releases: &mut [u32; Frames::MOST],
-    deadlines: &mut [u32; Frames::MOST],
+    tasks: &mut [u8; Frame::MOST],
+    releases: &mut [u32; Frame::MOST],
+    deadlines: &mut [u32; Frame::MOST],
 ) -> usize
     requires { ⌜ t < 32 ⌝ }
     requires { ⌜ n ≤ most ⌝ }
@@ -120,7 +120,7 @@ fn put(
     if b == 0 {
         return n;
     }
-    if n == Frames::MOST {
+    if n == Frame::MOST {
         return n + 1;
     }
     tasks[n] = narrow(t);
@@ -136,9 +136,9 @@ pub fn derive<'a>(
     worst: &'a [u32; 64],
     runs: usize,
     cycle: u32,
-    tasks: &mut [u8; Frames::MOST],
-    releases: &mut [u32; Frames::MOST],
-    deadlines: &mut [u32; Frames::MOST],
+    tasks: &mut [u8; Frame::MOST],
+    releases: &mut [u32; Frame::MOST],
+    deadlines: &mut [u32; Frame::MOST],
 ) -> usize
     requires { ⌜ runs ≤ 64 ⌝ }
     requires { ⌜ cycle ≤ 1000000 ⌝ }
@@ -167,7 +167,7 @@ pub fn derive<'a>(
             &mut tree,
         );
         count = put(t as usize, d, met.best, count, tasks, releases, deadlines);
-        if count > Frames::MOST {
+        if count > Frame::MOST {
             return count;
         }
         root = met.root;

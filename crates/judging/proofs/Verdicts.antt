@@ -19,42 +19,45 @@ use Rattle.rules.specs.Checker.{TableRead, controlAt}
 use Rattle.answers.specs.declared.Refusal.{Refusal}
 use Rattle.answers.specs.Refusals.{said}
 use Rattle.tableread.specs.declared.Table.{Table}
-use Rattle.naming.specs.declared.Spot.{Spot}
-use Rattle.naming.specs.declared.Spot.the-variants.{At, Nowhere}
+use Rattle.places.specs.declared.Found.{Found}
+use Rattle.places.specs.declared.Found.the-variants.{At, Nothing}
 use Rattle.judging.specs.declared.Bounds.{Bounds}
-use Rattle.judging.specs.declared.Verdict.{Verdict}
-use Rattle.judging.specs.declared.Verdict.the-variants.{Passed, Refused}
+use Rattle.answers.specs.declared.Verdict.{Verdict}
+use Rattle.answers.specs.declared.Verdict.the-variants.{Passed, Refused}
 use Rattle.judging.specs.declared.Judgement.{Judgement}
-use Rattle.naming.specs.Places.{beforeIn, spotOf, Numbered, numberAt, isNew, spread}
+use Rattle.naming.specs.Places.{beforeIn, Numbered, numberAt, isNew, spread}
+use Rattle.places.specs.Found.{foundOf}
 use Rattle.tableread.specs.Memory.{controlIn, rowSeen, seen}
 use Rattle.datarows.specs.Rows.{timeKept, releaseKept, dueKept, gapKept}
-use Rattle.judging.specs.Judged.{headerFits, controlFits, rowsJudged, judgedFor, headerSame, controlsSame, frameIn, framesIn, timeIn, verdictSays, startsOn, Right, inOrder, found, Among}
+use Rattle.judging.specs.Judged.{headerFits, controlFits, rowsJudged, judgedFor, headerSame, controlsSame, frameIn, framesIn, timeIn, startsOn, Right, inOrder, Among}
+use Rattle.answers.specs.Refusals.{heard}
+use Rattle.places.specs.Found.{placeIn}
 use Rattle.laws.proofs.Turns.{same-bad}
 use Rattle.judging.proofs.NamedFrames.{starts-laid}
 use Rattle.judging.proofs.Held.{last-stop, number-given, rows-judged}
 
 -- ---- what a scan found
 
-pub spot-at : (o : Option ℕ) {s : Spot} {k : ℕ} → s ≡ spotOf o → s ≡ At k → o ≡ some k
+pub spot-at : (o : Option ℕ) {s : Found} {k : ℕ} → s ≡ foundOf o → s ≡ At k → o ≡ some k
 spot-at none e q = let z : _≡_ {A = ℕ} 0 1 = cc in absurd (omega arith)
 spot-at (some j) {k = k} e q = let z : j ≡ k = cc in ap some z
 
-pub spot-nowhere : (o : Option ℕ) {s : Spot} → s ≡ spotOf o → s ≡ Nowhere → o ≡ none
+pub spot-nowhere : (o : Option ℕ) {s : Found} → s ≡ foundOf o → s ≡ Nothing → o ≡ none
 spot-nowhere none e q = refl
 spot-nowhere (some j) e q = let z : _≡_ {A = ℕ} 0 1 = cc in absurd (omega arith)
 
-pub spot-within : (p : ℕ → Bool) (n : ℕ) {s : Spot} {k : ℕ} → s ≡ spotOf (firstBad p (upTo n)) → s ≡ At k → k < n
+pub spot-within : (p : ℕ → Bool) (n : ℕ) {s : Found} {k : ℕ} → s ≡ foundOf (firstBad p (upTo n)) → s ≡ At k → k < n
 spot-within p n {k = k} e q = firstBad-upTo-within p n k (spot-at (firstBad p (upTo n)) e q)
 
-pub spot-found : (o : Option ℕ) {s : Spot} → s ≡ spotOf o → found s ≡ o
-spot-found none e = ap found e
-spot-found (some j) e = ap found e
+pub spot-found : (o : Option ℕ) {s : Found} → s ≡ foundOf o → placeIn s ≡ o
+spot-found none e = ap placeIn e
+spot-found (some j) e = ap placeIn e
 
-pub spot-among : (p : ℕ → Bool) (n room : ℕ) {s : Spot} → s ≡ spotOf (firstBad p (upTo n)) → n ≤ room → Among room s
+pub spot-among : (p : ℕ → Bool) (n room : ℕ) {s : Found} → s ≡ foundOf (firstBad p (upTo n)) → n ≤ room → Among room s
 spot-among p n room {s = At k} e h = let w = spot-within p n e refl in omega (arith, w)
-spot-among p n room {s = Nowhere} e h = tt
+spot-among p n room {s = Nothing} e h = tt
 
-pub among-at : (room : ℕ) (s : Spot) {k : ℕ} → Among room s → s ≡ At k → k < room
+pub among-at : (room : ℕ) (s : Found) {k : ℕ} → Among room s → s ≡ At k → k < room
 among-at room s h e = rw e at h
 
 -- where nothing is refused, the first rule refuses nothing
@@ -72,11 +75,11 @@ first-kept first (some k) b c d e h = absurd (not-ok h)
 -- ---- judgements
 
 module _ {says : Res (Unit {0})} (frames : List Frame) (t : TableRead) {j : Judgement} where
-  pub right-refused : {n p : ℕ} → says ≡ refuse n p → (verdictSays (j .verdict) ≡ refuse n p) × (j .starts ≡ replicate 256 0) → Right says frames t j
+  pub right-refused : {n p : ℕ} → says ≡ refuse n p → (heard (j .verdict) ≡ refuse n p) × (j .starts ≡ replicate 256 0) → Right says frames t j
   right-refused e h = record { verdict = h .0 ∙ sym e; starts = rw e (h .1) }
 
   pub right-passed : says ≡ ok tt → j .verdict ≡ Passed → j .starts ≡ startsOn (ok tt) frames t → Right says frames t j
-  right-passed e v s = record { verdict = ap verdictSays v ∙ sym e; starts = rw e s }
+  right-passed e v s = record { verdict = ap heard v ∙ sym e; starts = rw e s }
 
 -- ---- rules 23 to 27
 
@@ -116,11 +119,11 @@ module _ (tasks releases deadlines times : List ℕ) (frames : ℕ) (n : Numbere
       sym (rw numbered (rows-judged tasks releases deadlines times frames n b t room (beforeIn (t .ends) 0 (t .control)) (last-stop t)))
 
   -- what the scans found, and what their order makes of it
-  module _ {sa sb sc sd se : Spot} (fa : sa ≡ spotOf (firstOf nameOk)) (fb : sb ≡ spotOf (firstOf timeOk))
-      (fc : sc ≡ spotOf (firstOf releaseOk)) (fd : sd ≡ spotOf (firstOf dueOk))
-      {last : ℕ} (isLast : last ≡ beforeIn (t .ends) 0 (t .control)) (fe : se ≡ spotOf (firstOf (gapOk last))) (v : Verdict)
-      (says : verdictSays v ≡ inOrder (1 + t .control) (found sa) (found sb) (found sc) (found sd) (found se)) where
-    as-found : inOrder (1 + t .control) (found sa) (found sb) (found sc) (found sd) (found se)
+  module _ {sa sb sc sd se : Found} (fa : sa ≡ foundOf (firstOf nameOk)) (fb : sb ≡ foundOf (firstOf timeOk))
+      (fc : sc ≡ foundOf (firstOf releaseOk)) (fd : sd ≡ foundOf (firstOf dueOk))
+      {last : ℕ} (isLast : last ≡ beforeIn (t .ends) 0 (t .control)) (fe : se ≡ foundOf (firstOf (gapOk last))) (v : Verdict)
+      (says : heard v ≡ inOrder (1 + t .control) (placeIn sa) (placeIn sb) (placeIn sc) (placeIn sd) (placeIn se)) where
+    as-found : inOrder (1 + t .control) (placeIn sa) (placeIn sb) (placeIn sc) (placeIn sd) (placeIn se)
         ≡ inOrder (1 + t .control) (firstOf nameOk) (firstOf timeOk) (firstOf releaseOk) (firstOf dueOk) (firstOf (gapOk (beforeIn (t .ends) 0 (t .control))))
     as-found =
         rw (
@@ -132,16 +135,16 @@ module _ (tasks releases deadlines times : List ℕ) (frames : ℕ) (n : Numbere
           isLast,
         )
 
-    judged-rows : verdictSays v ≡ rowsJudged wanted (timeIn times) b (seen t)
+    judged-rows : heard v ≡ rowsJudged wanted (timeIn times) b (seen t)
     judged-rows = says ∙ as-found ∙ sym whole
 
-    pub rows-refused : {x : Refusal} {j : Judgement} → v ≡ Refused x → (verdictSays (j .verdict) ≡ said x) × (j .starts ≡ replicate 256 0) → JudgedRows j
-    rows-refused q h = right-refused wanted (seen t) (sym judged-rows ∙ ap verdictSays q) h
+    pub rows-refused : {x : Refusal} {j : Judgement} → v ≡ Refused x → (heard (j .verdict) ≡ said x) × (j .starts ≡ replicate 256 0) → JudgedRows j
+    rows-refused q h = right-refused wanted (seen t) (sym judged-rows ∙ ap heard q) h
 
     pub rows-passed : {j : Judgement} → v ≡ Passed → j .verdict ≡ Passed → j .starts ≡ spread named (t .starts) (t .rows) → JudgedRows j
     unfolding seen rowSeen
     rows-passed q w h =
-        let passed : rowsJudged wanted (timeIn times) b (seen t) ≡ ok tt = sym judged-rows ∙ ap verdictSays q in
+        let passed : rowsJudged wanted (timeIn times) b (seen t) ≡ ok tt = sym judged-rows ∙ ap heard q in
         let all-named : firstOf nameOk ≡ none
         = first-kept (1 + t .control) (firstOf nameOk) (firstOf timeOk) (firstOf releaseOk) (firstOf dueOk)
         (firstOf (gapOk (beforeIn (t .ends) 0 (t .control)))) (sym whole ∙ passed) in
@@ -181,7 +184,7 @@ module _ (tasks releases deadlines : List ℕ) (frames : ℕ) (time : ℕ → �
       )
 
   pub wrong-header : {r : Bool} {j : Judgement} → r ≡ headerSame (t .header) (t .control) (t .rows) b controls frames → r ≡ false
-      → (verdictSays (j .verdict) ≡ refuse 21 0) × (j .starts ≡ replicate 256 0)
+      → (heard (j .verdict) ≡ refuse 21 0) × (j .starts ≡ replicate 256 0)
       → Right (judgedFor fixed asked time b (seen t)) asked (seen t) j
   unfolding judgedFor
   wrong-header e q h = right-refused asked (seen t) (rw (header-same, sym e, q)) h
@@ -219,14 +222,14 @@ module _ (tasks releases deadlines : List ℕ) (frames : ℕ) (time : ℕ → �
               (λ k h. control-same k control-count h),
         )
 
-    module _ {s : Spot} (found : s ≡ spotOf (firstBad (controlsSame (controlIn (t .nodes) (t .begins) (t .ends)) (controlIn nodes begins ends)) (upTo controls))) where
-      pub strange-control : {k : ℕ} {j : Judgement} → s ≡ At k → (verdictSays (j .verdict) ≡ refuse 22 (1 + k)) × (j .starts ≡ replicate 256 0)
+    module _ {s : Found} (found : s ≡ foundOf (firstBad (controlsSame (controlIn (t .nodes) (t .begins) (t .ends)) (controlIn nodes begins ends)) (upTo controls))) where
+      pub strange-control : {k : ℕ} {j : Judgement} → s ≡ At k → (heard (j .verdict) ≡ refuse 22 (1 + k)) × (j .starts ≡ replicate 256 0)
           → Right (judgedFor fixed asked time b (seen t)) asked (seen t) j
       strange-control here h =
           let bad = spot-at (firstBad (controlsSame (controlIn (t .nodes) (t .begins) (t .ends)) (controlIn nodes begins ends)) (upTo controls)) found here in
           right-refused asked (seen t) (scanned ∙ rw bad) h
 
-      pub same-controls : {j : Judgement} → s ≡ Nowhere → Right (rowsJudged asked time b (seen t)) asked (seen t) j
+      pub same-controls : {j : Judgement} → s ≡ Nothing → Right (rowsJudged asked time b (seen t)) asked (seen t) j
           → Right (judgedFor fixed asked time b (seen t)) asked (seen t) j
       same-controls here h =
           let good = spot-nowhere (firstBad (controlsSame (controlIn (t .nodes) (t .begins) (t .ends)) (controlIn nodes begins ends)) (upTo controls)) found here in

@@ -25,15 +25,15 @@ use Rattle.rules.specs.Checker.{
   rowsKeep,
   startIn,
 }
-use Rattle.answers.specs.Refusals.{said}
+use Rattle.answers.specs.Refusals.{said, heard}
 use Rattle.tableread.specs.declared.Header.{Header}
 use Rattle.judging.specs.declared.Bounds.{Bounds}
-use Rattle.judging.specs.declared.Verdict.{Verdict}
-use Rattle.judging.specs.declared.Verdict.the-variants.{Passed, Refused}
+use Rattle.answers.specs.declared.Verdict.{Verdict}
+use Rattle.answers.specs.declared.Verdict.the-variants.{Passed, Refused}
 use Rattle.judging.specs.declared.Judgement.{Judgement}
 use Rattle.line.specs.declared.Line.{Line}
-use Rattle.naming.specs.declared.Spot.{Spot}
-use Rattle.naming.specs.declared.Spot.the-variants.{At, Nowhere}
+use Rattle.places.specs.declared.Found.{Found}
+use Rattle.places.specs.declared.Found.the-variants.{At, Nothing}
 use Rattle.naming.specs.Places.{lookIn}
 use Rattle.tableread.specs.Memory.{controlIn}
 
@@ -121,24 +121,15 @@ boundsOn l = record { period = l .period; resolution = l .resolution; gap = l .g
 unfoldable pub lineJudged : Line → TableRead → Res (Unit {0})
 lineJudged l t = judgedFor (controlsOn l) (framesOn l) (timeIn (l .time)) (boundsOn l) t
 
--- what the rules say where the code answers with this verdict
-abbrev pub verdictSays : Verdict → Res (Unit {0})
-verdictSays Passed = ok tt
-verdictSays (Refused x) = said x
-
 -- the start that the table gives to each frame, by number; a refusal leaves zeros
 abbrev pub startsOn : Res (Unit {0}) → List Frame → TableRead → List ℕ
 startsOn (ok u) frames t = padTo 256 0 (map (startIn (t .rows)) frames)
 startsOn (refuse n p) frames t = replicate 256 0
 
--- what a scan found, and that it lies among the first n places
-abbrev pub found : Spot → Option ℕ
-found (At k) = some k
-found Nowhere = none
-
-abbrev pub Among : ℕ → Spot → Type 0
+-- what a scan found lies among the first n places
+abbrev pub Among : ℕ → Found → Type 0
 Among n (At k) = k < n
-Among n Nowhere = Unit {0}
+Among n Nothing = Unit {0}
 
 -- refusals 24 to 27, and 23 to 27, by the first row that breaks each; the first row is record `first`
 abbrev pub timesInOrder : ℕ → Option ℕ → Option ℕ → Option ℕ → Option ℕ → Res (Unit {0})
@@ -155,5 +146,5 @@ inOrder first unnamed mistimed early late crowded = do
 
 -- a judgement is what the rules say, with the starts
 pub record Right (says : Res (Unit {0})) (frames : List Frame) (t : TableRead) (j : Judgement) : Type 0 where
-  pub verdict : verdictSays (j .verdict) ≡ says
+  pub verdict : heard (j .verdict) ≡ says
   pub starts : j .starts ≡ startsOn says frames t

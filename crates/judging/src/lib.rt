@@ -6,19 +6,23 @@ ghost use lib.ListN.{replicate};
 ghost use Prim.Native.Nat.{_+_, _≤_, _<_};
 ghost use Rattle.laws.specs.Lists.{firstBad, upTo};
 ghost use Rattle.answers.specs.Refusals as answers;
-ghost use Rattle.naming.specs.Places.{Numbered, beforeIn, spotOf};
+ghost use Rattle.naming.specs.Places.{Numbered, beforeIn};
+ghost use Rattle.places.specs.Found.{foundOf};
 ghost use Rattle.tableread.specs.Memory.{seen, controlIn};
-ghost use Rattle.judging.specs.Judged.{headerSame, controlsSame, rowsJudged, framesIn, framesOn, timeIn, lineJudged, verdictSays, Right, inOrder, found, Among};
+ghost use Rattle.judging.specs.Judged.{headerSame, controlsSame, rowsJudged, framesIn, framesOn, timeIn, lineJudged, Right, inOrder, Among};
+ghost use Rattle.answers.specs.Refusals.{heard};
+ghost use Rattle.places.specs.Found.{placeIn};
 use answers::Refusal;
+use answers::Verdict;
 use datarows::first_crowded;
 use datarows::first_early;
 use datarows::first_late;
 use datarows::first_mistimed;
 use line::Line;
-use naming::Spot;
 use naming::first_unnamed;
 use naming::numbers;
 use naming::starts_by_frame;
+use places::Found;
 use tableread::Header;
 use tableread::Table;
 use units::RecordNo;
@@ -31,11 +35,6 @@ pub struct Bounds {
     pub gap: Ticks,
 }
 
-pub enum Verdict {
-    Passed,
-    Refused(Refusal),
-}
-
 // The verdict, and the start of each frame by number; all 0 where the table is refused.
 pub struct Judgement {
     pub verdict: Verdict,
@@ -43,7 +42,7 @@ pub struct Judgement {
 }
 
 fn refused(x: Refusal) -> Judgement
-    ensures { λ r. ⌜ (verdictSays (r .verdict) ≡ answers.said x) × (r .starts ≡ replicate 256 0) ⌝ }
+    ensures { λ r. ⌜ (heard (r .verdict) ≡ answers.said x) × (r .starts ≡ replicate 256 0) ⌝ }
 {
     Judgement {
         verdict: Verdict::Refused(x),
@@ -91,9 +90,9 @@ fn first_strange<'a, 'b>(
     opens: &'b [u32; 8],
     closes: &'b [u32; 8],
     controls: usize,
-) -> Spot
+) -> Found
     requires { ⌜ controls ≤ 8 ⌝ }
-    ensures { λ r. ⌜ r ≡ spotOf (firstBad (controlsSame (controlIn (now (nodes .entry)) (now (begins .entry)) (now (ends .entry))) (controlIn (now (senders .entry)) (now (opens .entry)) (now (closes .entry)))) (upTo controls)) ⌝ }
+    ensures { λ r. ⌜ r ≡ foundOf (firstBad (controlsSame (controlIn (now (nodes .entry)) (now (begins .entry)) (now (ends .entry))) (controlIn (now (senders .entry)) (now (opens .entry)) (now (closes .entry)))) (upTo controls)) ⌝ }
 {
     let mut k = 0;
     while k < controls {
@@ -105,11 +104,11 @@ fn first_strange<'a, 'b>(
             opens[k],
             closes[k],
         ) {
-            return Spot::At(k);
+            return Found::At(k);
         }
         k += 1;
     }
-    Spot::Nowhere
+    Found::Nothing
 }
 
 // The stop of the last control row.
@@ -123,29 +122,29 @@ fn last_stop(ends: &[u32; 8], control: usize) -> u32
 // The record `first + k` of the first row at fault: `first` is the first data row's.
 fn rows_judged(
     first: usize,
-    unnamed: Spot,
-    mistimed: Spot,
-    early: Spot,
-    late: Spot,
-    crowded: Spot,
+    unnamed: Found,
+    mistimed: Found,
+    early: Found,
+    late: Found,
+    crowded: Found,
 ) -> Verdict
     requires { ⌜ first ≤ 9 ⌝ }
     requires { ⌜ Among 256 unnamed × (Among 256 mistimed × (Among 256 early × (Among 256 late × Among 256 crowded))) ⌝ }
-    ensures { λ r. ⌜ verdictSays r ≡ inOrder first (found unnamed) (found mistimed) (found early) (found late) (found crowded) ⌝ }
+    ensures { λ r. ⌜ heard r ≡ inOrder first (placeIn unnamed) (placeIn mistimed) (placeIn early) (placeIn late) (placeIn crowded) ⌝ }
 {
-    if let Spot::At(k) = unnamed {
+    if let Found::At(k) = unnamed {
         return Verdict::Refused(Refusal::NoNewFrame(RecordNo(first + k)));
     }
-    if let Spot::At(k) = mistimed {
+    if let Found::At(k) = mistimed {
         return Verdict::Refused(Refusal::WrongTime(RecordNo(first + k)));
     }
-    if let Spot::At(k) = early {
+    if let Found::At(k) = early {
         return Verdict::Refused(Refusal::BeforeRelease(RecordNo(first + k)));
     }
-    if let Spot::At(k) = late {
+    if let Found::At(k) = late {
         return Verdict::Refused(Refusal::AfterDeadline(RecordNo(first + k)));
     }
-    if let Spot::At(k) = crowded {
+    if let Found::At(k) = crowded {
         return Verdict::Refused(Refusal::GapBroken(RecordNo(first + k)));
     }
     Verdict::Passed
@@ -215,7 +214,7 @@ pub fn judge(t: Table, line: Line) -> Judgement
     if !header_right(head, t.control, t.rows, bounds, line.controls, line.frames) {
         return refused(Refusal::WrongHeader);
     }
-    if let Spot::At(k) = first_strange(
+    if let Found::At(k) = first_strange(
         &t.nodes,
         &t.begins,
         &t.ends,

@@ -8,7 +8,7 @@ use Prim.Native.Nat.{ℕ, _≤_, _<_, _∣_, min}
 use Rattle.laws.specs.Res.{refuse}
 use Rattle.laws.specs.Lists.{all}
 use Rattle.rules.specs.Plan.{Plan}
-use Rattle.rules.specs.Frames.{someBusTask, busPeriod, switchGrid, busRuns, framesOf, messages, frames, layout, mostFrames}
+use Rattle.rules.specs.Frames.{someBusTask, busPeriod, switchGrid, busRuns, framesOf, messages, frames, layout}
 use Rattle.rules.proofs.PlanKept.{PlanKept}
 use Rattle.cycle.specs.declared.runs.Runs.{Runs}
 use Rattle.cycle.specs.Runs.{runsLaid, runsSeen}
@@ -43,12 +43,12 @@ module _ (p : Plan) (k : PlanKept p) (runs : Runs) (period : ℕ) (r : runs ≡ 
 
     module _ (rest : layout p ≡ framing p) where
       pub nine : 256 < f .count → layout p ≡ refuse 9 0
-      unfolding framing mostFrames
+      unfolding framing
       nine h =
           let c : f .count ≡ min 257 (length (frames p)) = count-is in
           let l : 256 < length (frames p) = omega arith in
           rest ∙ rw (lt-leb (length (frames p)) 256 l)
 
       pub onward : f .count ≤ 256 → layout p ≡ closing p
-      unfolding framing mostFrames
+      unfolding framing
       onward h = rest ∙ rw (le-leb (length (frames p)) 256 (few-frames h))

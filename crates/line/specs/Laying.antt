@@ -6,17 +6,13 @@ use Rattle.laws.specs.Res.{Res, ok, refuse, _>>=_, _>>_, unless}
 use mathlib.Core.List.{List}
 use Prim.Native.Nat.{ℕ}
 use Rattle.rules.specs.Plan.{Plan, readPlan}
-use Rattle.rules.specs.Frames.{Layout, layout, layoutOf, frames, mostFrames, payloadsFit, controlEnd, busPeriod}
-use Rattle.answers.specs.Refusals.{said}
-use Rattle.line.specs.declared.Answer.{Answer}
-use Rattle.line.specs.declared.Answer.the-variants.{Sound, Refused}
+use Rattle.rules.specs.Limits.{mostFrames}
+use Rattle.rules.specs.Frames.{Layout, layout, layoutOf, frames, payloadsFit, controlEnd, busPeriod}
+use Rattle.answers.specs.Refusals.{said, heard}
+use Rattle.answers.specs.declared.Verdict.{Verdict}
+use Rattle.answers.specs.declared.Verdict.the-variants.{Passed, Refused}
 use Rattle.line.specs.declared.Laid.{Laid}
 use Rattle.line.specs.Line.{lineFor}
-
--- the answer in the rules' words, and the rules' answer without its layout
-abbrev pub heard : Answer → Res (Unit {0})
-heard Sound = ok tt
-heard (Refused x) = said x
 
 abbrev pub verdict : Res Layout → Res (Unit {0})
 verdict (ok l) = ok tt

@@ -14,8 +14,9 @@ ghost use Rattle.control.specs.Control.{controlLaid};
 ghost use Rattle.frames.specs.Laid.{framesLaid};
 ghost use Rattle.line.specs.Line.{noLine, lineOf};
 ghost use Rattle.line.specs.Laying.{Lays, framing, closing, fileLaid};
-ghost use Rattle.line.specs.declared.Answer.the-variants.{Refused};
+ghost use Rattle.answers.specs.declared.Verdict.the-variants.{Refused};
 use answers::Refusal;
+use answers::Verdict;
 use bus::Senders;
 use control::Control;
 use control::control_end;
@@ -34,6 +35,7 @@ use plan::Plan;
 use plan::look::task_count;
 use times::Span;
 use times::gap_time;
+use units::Frame;
 use units::Ticks;
 
 // `floor` is C; `time` is by task; `nodes`, `starts` and `stops` are the control rows, `controls` of them; `task`, `release` and
@@ -76,14 +78,9 @@ impl Line {
     }
 }
 
-pub enum Answer {
-    Sound,
-    Refused(Refusal),
-}
-
 // What laying a plan out comes to, and the line beside it: none where the plan is refused.
 pub struct Laid {
-    pub answer: Answer,
+    pub answer: Verdict,
     pub line: Line,
 }
 
@@ -91,7 +88,7 @@ fn refused(why: Refusal) -> Laid
     ensures { λ r. ⌜ r ≡ record { answer = Refused why; line = noLine } ⌝ }
 {
     Laid {
-        answer: Answer::Refused(why),
+        answer: Verdict::Refused(why),
         line: Line::none(),
     }
 }
@@ -171,7 +168,7 @@ fn closed<'a>(
     let control = control_rows(p, payloads);
     let line = line_of(p, period, end, control, count, task, release, deadline);
     Laid {
-        answer: Answer::Sound,
+        answer: Verdict::Passed,
         line: line,
     }
 }
@@ -185,7 +182,7 @@ fn framed(p: Plan, senders: Senders, runs: Runs, period: u32) -> Laid
     ensures { λ r. ⌜ Lays r (layout (seen p)) ⌝ }
 {
     let frames = Frames::of(runs, Ticks(period));
-    if Frames::MOST < frames.count {
+    if Frame::MOST < frames.count {
         return refused(Refusal::TooManyFrames);
     }
     closed(
@@ -229,7 +226,7 @@ pub fn lay_out(s: &[u8]) -> Laid
     let reading = planrules::read(s);
     let answer = reading.answer;
     match answer {
-        planrules::Answer::Sound => cycled(reading.plan),
-        planrules::Answer::Refused(why) => refused(why),
+        Verdict::Passed => cycled(reading.plan),
+        Verdict::Refused(why) => refused(why),
     }
 }

@@ -10,9 +10,9 @@ use Rattle.rows.specs.declared.Rows.{Rows}
 use Rattle.linetable.specs.declared.Answer.{Answer}
 use Rattle.linetable.specs.declared.Answer.the-variants.{Made, Refused}
 use Rattle.linetable.specs.declared.Making.{Making}
-use Rattle.linetable.specs.Making.{Makes, heard}
+use Rattle.linetable.specs.Making.{Makes, heardMade}
 
-pub heard-once : (x y : Answer) → heard x ≡ heard y → x ≡ y
+pub heard-once : (x y : Answer) → heardMade x ≡ heardMade y → x ≡ y
 heard-once (Made m) (Made n) e = ap Made (ok-injective e)
 heard-once (Made m) (Refused y) e = refuse≢ok (sym e)
 heard-once (Refused x) (Made n) e = refuse≢ok e

@@ -12,9 +12,9 @@ use Rattle.linetable.specs.declared.Answer.the-variants.{Made, Refused}
 use Rattle.linetable.specs.declared.Making.{Making}
 
 -- the answer in the rules' words, and the rules' answer as a length
-abbrev pub heard : Answer → Res ℕ
-heard (Made n) = ok n
-heard (Refused x) = said x
+abbrev pub heardMade : Answer → Res ℕ
+heardMade (Made n) = ok n
+heardMade (Refused x) = said x
 
 abbrev pub lengthOf : Res MadeTable → Res ℕ
 lengthOf (ok t) = ok (length (t .table))
@@ -32,6 +32,6 @@ bufferLeft (refuse n p) buffer = buffer
 
 -- Making says what the rules say, and leaves the rows and the buffer that they leave.
 pub record Makes (r : Making) (before after : List ℕ) (rule : Res MadeTable) : Type 0 where
-  pub answered : heard (r .answer) ≡ lengthOf rule
+  pub answered : heardMade (r .answer) ≡ lengthOf rule
   pub left : r .rows ≡ rowsLaid (rowsOf rule)
   pub written : after ≡ bufferLeft rule before

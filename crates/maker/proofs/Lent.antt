@@ -7,7 +7,7 @@ use lib.Dec.{leb}
 use lib.ListN.{length, replicate}
 use Prim.Native.Nat.{ℕ}
 use Rattle.laws.specs.Res.{Res, ok, refuse}
-use Rattle.rules.specs.Frames.{mostFrames}
+use Rattle.rules.specs.Limits.{mostFrames}
 use Rattle.rules.specs.Table.{FrameRow, zeroRow, rowsThenZero, MadeTable, tableFor, outcome, make}
 use Rattle.maker.specs.Making.{lentFor}
 use Rattle.linetable.specs.Making.{lengthOf, rowsOf, bufferLeft}

@@ -9,32 +9,33 @@ use Prim.Native.Nat.{ℕ, _≤_, _<_}
 use Rattle.laws.specs.Res.{Res, ok, refuse, unless}
 use Rattle.laws.proofs.Res.{refuse≢ok, ok-injective, refuse-number, refuse-place, bind-case, bind-refused, then-case}
 use Rattle.rules.specs.Plan.{Plan, readPlan}
-use Rattle.rules.specs.Frames.{Layout, layout, mostFrames}
+use Rattle.rules.specs.Limits.{mostFrames}
+use Rattle.rules.specs.Frames.{Layout, layout}
 use Rattle.rules.specs.Table.{MadeTable, tableFor}
 use Rattle.rules.specs.Checker.{check}
 use Rattle.rules.proofs.MadePasses.{table-made, made-checked}
 use Rattle.answers.specs.declared.Refusal.{Refusal}
-use Rattle.answers.specs.Refusals.{said}
+use Rattle.answers.specs.Refusals.{said, heard}
 use Rattle.line.specs.declared.Laid.{Laid}
-use Rattle.line.specs.declared.Answer.the-variants.{Sound, Refused as LineRefused}
+use Rattle.answers.specs.declared.Verdict.the-variants.{Passed, Refused as LineRefused}
 use Rattle.line.specs.Line.{lineFor}
 use Rattle.line.specs.Laying.{Lays, fileLaid, verdict}
 use Rattle.line.specs.Laying as laying
 use Rattle.placing.specs.Placing.{laid}
 use Rattle.linetable.specs.declared.Making.{Making}
 use Rattle.maker.specs.Making.{PassesCheck, lentFor}
-use Rattle.linetable.specs.Making.{heard, lengthOf, bufferLeft, Makes}
+use Rattle.linetable.specs.Making.{heardMade, lengthOf, bufferLeft, Makes}
 use Rattle.linetable.specs.Steps.{Stands, laidTable}
 
 -- ---- 19, and refusals 1 to 11
 
 module _ (plan : List ℕ) (lent room : ℕ) where
   pub too-few-rows : lent < 256 → lentFor plan lent room ≡ refuse 19 256
-  unfolding lentFor mostFrames
+  unfolding lentFor
   too-few-rows h = rw (lt-leb 256 lent h)
 
   rows-enough : 256 ≤ lent → lentFor plan lent room ≡ tableFor plan room
-  unfolding lentFor mostFrames
+  unfolding lentFor
   rows-enough h = rw (le-leb 256 lent h)
 
   -- the plan's refusal is the table's
@@ -48,7 +49,7 @@ module _ (plan : List ℕ) (lent room : ℕ) where
 
   module _ (enough : 256 ≤ lent) (r : Laid) (h : Lays r (fileLaid plan)) where
     pub plan-refused : (why : Refusal) → r .answer ≡ LineRefused why → lentFor plan lent room ≡ said why
-    plan-refused why e = rows-enough enough ∙ go (fileLaid plan) refl (sym (ap laying.heard e) ∙ h .answered)
+    plan-refused why e = rows-enough enough ∙ go (fileLaid plan) refl (sym (ap heard e) ∙ h .answered)
       where
         go : (rule : Res Layout) → fileLaid plan ≡ rule → said why ≡ verdict rule → tableFor plan room ≡ said why
         go (ok l) q v = refuse≢ok v
@@ -58,9 +59,9 @@ module _ (plan : List ℕ) (lent room : ℕ) where
       pub stands : Stands (r .line)
       pub rule : lentFor plan lent room ≡ laidTable (stands .lay) room
 
-    pub plan-sound : r .answer ≡ Sound → StandsFor
+    pub plan-sound : r .answer ≡ Passed → StandsFor
     unfolding fileLaid
-    plan-sound e = go (fileLaid plan) refl (sym (ap laying.heard e) ∙ h .answered) (h .left)
+    plan-sound e = go (fileLaid plan) refl (sym (ap heard e) ∙ h .answered) (h .left)
       where
         go : (rule : Res Layout) → fileLaid plan ≡ rule → ok tt ≡ verdict rule → r .line ≡ lineFor rule → StandsFor
         go (ok l) q v w =
@@ -77,7 +78,7 @@ pub made-table-passes : (plan : List ℕ) (lent : ℕ) (r : Making) (before afte
     → PassesCheck plan (r .answer) after
 unfolding PassesCheck lentFor
 made-table-passes plan lent r before after m n e rows w =
-    go (lentFor plan lent (length before)) refl (sym (ap heard e) ∙ m .answered) (m .written)
+    go (lentFor plan lent (length before)) refl (sym (ap heardMade e) ∙ m .answered) (m .written)
   where
     go : (rule : Res MadeTable) → lentFor plan lent (length before) ≡ rule → ok n ≡ lengthOf rule → after ≡ bufferLeft rule before
         → check plan (take n after) rows .answer ≡ ok tt

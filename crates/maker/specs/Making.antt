@@ -5,7 +5,7 @@ use lib.Dec.{leb}
 use lib.ListN.{length, take}
 use Prim.Native.Nat.{ℕ, _≤_}
 use Rattle.laws.specs.Res.{Res, ok, _>>_, unless}
-use Rattle.rules.specs.Frames.{mostFrames}
+use Rattle.rules.specs.Limits.{mostFrames}
 use Rattle.rules.specs.Table.{FrameRow, MadeTable, tableFor}
 use Rattle.rules.specs.Checker.{check}
 use Rattle.linetable.specs.declared.Answer.{Answer}

@@ -14,8 +14,9 @@ use Prim.Native.Nat.{ℕ, zero, suc, _+_, _-_, _≤_, _<_}
 use Rattle.laws.specs.Lists.{any, firstBad, tab, upTo}
 use Rattle.laws.proofs.Lists.{any-upTo-more}
 use Rattle.laws.proofs.Loops.{firstBad-upTo-hit}
-use Rattle.naming.specs.declared.Spot.the-variants.{At, Nowhere}
-use Rattle.naming.specs.Places.{placeFrom, marks, isNew, spread, beforeIn, spotOf}
+use Rattle.places.specs.declared.Found.the-variants.{At, Nothing}
+use Rattle.naming.specs.Places.{placeFrom, marks, isNew, spread, beforeIn}
+use Rattle.places.specs.Found.{foundOf}
 
 -- ---- the first place that passes
 
@@ -68,11 +69,11 @@ before-at a d (suc k) n = let e : suc k - 1 ≡ k = omega arith in rw e
 -- ---- scans
 
 module _ (p : ℕ → Bool) {n k : ℕ} (before : firstBad p (upTo k) ≡ none) where
-  pub scan-hit : k < n → p k ≡ false → At k ≡ spotOf (firstBad p (upTo n))
-  scan-hit h e = sym (ap spotOf (firstBad-upTo-hit p n k h before e))
+  pub scan-hit : k < n → p k ≡ false → At k ≡ foundOf (firstBad p (upTo n))
+  scan-hit h e = sym (ap foundOf (firstBad-upTo-hit p n k h before e))
 
-  pub scan-end : n ≤ k → k ≤ n → Nowhere ≡ spotOf (firstBad p (upTo n))
-  scan-end h w = let e : k ≡ n = omega arith in sym (ap (λ (i : ℕ). spotOf (firstBad p (upTo i))) (sym e) ∙ ap spotOf before)
+  pub scan-end : n ≤ k → k ≤ n → Nothing ≡ foundOf (firstBad p (upTo n))
+  scan-end h w = let e : k ≡ n = omega arith in sym (ap (λ (i : ℕ). foundOf (firstBad p (upTo i))) (sym e) ∙ ap foundOf before)
 
 -- ---- marks
 

@@ -6,8 +6,6 @@ use lib.Dec.{eqb, ltb}
 use lib.ListN.{getD, set, replicate}
 use Prim.Native.Nat.{ℕ, zero, suc, _+_, _*_, _≤_, _<_}
 use Rattle.laws.specs.Loops.{placed}
-use Rattle.naming.specs.declared.Spot.{Spot}
-use Rattle.naming.specs.declared.Spot.the-variants.{At, Nowhere}
 
 -- the number at a place of an array of `room` places; 0 behind its end
 unfoldable pub lookIn : ℕ → List ℕ → ℕ → ℕ
@@ -17,11 +15,6 @@ lookIn room a k = cond (ltb k room) (getD a k 0) 0
 abbrev pub beforeIn : List ℕ → ℕ → ℕ → ℕ
 beforeIn a d zero = d
 beforeIn a d (suc k) = getD a k 0
-
--- what a scan found
-abbrev pub spotOf : Option ℕ → Spot
-spotOf none = Nowhere
-spotOf (some k) = At k
 
 -- the first of n places from `low` on that passes the test, or the place behind them
 abbrev pub placeFrom : (ℕ → Bool) → ℕ → ℕ → ℕ

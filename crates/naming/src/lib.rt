@@ -4,13 +4,8 @@ ghost use lib.ListN.{replicate};
 ghost use Prim.Native.Nat.{_≤_};
 ghost use Rattle.laws.specs.Lists.{firstBad, upTo};
 ghost use Rattle.laws.specs.Loops.{stores};
-ghost use Rattle.naming.specs.Places.{keyOf, Numbered, Parted, hasKey, numberOf, numberAt, spotOf, isNew, spread};
-
-// Where a scan first met something.
-pub enum Spot {
-    At(usize),
-    Nowhere,
-}
+ghost use Rattle.naming.specs.Places.{keyOf, Numbered, Parted, hasKey, numberOf, numberAt, isNew, spread};
+ghost use Rattle.places.specs.Found.{foundOf};
 
 // Frames are numbered by deadline, then by task.
 fn key(deadline: u32, task: u8) -> u64
@@ -94,25 +89,25 @@ pub fn numbers<'a>(
 }
 
 // The first row that names no frame, or one that a row before it names.
-pub fn first_unnamed(numbers: &[usize; 256], frames: usize, rows: usize) -> Spot
+pub fn first_unnamed(numbers: &[usize; 256], frames: usize, rows: usize) -> Found
     requires { ⌜ frames ≤ 256 ⌝ }
     requires { ⌜ rows ≤ 256 ⌝ }
-    ensures { λ r. ⌜ r ≡ spotOf (firstBad (isNew (now (numbers .entry)) frames) (upTo rows)) ⌝ }
+    ensures { λ r. ⌜ r ≡ foundOf (firstBad (isNew (now (numbers .entry)) frames) (upTo rows)) ⌝ }
 {
     let mut named = [false; 256];
     let mut k = 0;
     while k < rows {
         let f = numbers[k];
         if frames <= f {
-            return Spot::At(k);
+            return Found::At(k);
         }
         if named[f] {
-            return Spot::At(k);
+            return Found::At(k);
         }
         named[f] = true;
         k += 1;
     }
-    Spot::Nowhere
+    Found::Nothing
 }
 
 // The start of each frame, by number.

@@ -8,7 +8,7 @@ use Rattle.stationruns.specs.declared.Change.{Change}
 use Rattle.stationruns.specs.Inputs.{changeAt}
 use Rattle.starting.specs.declared.Begun as beginning
 use Rattle.beginning.specs.Begins.{Begins, verdict, stationFor}
-use Rattle.starting.specs.Starting.{heard}
+use Rattle.answers.specs.Refusals.{heard}
 use Rattle.olbiothar.specs.declared.Begun.{Begun}
 use Rattle.outward.specs.Answers.{answerOf}
 use Rattle.olbiothar.specs.Playing.{begunBy}

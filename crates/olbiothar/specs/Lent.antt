@@ -4,7 +4,7 @@ use mathlib.Core.List.{List, map}
 use Prim.Native.Nat.{ℕ}
 use Rattle.rules.specs.Table.{make}
 use Rattle.rules.specs.Checker.{check}
-use Rattle.framerows.specs.declared.Frame.{Frame}
+use Rattle.units.specs.declared.Frame.{Frame}
 use Rattle.framerows.specs.Frames.{rowOf}
 use Rattle.outward.specs.declared.Answer.{Answer}
 use Rattle.outward.specs.Answers.{answerOf, madeOf}

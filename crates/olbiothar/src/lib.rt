@@ -9,16 +9,15 @@ ghost use Rattle.stationruns.specs.Inputs.{changeAt};
 ghost use Rattle.olbiothar.specs.Playing.{begunBy};
 ghost use Rattle.turning.specs.Turning.{ruled, stationAfter, tickedBy};
 ghost use Rattle.outward.specs.Numbers.{changesFor};
-use framerows::Frame;
 use outward::Answer;
-use outward::answer_begun;
 use outward::changes_for;
-use outward::checked;
+use outward::judged;
 use outward::made;
 use station::Station;
 use station::nodes_turned;
 use turning::Ticked;
 use turning::turn_for;
+use units::Frame;
 
 // The table of a plan, at the front of the lent bytes; its length, or refusals 19 and 1 to 13.
 #[no_mangle]
@@ -33,7 +32,7 @@ pub extern "C" fn olbiothar_make(plan: &[u8], rows: &mut [Frame], table: &mut [u
 pub extern "C" fn olbiothar_check(plan: &[u8], table: &[u8], rows: &mut [Frame]) -> Answer
     ensures { λ r. ⌜ ChecksRows r (now (plan .entry)) (now (table .entry)) (now (rows .entry)) (now (rows .exit)) ⌝ }
 {
-    checked(tables::check(plan, table, rows))
+    judged(tables::check(plan, table, rows))
 }
 
 // A beginning: the answer, and the station beside it.
@@ -57,7 +56,7 @@ pub extern "C" fn olbiothar_begin(
     let answer = b.answer;
     let begun = b.station;
     Begun {
-        answer: answer_begun(answer),
+        answer: judged(answer),
         station: begun,
     }
 }

@@ -1,12 +1,11 @@
 // Answers, rows and what a tick is given, in the numbers that C has: C has no enums that carry values.
 ghost use mathlib.Core.Path.{_≡_};
-ghost use Rattle.answers.specs.Refusals.{said};
+ghost use Rattle.answers.specs.Refusals.{said, heard};
 ghost use Rattle.linetable.specs.Making as making;
-ghost use Rattle.checked.specs.Checking as checking;
 ghost use Rattle.outward.specs.Answers.{answerOf, madeOf};
-ghost use Rattle.starting.specs.Starting.{heard};
 ghost use Rattle.outward.specs.Numbers.{answerSaid, changeFor, changesFor, givenFor, givensFor, rowFor, rowSaid};
 use answers::Refusal;
+use answers::Verdict;
 use stationmoves::Said;
 use stationruns::Change;
 use stationruns::Given;
@@ -28,20 +27,20 @@ pub fn refused(why: Refusal) -> Answer
     }
 }
 
-pub fn checked(answer: checked::Answer) -> Answer
-    ensures { λ r. ⌜ r ≡ answerOf (checking.heard answer) ⌝ }
+pub fn judged(answer: Verdict) -> Answer
+    ensures { λ r. ⌜ r ≡ answerOf (heard answer) ⌝ }
 {
     match answer {
-        checked::Answer::Passed => Answer {
+        Verdict::Passed => Answer {
             number: 0,
             place: 0,
         },
-        checked::Answer::Refused(why) => refused(why),
+        Verdict::Refused(why) => refused(why),
     }
 }
 
 pub fn made(answer: linetable::Answer) -> Answer
-    ensures { λ r. ⌜ r ≡ madeOf (making.heard answer) ⌝ }
+    ensures { λ r. ⌜ r ≡ madeOf (making.heardMade answer) ⌝ }
 {
     match answer {
         linetable::Answer::Made(length) => Answer {
@@ -156,17 +155,5 @@ pub fn answer_said(said: Said) -> Answer
             place: 0,
         },
         Said::Refused(why) => refused(why),
-    }
-}
-
-pub fn answer_begun(answer: starting::Answer) -> Answer
-    ensures { λ r. ⌜ r ≡ answerOf (heard answer) ⌝ }
-{
-    match answer {
-        starting::Answer::Started => Answer {
-            number: 0,
-            place: 0,
-        },
-        starting::Answer::Refused(why) => refused(why),
     }
 }

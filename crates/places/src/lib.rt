@@ -28,3 +28,9 @@ pub fn flag_at(a: &[bool], i: usize) -> bool
 {
     if i < a.len() { a[i] } else { false }
 }
+
+// What a scan found: the first place at fault, or with what is looked for; or that there is none.
+pub enum Found {
+    At(usize),
+    Nothing,
+}

@@ -22,8 +22,24 @@ pub struct Bus {
     pub resolution: Ticks,
 }
 
+impl Bus {
+    pub const FASTEST: u32 = 100_000;
+
+    pub const MOST_OVERHEAD: u32 = 64;
+
+    pub const MOST_PAYLOAD: u32 = 254;
+
+    pub const WIDEST_GAP: u32 = 1000;
+
+    pub const COARSEST: u32 = 1000;
+}
+
 pub struct Module {
     pub node: NodeNo,
+}
+
+impl Module {
+    pub const MOST: usize = ModuleNo::MOST;
 }
 
 pub struct Mode {
@@ -32,10 +48,24 @@ pub struct Mode {
     pub switch: Ticks,
 }
 
+impl Mode {
+    pub const MOST: usize = ModeNo::MOST;
+    // Of its period and its switch period.
+    pub const LONGEST: u32 = Ticks::LONGEST;
+}
+
 pub struct Task {
     pub home: ModuleNo,
     pub size: ByteCount,
     pub worst: Ticks,
+}
+
+impl Task {
+    pub const MOST: usize = TaskNo::MOST;
+    // Of its message, in bytes.
+    pub const LARGEST: u32 = 8;
+    // Of its worst time.
+    pub const LONGEST: u32 = Ticks::LONGEST;
 }
 
 pub struct Invocation {
@@ -46,6 +76,8 @@ pub struct Invocation {
 
 impl Invocation {
     pub const MOST: usize = 64;
+
+    pub const MOST_OFTEN: u32 = 65_535;
 }
 
 pub struct Connection {

@@ -12,7 +12,7 @@ use Rattle.rules.specs.Plan as rules
 use Rattle.plan.specs.declared.Plan.{Plan}
 use Rattle.plan.specs.Memory.{seen, countSeen, modeSeen, invocationSeen}
 use Rattle.plan.proofs.Parts.{part-again}
-use Rattle.planfits.specs.declared.Found.the-variants.{At, Nothing}
+use Rattle.places.specs.declared.Found.the-variants.{At, Nothing}
 use Rattle.planfits.specs.Scans.{placeOr, unfitOf}
 use Rattle.planfits.specs.Fits.{hasModeIn, fitsAt, isFreshIn}
 use Rattle.planfits.proofs.Places.{at-met, at-end, at-met-upTo, at-end-upTo, first-of-two}

@@ -6,18 +6,13 @@ use Prim.Native.Nat.{ℕ}
 use Rattle.laws.specs.Res.{Res, ok, refuse}
 use Rattle.laws.specs.Lists.{firstBad}
 use Rattle.rules.specs.Records.{Rec}
-use Rattle.planfits.specs.declared.Found.{Found}
-use Rattle.planfits.specs.declared.Found.the-variants.{At, Nothing}
+use Rattle.places.specs.declared.Found.{Found}
+use Rattle.places.specs.declared.Found.the-variants.{At, Nothing}
 
 -- the place that was found, or n where there is none
 abbrev pub placeOr : ℕ → Option ℕ → ℕ
 placeOr n none = n
 placeOr n (some k) = k
-
--- what was found, as the code has it
-abbrev pub foundOf : Option ℕ → Found
-foundOf none = Nothing
-foundOf (some k) = At k
 
 -- what was found before, else the n-th if it is bad
 abbrev pub earlierOf : Found → Bool → ℕ → Found

@@ -22,12 +22,6 @@ use units::ByteCount;
 use units::ModuleNo;
 use units::Ticks;
 
-// What a scan found: the place, or that there is none.
-pub enum Found {
-    At(usize),
-    Nothing,
-}
-
 fn has_mode(modes: [Mode; 32], count: usize, home: usize) -> bool
     requires { ⌜ count ≤ 32 ⌝ }
     ensures { λ r. ⌜ r ≡ hasModeIn (map modeSeen (take count modes)) home ⌝ }

@@ -18,9 +18,10 @@ use Rattle.records.specs.declared.Step.{Step}
 use Rattle.records.specs.declared.Step.the-variants.{Record, End, Wrong}
 use Rattle.records.proofs.Steps.{from, onward, one-step, found}
 use Rattle.plangather.proofs.SoFar.{record-cut}
-use Rattle.planfits.specs.declared.Found.{Found}
-use Rattle.planfits.specs.declared.Found.the-variants.{At, Nothing}
-use Rattle.planfits.specs.Scans.{foundOf, earlierOf, isOk, firstBadOf}
+use Rattle.places.specs.declared.Found.{Found}
+use Rattle.places.specs.declared.Found.the-variants.{At, Nothing}
+use Rattle.planfits.specs.Scans.{earlierOf, isOk, firstBadOf}
+use Rattle.places.specs.Found.{foundOf}
 
 -- n places further on
 abbrev shifted : ℕ → Option ℕ → Option ℕ

@@ -2,17 +2,12 @@
 use mathlib.Core.Path.{_≡_}
 use Rattle.laws.specs.Res.{Res, ok, refuse}
 use Rattle.rules.specs.Plan as rules
-use Rattle.answers.specs.Refusals.{said}
+use Rattle.answers.specs.Refusals.{said, heard}
 use Rattle.plan.specs.declared.Plan.{Plan}
 use Rattle.plan.specs.Memory.{layOut, emptyPlan}
-use Rattle.planrules.specs.declared.Answer.{Answer}
-use Rattle.planrules.specs.declared.Answer.the-variants.{Sound, Refused}
+use Rattle.answers.specs.declared.Verdict.{Verdict}
+use Rattle.answers.specs.declared.Verdict.the-variants.{Passed, Refused}
 use Rattle.planrules.specs.declared.Reading.{Reading}
-
--- the answer in the rules' words, and the rules' answer without its plan
-abbrev pub heard : Answer → Res (Unit {0})
-heard Sound = ok tt
-heard (Refused x) = said x
 
 abbrev pub verdict : Res rules.Plan → Res (Unit {0})
 verdict (ok p) = ok tt

@@ -8,7 +8,8 @@ use Rattle.laws.specs.Res.{Res}
 use Rattle.rules.specs.Records.{Rec}
 use Rattle.rules.specs.Plan.{nth, leastCounts, mostCounts, namesAreThere, numbersAreWithin}
 use Rattle.planrules.specs.declared.numbers.Firsts.{Firsts}
-use Rattle.planfits.specs.Scans.{foundOf, firstBadOf}
+use Rattle.planfits.specs.Scans.{firstBadOf}
+use Rattle.places.specs.Found.{foundOf}
 
 -- Refusal 2: "a count of things, the number of nodes included, is outside its range" (k counts kinds from 2 on).
 unfoldable pub countsFit : List ℕ → ℕ → Bool

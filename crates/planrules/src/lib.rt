@@ -5,26 +5,22 @@ ghost use Rattle.rules.specs.Plan.{readPlan};
 ghost use Rattle.plan.specs.Memory.{emptyPlan};
 ghost use Rattle.plangather.specs.Gather.{gatheredOf};
 ghost use Rattle.plangather.specs.declared.Outcome.the-variants.{Whole};
-ghost use Rattle.planrules.specs.declared.Answer.the-variants.{Refused};
+ghost use Rattle.answers.specs.declared.Verdict.the-variants.{Refused};
 ghost use Rattle.planrules.specs.Reading.{Reads};
 
 mod counts;
 mod numbers;
 
 use answers::Refusal;
+use answers::Verdict;
+use places::Found;
 use plan::Plan;
-use planfits::Found;
 use plangather::Outcome;
 use units::RecordNo;
 
-pub enum Answer {
-    Sound,
-    Refused(Refusal),
-}
-
 // What reading a file comes to, and the plan beside it: with nothing in it where the file is refused.
 pub struct Reading {
-    pub answer: Answer,
+    pub answer: Verdict,
     pub plan: Plan,
 }
 
@@ -32,7 +28,7 @@ fn refused(why: Refusal) -> Reading
     ensures { λ r. ⌜ r ≡ record { answer = Refused why; plan = emptyPlan } ⌝ }
 {
     Reading {
-        answer: Answer::Refused(why),
+        answer: Verdict::Refused(why),
         plan: Plan::empty(),
     }
 }
@@ -61,7 +57,7 @@ fn judged(s: &[u8], p: Plan) -> Reading
         return refused(Refusal::Unfit(RecordNo(n)));
     }
     Reading {
-        answer: Answer::Sound,
+        answer: Verdict::Passed,
         plan: p,
     }
 }

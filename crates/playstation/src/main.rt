@@ -4,6 +4,7 @@ ghost use mathlib.Core.Path.{_≡_};
 ghost use Rattle.playstation.specs.Answered.{answered};
 ghost use Rattle.playstation.specs.Played.{played};
 use answerlines::put_begun;
+use answers::Verdict;
 use figures::both;
 use hearing::behind_end;
 use hearing::hear_lines;
@@ -29,10 +30,10 @@ fn say_begun() {
     io::write_all(STDOUT_FILENO, &out[..n]);
 }
 
-fn say_answer(answer: starting::Answer) {
+fn say_answer(answer: Verdict) {
     match answer {
-        starting::Answer::Started => say_begun(),
-        starting::Answer::Refused(why) => say_refusal(why),
+        Verdict::Passed => say_begun(),
+        Verdict::Refused(why) => say_refusal(why),
     }
 }
 

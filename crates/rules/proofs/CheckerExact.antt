@@ -20,7 +20,7 @@ use Rattle.laws.proofs.Orders.{le-or-lt}
 use Rattle.laws.proofs.Members.{Pairs, member-getD}
 use Rattle.rules.specs.Records.{records, tableFollows}
 use Rattle.rules.specs.Plan.{Plan, readPlan}
-use Rattle.rules.specs.Frames.{Frame, ControlRow, Layout, layout, layoutOf, gapTime, mostFrames}
+use Rattle.rules.specs.Frames.{Frame, ControlRow, Layout, layout, layoutOf, gapTime}
 use Rattle.rules.specs.LatestRelease.{noFrame, frameTime}
 use Rattle.rules.specs.Table.{DataRow, FrameRow}
 use Rattle.rules.specs.Checker.{
@@ -300,11 +300,11 @@ module _ (plan table : List ℕ) where
 
 module _ (plan table : List ℕ) (rows : List FrameRow) where
   pub lent-enough : 256 ≤ length rows → check plan table rows ≡ checkOutcome (passed plan table) rows
-  unfolding check mostFrames
+  unfolding check
   lent-enough h = rw (le-leb 256 (length rows) h, check)
 
   pub lent-short : length rows < 256 → check plan table rows ≡ record { answer = refuse 19 256; rows = rows }
-  unfolding check mostFrames
+  unfolding check
   lent-short h = rw (lt-leb 256 (length rows) h, check)
 
   answer-ok : (m : Res Passed) → checkOutcome m rows .answer ≡ ok tt → (c : Passed) × (m ≡ ok c)

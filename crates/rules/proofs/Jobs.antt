@@ -9,7 +9,7 @@ use Rattle.rules.specs.Frames.{sendersOn, controlPayload, isSendingNode,
 use Rattle.rules.specs.Frames.{periodOfRuns, busPeriod, withMode, ofSender, switchGrid, message, messagesOf, messages}
 use Rattle.rules.specs.Frames.{frameOrder, merged, withMessage, framesOf, frames, payload, ticksOfBits, sendingTime}
 use Rattle.rules.specs.Frames.{gapTime, controlFrom, controlRows, controlEnd, someBusTask, messageFits, controlFits}
-use Rattle.rules.specs.Frames.{payloadsFit, layoutOf, mostFrames, layout}
+use Rattle.rules.specs.Frames.{payloadsFit, layoutOf, layout}
 use Rattle.rules.specs.LatestRelease.{numberedFrom, withDeadline, greatestDeadline, isCandidate, isLater, latestOf, isOther, lowered, taken, startOf, fits, place, firstEnd, frameTime, latestRelease}
 use Rattle.rules.specs.Table.{recordBytes, dataRow, headerBytes, controlBytes, dataBytes, tableBytes, startFor, rowsFrom, rowsThenZero, madeTable, tableFor, make}
 use Rattle.rules.specs.Checker.{controlRowOf, dataRowOf, tableOf, headerRight, controlAt, rowAt, sameControl, controlKept, isFrameOf, samePair, namesNewFrame, namedIn, frameOfRow, timeKept, releaseKept, deadlineKept, gapKept, firstRow, rowsKeep, judged, passed, startIn, checkedRow, check}
@@ -24,7 +24,7 @@ unfolding euclid gcd lcm ceil up down kinds known fields bodyLength planFollows 
     livesIn isSending standsOn sendersOn controlPayload isSendingNode sendingNodes runOf ofBusTask busRuns withRun periodOfRuns
     busPeriod withMode ofSender switchGrid message messagesOf messages frameOrder merged withMessage framesOf frames payload
     ticksOfBits sendingTime gapTime controlFrom controlRows controlEnd someBusTask messageFits controlFits payloadsFit layoutOf
-    mostFrames layout numberedFrom withDeadline greatestDeadline isCandidate isLater latestOf isOther lowered taken startOf fits
+    layout numberedFrom withDeadline greatestDeadline isCandidate isLater latestOf isOther lowered taken startOf fits
     place firstEnd frameTime latestRelease recordBytes dataRow headerBytes controlBytes dataBytes tableBytes startFor rowsFrom
     rowsThenZero madeTable tableFor make controlRowOf dataRowOf tableOf headerRight controlAt rowAt sameControl controlKept
     isFrameOf samePair namesNewFrame namedIn frameOfRow timeKept releaseKept deadlineKept gapKept firstRow rowsKeep judged passed

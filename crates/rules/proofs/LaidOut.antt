@@ -34,41 +34,7 @@ use Rattle.laws.proofs.Members.{
   member-tab,
 }
 use Rattle.rules.specs.Plan.{Plan, noMode, theMode, theTask}
-use Rattle.rules.specs.Frames.{
-  Run,
-  runOf,
-  ofBusTask,
-  busRuns,
-  invokes,
-  isBusTask,
-  busTasks,
-  livesIn,
-  isSending,
-  isSendingNode,
-  sendingNodes,
-  ofSender,
-  switchGrid,
-  busPeriod,
-  Frame,
-  message,
-  messagesOf,
-  messages,
-  frames,
-  sendingTime,
-  gapTime,
-  controlPayload,
-  ControlRow,
-  noControlRow,
-  controlFrom,
-  controlRows,
-  controlEnd,
-  someBusTask,
-  payloadsFit,
-  Layout,
-  layoutOf,
-  layout,
-  mostFrames,
-}
+use Rattle.rules.specs.Frames.{Run, runOf, ofBusTask, busRuns, invokes, isBusTask, busTasks, livesIn, isSending, isSendingNode, sendingNodes, ofSender, switchGrid, busPeriod, Frame, message, messagesOf, messages, frames, sendingTime, gapTime, controlPayload, ControlRow, noControlRow, controlFrom, controlRows, controlEnd, someBusTask, payloadsFit, Layout, layoutOf, layout}
 use Rattle.rules.proofs.Period.{switch-grid}
 use Rattle.rules.proofs.FramesOf.{plan-frames}
 use Rattle.rules.proofs.PlanKept.{Between, PlanKept}
@@ -84,7 +50,7 @@ pub record LaidOut (p : Plan) (l : Layout) : Type 0 where
   pub is : layoutOf p ≡ l
 
 pub laid-out : (p : Plan) (l : Layout) → layout p ≡ ok l → LaidOut p l
-unfolding layout mostFrames
+unfolding layout
 laid-out p l e =
     then-case (unless 6 0 (someBusTask p)) _ e λ _ a₆ e₆.
     then-case (unless 7 0 (divides (busPeriod p) (switchGrid p))) _ e₆ λ _ a₇ e₇.

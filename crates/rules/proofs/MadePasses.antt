@@ -31,7 +31,7 @@ use Rattle.laws.proofs.Members.{
 }
 use Rattle.rules.specs.Records.{records, tableFollows}
 use Rattle.rules.specs.Plan.{Plan, readPlan}
-use Rattle.rules.specs.Frames.{Frame, Layout, layout, layoutOf, gapTime, controlRows, controlEnd, frames, mostFrames}
+use Rattle.rules.specs.Frames.{Frame, Layout, layout, layoutOf, gapTime, controlRows, controlEnd, frames}
 use Rattle.rules.specs.LatestRelease.{Placed, noFrame, frameTime, latestRelease}
 use Rattle.rules.specs.Table.{
   DataRow,
@@ -376,11 +376,11 @@ outcome-case (refuse m p) rows buffer n e f = refuse≢ok e
 
 module _ (plan : List ℕ) (rows : List FrameRow) (buffer : List ℕ) where
   pub make-enough : 256 ≤ length rows → make plan rows buffer ≡ outcome (tableFor plan (length buffer)) rows buffer
-  unfolding make mostFrames
+  unfolding make
   make-enough h = rw (le-leb 256 (length rows) h, make)
 
   pub make-short : length rows < 256 → make plan rows buffer ≡ record { answer = refuse 19 256; rows = rows; buffer = buffer }
-  unfolding make mostFrames
+  unfolding make
   make-short h = rw (lt-leb 256 (length rows) h, make)
 
   -- what a made table is: the table's own, at the front of the buffer, with the frame rows

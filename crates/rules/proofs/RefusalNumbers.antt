@@ -24,18 +24,8 @@ use Rattle.rules.specs.Plan.{
   rule5,
   readPlan,
 }
-use Rattle.rules.specs.Frames.{
-  someBusTask,
-  busPeriod,
-  switchGrid,
-  frames,
-  mostFrames,
-  payloadsFit,
-  controlEnd,
-  Layout,
-  layout,
-  layoutOf,
-}
+use Rattle.rules.specs.Limits.{mostFrames}
+use Rattle.rules.specs.Frames.{someBusTask, busPeriod, switchGrid, frames, payloadsFit, controlEnd, Layout, layout, layoutOf}
 use Rattle.rules.specs.Checker.{
   TableRead,
   headerRight,

@@ -19,7 +19,7 @@ use Rattle.rules.specs.Station.{hasOther, rowWith, landsOn, landedAfter,
 use Rattle.rules.specs.Station.{otherShows, shownAfter, modeAfter, oneOn, ageAfter, givenAfter, startingControl}
 use Rattle.rules.specs.Station.{startingData, modeByteAfter, fullAfter, loadAfter, tick, keptControl, keptData, started}
 use Rattle.rules.specs.Station.{step, startsWell, begin}
-use Rattle.rules.specs.StationRange.{isBetween, mostTime, countsInRange, moduleInRange, modeInRange, taskInRange, runInRange, runsInRange, controlInRange, dataInRange, keptInRange, playInRange, isValue, boxInRange, placeInRange, byteInRange, nodeInRange, stateInRange, inRange, ticked}
+use Rattle.rules.specs.StationRange.{isBetween, countsInRange, moduleInRange, modeInRange, taskInRange, runInRange, runsInRange, controlInRange, dataInRange, keptInRange, playInRange, isValue, boxInRange, placeInRange, byteInRange, nodeInRange, stateInRange, inRange, ticked}
 use Rattle.rules.specs.OneBoard.{modeNow, sinceMode, periodNow, runEnds, resultWithin, value}
 use Rattle.rules.proofs.Jobs.{everything}
 
@@ -406,7 +406,7 @@ unfolding everything plan row rows earlyTable numbers truths boards at grid plac
     taskAge runAge isRunning isAwaited resultAwaited resultFits isLastChance resultInTime isModeOf maySwitch changeAllowed
     judgedTick outAfter hasOther rowWith landsOn landedAfter isByteOf heldAfter endsNow hasMessage ownShows otherShows shownAfter
     modeAfter oneOn ageAfter givenAfter startingControl startingData modeByteAfter fullAfter loadAfter tick keptControl keptData
-    started step startsWell begin isBetween mostTime countsInRange moduleInRange modeInRange taskInRange runInRange runsInRange
+    started step startsWell begin isBetween countsInRange moduleInRange modeInRange taskInRange runInRange runsInRange
     controlInRange dataInRange keptInRange playInRange isValue boxInRange placeInRange byteInRange nodeInRange stateInRange
     inRange ticked
 opened = tt

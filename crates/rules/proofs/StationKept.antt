@@ -11,7 +11,7 @@ use Prim.Native.Nat.{ℕ, _%_, _<_}
 use Rattle.laws.specs.Res.{Res, ok, refuse, _>>_, unless}
 use Rattle.laws.proofs.Tests.{by-same}
 use Rattle.laws.proofs.Turns.{same-bad}
-use Rattle.rules.specs.Frames.{mostFrames}
+use Rattle.rules.specs.Limits.{mostFrames}
 use Rattle.rules.specs.Playing.{nodePlaces, modulePlaces, modePlaces, taskPlaces, Input}
 use Rattle.rules.specs.Station.{
   Kept,

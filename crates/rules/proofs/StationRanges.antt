@@ -2,12 +2,11 @@
 use mathlib.Core.Path.{_≡_}
 use Prim.Native.Nat.{ℕ, _≤_, _<_, _^_}
 use Rattle.laws.proofs.Tests.{Tests, by-iff, by-le, by-lt, by-eq, by-and, by-implies, by-all-upTo}
-use Rattle.rules.specs.Frames.{mostFrames}
+use Rattle.rules.specs.Limits.{mostFrames, longestTime}
 use Rattle.rules.specs.Playing.{nodePlaces, modulePlaces, modePlaces, taskPlaces}
 use Rattle.rules.specs.Station.{Kept, State}
 use Rattle.rules.specs.StationRange.{
   isBetween,
-  mostTime,
   countsInRange,
   moduleInRange,
   modeInRange,
@@ -32,14 +31,14 @@ use Rattle.rules.proofs.PlanKept.{Between}
 
 pub record ModeIn (k : Kept) (μ : ℕ) : Type 0 where
   pub home : k .modeHome μ < k .modules
-  pub period : k .modePeriod μ ≤ mostTime
-  pub switch : k .modeSwitch μ ≤ mostTime
+  pub period : k .modePeriod μ ≤ longestTime
+  pub switch : k .modeSwitch μ ≤ longestTime
   pub there : μ < k .modes → (0 < k .modePeriod μ) × (0 < k .modeSwitch μ)
 
 pub record TaskIn (k : Kept) (t : ℕ) : Type 0 where
   pub home : k .taskHome t < k .modules
   pub size : k .taskSize t ≤ 8
-  pub worst : k .taskWorst t ≤ mostTime
+  pub worst : k .taskWorst t ≤ longestTime
   pub there : t < k .tasks → (0 < k .taskSize t) × (0 < k .taskWorst t)
 
 pub record ControlIn (k : Kept) (r : ℕ) : Type 0 where
@@ -57,7 +56,7 @@ pub record KeptIn (k : Kept) : Type 0 where
   pub moduleCount : Between 1 modulePlaces (k .modules)
   pub modeCount : Between 1 modePlaces (k .modes)
   pub taskCount : Between 1 taskPlaces (k .tasks)
-  pub period : Between 1 mostTime (k .period)
+  pub period : Between 1 longestTime (k .period)
   pub controlCount : k .controls ≤ nodePlaces
   pub dataCount : k .datas ≤ mostFrames
   pub modules : (m : ℕ) → m < modulePlaces → k .moduleNode m < nodePlaces
@@ -106,7 +105,7 @@ module _ (k : Kept) where
   mode-tests μ =
       by-iff
       (by-and (by-lt (k .modeHome μ) (k .modules))
-      (by-and (by-and (by-le (k .modePeriod μ) mostTime) (by-le (k .modeSwitch μ) mostTime))
+      (by-and (by-and (by-le (k .modePeriod μ) longestTime) (by-le (k .modeSwitch μ) longestTime))
       (by-implies (by-lt μ (k .modes)) (by-and (by-lt 0 (k .modePeriod μ)) (by-lt 0 (k .modeSwitch μ))))))
       (λ h. record { home = h .0; period = h .1 .0 .0; switch = h .1 .0 .1; there = h .1 .1 })
       (λ h. (h .home, ((h .period, h .switch), h .there)))
@@ -116,7 +115,7 @@ module _ (k : Kept) where
   task-tests t =
       by-iff
       (by-and (by-lt (k .taskHome t) (k .modules))
-      (by-and (by-and (by-le (k .taskSize t) 8) (by-le (k .taskWorst t) mostTime))
+      (by-and (by-and (by-le (k .taskSize t) 8) (by-le (k .taskWorst t) longestTime))
       (by-implies (by-lt t (k .tasks)) (by-and (by-lt 0 (k .taskSize t)) (by-lt 0 (k .taskWorst t))))))
       (λ h. record { home = h .0; size = h .1 .0 .0; worst = h .1 .0 .1; there = h .1 .1 })
       (λ h. (h .home, ((h .size, h .worst), h .there)))
@@ -149,7 +148,7 @@ module _ (k : Kept) where
       (by-and
       (by-and
       (by-and (between-tests 1 modulePlaces (k .modules)) (by-and (between-tests 1 modePlaces (k .modes)) (between-tests 1 taskPlaces (k .tasks))))
-      (by-and (between-tests 1 mostTime (k .period)) (by-and (by-le (k .controls) nodePlaces) (by-le (k .datas) mostFrames))))
+      (by-and (between-tests 1 longestTime (k .period)) (by-and (by-le (k .controls) nodePlaces) (by-le (k .datas) mostFrames))))
       (by-and (by-all-upTo (moduleInRange k) modulePlaces (λ m w. module-tests m)) (by-all-upTo (modeInRange k) modePlaces (λ μ w. mode-tests μ))))
       (by-and
       (by-and (by-all-upTo (taskInRange k) taskPlaces (λ t w. task-tests t)) (by-all-upTo (runsInRange k) modePlaces (λ μ w. runs-tests μ)))

@@ -20,7 +20,7 @@ use Rattle.laws.proofs.Orders.{le-or-lt}
 use Rattle.laws.proofs.Members.{all-weaker, all-getD, all-getD-or}
 use Rattle.laws.proofs.Faults.{by-failed, by-fails, unless-refused}
 use Rattle.rules.specs.Plan.{Mode, Task, Invocation, Plan, noMode, noTask, theMode, theTask, periodOf}
-use Rattle.rules.specs.Frames.{moduleNode, busPeriod, ControlRow, noControlRow, controlRows, Layout, layoutOf, mostFrames}
+use Rattle.rules.specs.Frames.{moduleNode, busPeriod, ControlRow, noControlRow, controlRows, Layout, layoutOf}
 use Rattle.rules.specs.LatestRelease.{noFrame}
 use Rattle.rules.specs.Table.{DataRow}
 use Rattle.rules.specs.Checker.{TableRead, tableOf, controlAt, noDataRow, rowAt, Passed, passed}
@@ -58,7 +58,7 @@ use Rattle.rules.specs.Station.{
   begin,
 }
 use Rattle.rules.specs.History.{played}
-use Rattle.rules.specs.StationRange.{mostTime, inRange, ticked}
+use Rattle.rules.specs.StationRange.{inRange, ticked}
 use Rattle.rules.specs.Obeys.{frameAt, ObeysTable, MayTick, StartsRight}
 use Rattle.rules.proofs.PlanKept.{PlanKept, readable-kept}
 use Rattle.rules.proofs.StationRanges.{IsValue}
@@ -296,7 +296,7 @@ module _ (p : Plan) (kept : PlanKept p) {l : Layout} (laid : LaidOut p l) (t : T
       go (inr w) = data-row r w
 
   kept-of-plan : KeptIn (keptOf (record { layout = layoutOf p; table = t }))
-  unfolding keptOf layoutOf mostTime mostFrames periodIn
+  unfolding keptOf layoutOf periodIn
   kept-of-plan =
       record {
         moduleCount = kept .moduleCount;

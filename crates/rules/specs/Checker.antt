@@ -9,7 +9,8 @@ use Rattle.laws.specs.Lists.{any, firstBad, lastD, upTo}
 use Rattle.laws.specs.Numbers.{divides}
 use Rattle.rules.specs.Records.{Rec, records, tableFollows}
 use Rattle.rules.specs.Plan.{nth, things, only, readPlan}
-use Rattle.rules.specs.Frames.{Frame, ControlRow, noControlRow, Layout, layout, gapTime, mostFrames}
+use Rattle.rules.specs.Limits.{mostFrames}
+use Rattle.rules.specs.Frames.{Frame, ControlRow, noControlRow, Layout, layout, gapTime}
 use Rattle.rules.specs.LatestRelease.{noFrame, frameTime}
 use Rattle.rules.specs.Table.{DataRow, FrameRow, zeroRow, rowsThenZero}
 

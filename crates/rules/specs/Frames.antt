@@ -7,6 +7,7 @@ use Prim.Native.Nat.{ℕ, _+_, _*_, _-_, _/_, max, compare, Ordering, Ordering·
 use Rattle.laws.specs.Res.{Res, ok, _>>=_, _>>_, unless}
 use Rattle.laws.specs.Lists.{keep, any, all, joined, lastD, tab, upTo}
 use Rattle.laws.specs.Numbers.{divides, gcd, lcm, ceil, up}
+use Rattle.rules.specs.Limits.{mostFrames}
 use Rattle.rules.specs.Plan.{Bus, Mode, Invocation, Connection, Plan, theTask, periodOf}
 
 -- the node of a module, and of a task
@@ -196,10 +197,6 @@ pub record Layout : Type 0 where
 unfoldable pub layoutOf : Plan → Layout
 layoutOf p =
     record { plan = p; period = busPeriod p; control = controlRows p; afterControl = controlEnd p; frames = frames p }
-
--- "more than 256 data frames"
-unfoldable pub mostFrames : ℕ
-mostFrames = 256
 
 -- Refusals 6 to 11, each at 0: no bus task; P doesn't divide G; P isn't a multiple of the resolution; too many data frames;
 -- a payload too large; C above P.

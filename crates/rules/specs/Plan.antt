@@ -7,6 +7,7 @@ use Prim.Native.Nat.{ℕ, _+_, _*_, _/_}
 use Rattle.laws.specs.Res.{Res, ok, _>>=_, _>>_, at}
 use Rattle.laws.specs.Lists.{keep, any, firstBad, upTo}
 use Rattle.laws.specs.Numbers.{divides}
+use Rattle.rules.specs.Limits.{mostNodes, mostModules, mostModes, mostTasks, mostInvocations, mostConnections}
 use Rattle.rules.specs.Records.{Field, names, ranges, free, Rec, fields, records, planFollows}
 
 pub record Bus : Type 0 where
@@ -105,7 +106,7 @@ unfoldable pub leastCounts : List ℕ
 leastCounts = 1 ∷ 1 ∷ 1 ∷ 1 ∷ 1 ∷ 0 ∷ []
 
 unfoldable pub mostCounts : List ℕ
-mostCounts = 8 ∷ 16 ∷ 32 ∷ 32 ∷ 64 ∷ 64 ∷ []
+mostCounts = mostNodes ∷ mostModules ∷ mostModes ∷ mostTasks ∷ mostInvocations ∷ mostConnections ∷ []
 
 -- Refusal 2: "a count of things, the number of nodes included, is outside its range" (k counts kinds from 2 on).
 unfoldable pub countFits : List Rec → ℕ → Bool

@@ -5,20 +5,21 @@ use mathlib.Core.List.{List, [], _∷_}
 use mathlib.Core.Option.{Option, none, some}
 use lib.Dec.{eqb}
 use Prim.Native.Nat.{ℕ}
+use Rattle.rules.specs.Limits.{mostNodes, mostModules, mostModes, mostTasks}
 use Rattle.rules.specs.Plan.{Invocation, Plan, periodOf}
 
 -- "Each of the eight nodes has its own thirty-two places"; "16 starting places"; "nothing or one result for each of 32 task places".
 abbrev pub nodePlaces : ℕ
-nodePlaces = 8
+nodePlaces = mostNodes
 
 abbrev pub modulePlaces : ℕ
-modulePlaces = 16
+modulePlaces = mostModules
 
 abbrev pub modePlaces : ℕ
-modePlaces = 32
+modePlaces = mostModes
 
 abbrev pub taskPlaces : ℕ
-taskPlaces = 32
+taskPlaces = mostTasks
 
 -- "A tick is given, for each of 32 task places, nothing or one 64-bit unsigned result, and for each of 16 module places, nothing or
 -- a mode number."

@@ -7,6 +7,7 @@ use lib.ListN.{getD, take, drop}
 use Prim.Native.Nat.{ℕ, zero, suc, _+_}
 use Rattle.laws.specs.Res.{Res, ok, refuse, _>>=_}
 use Rattle.laws.specs.Numbers.{number}
+use Rattle.rules.specs.Limits.{fastestBus, mostOverhead, mostPayload, mostGap, coarsest, longestTime, largestMessage, mostRate}
 
 -- What a number of a body is: the name of a thing of a kind (u8); a number with a width and a range; a number with a width, free.
 pub data Field : Type 0 where
@@ -25,12 +26,12 @@ width (free wide) = wide
 unfoldable pub kinds : List (Option (List Field))
 kinds =
     some []  -- 0 end
-    ∷ some (ranges 4 1 100000 ∷ ranges 2 0 64 ∷ ranges 2 0 254 ∷ ranges 2 1 254 ∷ ranges 2 0 1000 ∷ ranges 4 1 1000 ∷ [])  -- 1 bus
+    ∷ some (ranges 4 1 fastestBus ∷ ranges 2 0 mostOverhead ∷ ranges 2 0 mostPayload ∷ ranges 2 1 mostPayload ∷ ranges 2 0 mostGap ∷ ranges 4 1 coarsest ∷ [])  -- 1 bus
     ∷ some (free 1 ∷ [])  -- 2 number of nodes
     ∷ some (names 2 ∷ [])  -- 3 module
-    ∷ some (names 3 ∷ ranges 4 1 1000000 ∷ ranges 4 1 1000000 ∷ [])  -- 4 mode
-    ∷ some (names 3 ∷ ranges 1 1 8 ∷ ranges 4 1 1000000 ∷ [])  -- 5 task
-    ∷ some (names 4 ∷ names 5 ∷ ranges 2 1 65535 ∷ [])  -- 6 invocation
+    ∷ some (names 3 ∷ ranges 4 1 longestTime ∷ ranges 4 1 longestTime ∷ [])  -- 4 mode
+    ∷ some (names 3 ∷ ranges 1 1 largestMessage ∷ ranges 4 1 longestTime ∷ [])  -- 5 task
+    ∷ some (names 4 ∷ names 5 ∷ ranges 2 1 mostRate ∷ [])  -- 6 invocation
     ∷ some (names 5 ∷ names 5 ∷ [])  -- 7 connection
     ∷ none
     ∷ none

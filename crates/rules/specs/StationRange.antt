@@ -5,7 +5,7 @@ use lib.Dec.{eqb, leb, ltb}
 use Prim.Native.Nat.{ℕ, _^_}
 use Rattle.laws.specs.Res.{Res, _>>=_, _>>_, unless}
 use Rattle.laws.specs.Lists.{all, upTo}
-use Rattle.rules.specs.Frames.{mostFrames}
+use Rattle.rules.specs.Limits.{mostFrames, longestTime, largestMessage}
 use Rattle.rules.specs.Playing.{nodePlaces, modulePlaces, modePlaces, taskPlaces, Input}
 use Rattle.rules.specs.Station.{Kept, State, Ticked, step}
 
@@ -16,13 +16,10 @@ isBetween low high x = leb low x && leb x high
 
 -- counts and times as in a plan: "modules 1 to 16, modes 1 to 32, tasks 1 to 32"; P, "mode and switch periods and worst time 1 to
 -- 1,000,000"; a row for each node at most, and 256 data rows
-unfoldable pub mostTime : ℕ
-mostTime = 1000000
-
 unfoldable pub countsInRange : Kept → Bool
 countsInRange k =
     (isBetween 1 modulePlaces (k .modules) && (isBetween 1 modePlaces (k .modes) && isBetween 1 taskPlaces (k .tasks)))
-    && (isBetween 1 mostTime (k .period) && (leb (k .controls) nodePlaces && leb (k .datas) mostFrames))
+    && (isBetween 1 longestTime (k .period) && (leb (k .controls) nodePlaces && leb (k .datas) mostFrames))
 
 unfoldable pub moduleInRange : Kept → ℕ → Bool
 moduleInRange k m = ltb (k .moduleNode m) nodePlaces
@@ -31,13 +28,13 @@ moduleInRange k m = ltb (k .moduleNode m) nodePlaces
 unfoldable pub modeInRange : Kept → ℕ → Bool
 modeInRange k μ =
     ltb (k .modeHome μ) (k .modules)
-    && ((leb (k .modePeriod μ) mostTime && leb (k .modeSwitch μ) mostTime)
+    && ((leb (k .modePeriod μ) longestTime && leb (k .modeSwitch μ) longestTime)
     && (not (ltb μ (k .modes)) || (ltb 0 (k .modePeriod μ) && ltb 0 (k .modeSwitch μ))))
 
 unfoldable pub taskInRange : Kept → ℕ → Bool
 taskInRange k t =
     ltb (k .taskHome t) (k .modules)
-    && ((leb (k .taskSize t) 8 && leb (k .taskWorst t) mostTime)
+    && ((leb (k .taskSize t) largestMessage && leb (k .taskWorst t) longestTime)
     && (not (ltb t (k .tasks)) || (ltb 0 (k .taskSize t) && ltb 0 (k .taskWorst t))))
 
 unfoldable pub runInRange : Kept → ℕ → ℕ → Bool

@@ -9,7 +9,8 @@ use Rattle.laws.specs.Lists.{joined}
 use Rattle.laws.specs.Numbers.{bytes}
 use Rattle.rules.specs.Records.{Field, width, fields}
 use Rattle.rules.specs.Plan.{readPlan}
-use Rattle.rules.specs.Frames.{Frame, ControlRow, Layout, layout, mostFrames}
+use Rattle.rules.specs.Limits.{mostFrames}
+use Rattle.rules.specs.Frames.{Frame, ControlRow, Layout, layout}
 use Rattle.rules.specs.LatestRelease.{Placed, latestRelease, frameTime}
 
 -- a body's numbers as bytes, by the kind's fields

@@ -16,8 +16,8 @@ use Rattle.stationsteps.specs.Steps.{modeRule}
 use Rattle.station.specs.Memory.{notBegun}
 use Rattle.stationrefusals.specs.declared.Play.{Play}
 use Rattle.station.specs.declared.Station.{Station}
-use Rattle.starting.specs.declared.Answer.{Answer}
-use Rattle.starting.specs.declared.Answer.the-variants.{Started, Refused}
+use Rattle.answers.specs.declared.Verdict.{Verdict}
+use Rattle.answers.specs.declared.Verdict.the-variants.{Passed, Refused}
 use Rattle.starting.specs.declared.Begun.{Begun}
 
 -- "a module's holds no mode of its own, or a later one holds anything"
@@ -72,13 +72,8 @@ startedBy kept starting =
 
 -- what a station that keeps a passed plan and table begins as
 abbrev pub begunAt : Station → List Change → Option ℕ → Begun
-begunAt kept starting none = record { answer = Started; station = startedBy kept starting }
+begunAt kept starting none = record { answer = Passed; station = startedBy kept starting }
 begunAt kept starting (some m) = record { answer = Refused (NotBegun (record { 0 = m })); station = notBegun }
 
 unfoldable pub begunBy : Station → List Change → Begun
 begunBy kept starting = begunAt kept starting (wrongStart kept starting)
-
--- the answer in the rules' words
-abbrev pub heard : Answer → Res (Unit {0})
-heard Started = ok tt
-heard (Refused x) = said x

@@ -1,27 +1,24 @@
 // A station that keeps a passed plan and table, in its starting modes: refusal 40 of a beginning.
 ghost use mathlib.Core.Path.{_≡_};
 ghost use Rattle.laws.specs.Lists.{firstBad, upTo};
-ghost use Rattle.stationruns.specs.Inputs.{changeOf, foundOf};
+ghost use Rattle.stationruns.specs.Inputs.{changeOf};
+ghost use Rattle.places.specs.Found.{placeIn};
 ghost use Rattle.station.specs.Memory.{notBegun};
 ghost use Rattle.starting.specs.Starting.{begunBy, holdsOwn, startTest, startedBy};
-ghost use Rattle.starting.specs.declared.Answer.the-variants.{Refused};
+ghost use Rattle.answers.specs.declared.Verdict.the-variants.{Refused};
 use answers::Refusal;
+use answers::Verdict;
 use figures::both;
+use places::Found;
 use places::byte_at;
 use station::Station;
 use stationruns::Change;
-use stationruns::Found;
 use stationsteps::modes_after;
 use units::ModuleNo;
 
-pub enum Answer {
-    Started,
-    Refused(Refusal),
-}
-
 // The answer, and the station beside it: not begun, all zero, where the beginning is refused.
 pub struct Begun {
-    pub answer: Answer,
+    pub answer: Verdict,
     pub station: Station,
 }
 
@@ -29,7 +26,7 @@ pub fn refused(why: Refusal) -> Begun
     ensures { λ r. ⌜ r ≡ record { answer = Refused why; station = notBegun } ⌝ }
 {
     Begun {
-        answer: Answer::Refused(why),
+        answer: Verdict::Refused(why),
         station: Station::not_begun(),
     }
 }
@@ -49,7 +46,7 @@ fn holds_own<'a>(start: Change, m: usize, modules: u8, modes: u8, homes: &'a [u8
 
 // 40: the first starting place at fault.
 fn wrong_start<'a>(starting: [Change; 16], modules: u8, modes: u8, homes: &'a [u8; 32]) -> Found
-    ensures { λ r. ⌜ foundOf r ≡ firstBad (startTest starting modules modes (now (homes .entry))) (upTo 16) ⌝ }
+    ensures { λ r. ⌜ placeIn r ≡ firstBad (startTest starting modules modes (now (homes .entry))) (upTo 16) ⌝ }
 {
     let mut m = 0;
     while m < 16 {
@@ -82,7 +79,7 @@ pub fn begin_with(kept: Station, starting: [Change; 16]) -> Begun
     match wrong_start(starting, kept.modules.count, modes.count, &modes.homes) {
         Found::At(m) => refused(Refusal::NotBegun(ModuleNo(m as u8))),
         Found::Nothing => Begun {
-            answer: Answer::Started,
+            answer: Verdict::Passed,
             station: started(kept, starting),
         },
     }

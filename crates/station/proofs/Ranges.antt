@@ -10,7 +10,6 @@ use Rattle.laws.proofs.Lists.{all-each}
 use Rattle.laws.specs.Res.{_>>_, at}
 use Rattle.laws.proofs.Res.{then-assoc}
 use Rattle.laws.proofs.Turns.{firstBad-same}
-use Rattle.rules.specs.Frames.{mostFrames}
 use Rattle.rules.specs.Station.{
   judgedTick,
   resultAwaited,
@@ -28,7 +27,6 @@ use Rattle.rules.specs.Station.{
   maySwitch,
 }
 use Rattle.rules.specs.StationRange.{
-  mostTime,
   countsInRange,
   moduleInRange,
   modeInRange,
@@ -66,7 +64,7 @@ joined {a} {b} {c} {d} e f g h =
 module _ (st : Station) where
   pub kept-range : keptTest (st .modules) (st .modes) (st .tasks) (st .controls) (st .datas) (st .period) (st .runs) (st .carries)
       (st .deadlines) (st .starts) (st .stops) ≡ keptInRange (keptOf st)
-  unfolding keptTest keptInRange keptOf keptBy mostTime countsInRange moduleInRange modeInRange taskInRange runInRange runsInRange controlInRange dataInRange runsTest mostFrames
+  unfolding keptTest keptInRange keptOf keptBy countsInRange moduleInRange modeInRange taskInRange runInRange runsInRange controlInRange dataInRange runsTest
   kept-range = refl
 
   -- a node whose places are in range is in range by the mode bytes that it holds

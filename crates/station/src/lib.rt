@@ -10,7 +10,7 @@ ghost use Rattle.station.specs.Parts.{atRest, nodesBy};
 ghost use Rattle.stationrefusals.specs.Refusing.{refusedBy};
 ghost use Rattle.station.specs.Answers.{Answers};
 ghost use Rattle.station.specs.Turns.{Turns, Valued, stationBy};
-use stationjudge::Judged;
+use answers::Verdict;
 use stationmoves::Said;
 use stationmoves::moves;
 use stationmoves::what_lands;
@@ -174,11 +174,11 @@ pub fn turned_by<'a>(
         starts,
         stops,
     ) {
-        Judged::Refused(x) => Turned {
+        Verdict::Refused(x) => Turned {
             said: Said::Refused(x),
             turn: at_rest(play),
         },
-        Judged::Fine => accepted(
+        Verdict::Passed => accepted(
             results,
             changes,
             modules,

@@ -8,15 +8,15 @@ ghost use Prim.Native.Nat.{ℕ, _<_};
 ghost use Rattle.laws.specs.Lists.{all, upTo};
 ghost use Rattle.laws.specs.Loops.{stores};
 ghost use Rattle.rules.specs.Station.{hasOther, rowWith};
-ghost use Rattle.stationruns.specs.Inputs.{foundOf};
+ghost use Rattle.places.specs.Found.{placeIn};
 ghost use Rattle.stationbus.specs.Bus.{byteFromRule, fullRule, heldAt, heldBy, heldRule, isByteAt, loadRule, messageIn, modeByteRule, numberAt};
 use figures::both;
 use figures::divides;
+use places::Found;
 use places::byte_at;
 use places::flag_at;
 use places::number_at;
 use places::value_at;
-use stationruns::Found;
 use stationruns::period_at;
 
 // Whether so many rows are there and none has this time. The scan does not end early, so that it is one straight pass.
@@ -36,7 +36,7 @@ fn lacks<'a>(times: &'a [u32], count: usize, time: u32) -> bool
 }
 
 fn first_with<'a>(times: &'a [u32], count: usize, time: u32) -> Found
-    ensures { λ r. ⌜ foundOf r ≡ rowWith (numberAt (now (times .entry))) count time ⌝ }
+    ensures { λ r. ⌜ placeIn r ≡ rowWith (numberAt (now (times .entry))) count time ⌝ }
 {
     let mut row = 0;
     while row < count {
@@ -50,7 +50,7 @@ fn first_with<'a>(times: &'a [u32], count: usize, time: u32) -> Found
 
 // The lowest of so many rows that has this time; at most ticks none has.
 pub fn row_with<'a>(times: &'a [u32], count: usize, time: u32) -> Found
-    ensures { λ r. ⌜ foundOf r ≡ rowWith (numberAt (now (times .entry))) count time ⌝ }
+    ensures { λ r. ⌜ placeIn r ≡ rowWith (numberAt (now (times .entry))) count time ⌝ }
 {
     if lacks(times, count, time) {
         Found::Nothing
@@ -113,8 +113,8 @@ pub fn held_after<'a>(
     nodes: &'a [u8; 16],
     bytes: &'a [u8; 16],
 ) -> [u8; 128]
-    ensures { λ r. ⌜ r ≡ stores held (heldRule (now (sends .entry)) (now (nodes .entry)) (now (bytes .entry)) (now (senders .entry)) held (foundOf row)) 128 ⌝ }
-    ensures reads { λ r. ⌜ ((j : ℕ) → j < 128 → getD r j 0 ≡ heldRule (now (sends .entry)) (now (nodes .entry)) (now (bytes .entry)) (now (senders .entry)) held (foundOf row) j) ⌝ }
+    ensures { λ r. ⌜ r ≡ stores held (heldRule (now (sends .entry)) (now (nodes .entry)) (now (bytes .entry)) (now (senders .entry)) held (placeIn row)) 128 ⌝ }
+    ensures reads { λ r. ⌜ ((j : ℕ) → j < 128 → getD r j 0 ≡ heldRule (now (sends .entry)) (now (nodes .entry)) (now (bytes .entry)) (now (senders .entry)) held (placeIn row) j) ⌝ }
 {
     match row {
         Found::Nothing => held,
@@ -165,7 +165,7 @@ pub fn bytes_after<'a>(
     nodes: &'a [u8; 16],
     modes: &'a [u8; 16],
 ) -> [u8; 16]
-    ensures { λ r. ⌜ r ≡ stores bytes (modeByteRule (now (sends .entry)) (now (nodes .entry)) (numberAt (now (modes .entry))) (now (senders .entry)) bytes (foundOf row)) 16 ⌝ }
+    ensures { λ r. ⌜ r ≡ stores bytes (modeByteRule (now (sends .entry)) (now (nodes .entry)) (numberAt (now (modes .entry))) (now (senders .entry)) bytes (placeIn row)) 16 ⌝ }
 {
     match row {
         Found::Nothing => bytes,
@@ -203,7 +203,7 @@ pub fn full_after<'a>(
     bus: &'a [bool; 32],
     runs: &'a [u32; 1024],
 ) -> bool
-    ensures { λ r. ⌜ r ≡ fullRule (now (bus .entry)) (now (runs .entry)) (numberAt (now (modes .entry))) (now (homes .entry)) (now (tasks .entry)) (now (deadlines .entry)) full (foundOf row) ⌝ }
+    ensures { λ r. ⌜ r ≡ fullRule (now (bus .entry)) (now (runs .entry)) (numberAt (now (modes .entry))) (now (homes .entry)) (now (tasks .entry)) (now (deadlines .entry)) full (placeIn row) ⌝ }
 {
     match row {
         Found::Nothing => full,
@@ -221,7 +221,7 @@ pub fn full_after<'a>(
 }
 
 pub fn load_after<'a>(load: u64, row: Found, tasks: &'a [u8; 256], out: &'a [u64; 32]) -> u64
-    ensures { λ r. ⌜ r ≡ loadRule (numberAt (now (out .entry))) (now (tasks .entry)) load (foundOf row) ⌝ }
+    ensures { λ r. ⌜ r ≡ loadRule (numberAt (now (out .entry))) (now (tasks .entry)) load (placeIn row) ⌝ }
 {
     match row {
         Found::Nothing => load,

@@ -16,8 +16,8 @@ use Rattle.stationruns.specs.Inputs.{resultAt, changeAt}
 use Rattle.stationruns.specs.Runs.{runAt, awaits, lastChance}
 use Rattle.stationruns.specs.declared.Given.{Given}
 use Rattle.stationruns.specs.declared.Change.{Change}
-use Rattle.stationjudge.specs.declared.Judged.{Judged}
-use Rattle.stationjudge.specs.declared.Judged.the-variants as judged
+use Rattle.answers.specs.declared.Verdict.{Verdict}
+use Rattle.answers.specs.declared.Verdict.the-variants as judged
 
 -- 41
 abbrev pub awaitedTest : List Given → ℕ → List ℕ → List ℕ → List ℕ → List ℕ → List Bool → List ℕ → ℕ → Bool
@@ -55,7 +55,3 @@ abbrev pub changesJudged : Res (Unit {0}) → List Change → ℕ → ℕ → Li
 changesJudged before changes modules modes homes switches running ages = do
   before
   at 44 0 (firstBad (allowedTest changes modules modes homes switches running ages) (upTo 16))
-
-abbrev pub judgedOf : Judged → Res (Unit {0})
-judgedOf judged.Fine = ok tt
-judgedOf (judged.Refused x) = said x

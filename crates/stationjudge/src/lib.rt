@@ -2,15 +2,18 @@
 ghost use mathlib.Core.Path.{_≡_};
 ghost use Prim.Native.Nat.{_<_};
 ghost use Rattle.laws.specs.Lists.{firstBad, upTo};
-ghost use Rattle.stationruns.specs.Inputs.{changeOf, foundOf};
-ghost use Rattle.stationjudge.specs.Judging.{allowedTest, allows, awaitedTest, changesJudged, fitsTest, inTimeTest, judgedOf, resultsJudged};
+ghost use Rattle.stationruns.specs.Inputs.{changeOf};
+ghost use Rattle.places.specs.Found.{placeIn};
+ghost use Rattle.stationjudge.specs.Judging.{allowedTest, allows, awaitedTest, changesJudged, fitsTest, inTimeTest, resultsJudged};
+ghost use Rattle.answers.specs.Refusals.{heard};
 use answers::Refusal;
+use answers::Verdict;
 use figures::both;
 use figures::divides;
+use places::Found;
 use places::byte_at;
 use places::number_at;
 use stationruns::Change;
-use stationruns::Found;
 use stationruns::Given;
 use stationruns::fits;
 use stationruns::is_awaited;
@@ -18,11 +21,6 @@ use stationruns::is_in_time;
 use stationruns::run_at;
 use units::ModuleNo;
 use units::TaskNo;
-
-pub enum Judged {
-    Fine,
-    Refused(Refusal),
-}
 
 // 41: the first task place with a result that is not awaited.
 pub fn not_awaited<'a>(
@@ -35,7 +33,7 @@ pub fn not_awaited<'a>(
     givens: &'a [bool; 32],
     worsts: &'a [u32; 32],
 ) -> Found
-    ensures { λ r. ⌜ foundOf r ≡ firstBad (awaitedTest results tasks (now (runs .entry)) (now (modes .entry)) (now (ages .entry)) (now (homes .entry)) (now (givens .entry)) (now (worsts .entry))) (upTo 32) ⌝ }
+    ensures { λ r. ⌜ placeIn r ≡ firstBad (awaitedTest results tasks (now (runs .entry)) (now (modes .entry)) (now (ages .entry)) (now (homes .entry)) (now (givens .entry)) (now (worsts .entry))) (upTo 32) ⌝ }
 {
     let mut t = 0;
     while t < 32 {
@@ -57,7 +55,7 @@ pub fn not_awaited<'a>(
 
 // 42: the first task place with a result that needs more bytes than the message has.
 pub fn too_large<'a>(results: [Given; 32], sizes: &'a [u8; 32]) -> Found
-    ensures { λ r. ⌜ foundOf r ≡ firstBad (fitsTest results (now (sizes .entry))) (upTo 32) ⌝ }
+    ensures { λ r. ⌜ placeIn r ≡ firstBad (fitsTest results (now (sizes .entry))) (upTo 32) ⌝ }
 {
     let mut t = 0;
     while t < 32 {
@@ -82,7 +80,7 @@ pub fn overdue<'a>(
     givens: &'a [bool; 32],
     worsts: &'a [u32; 32],
 ) -> Found
-    ensures { λ r. ⌜ foundOf r ≡ firstBad (inTimeTest results tasks (now (runs .entry)) (now (modes .entry)) (now (ages .entry)) (now (homes .entry)) (now (givens .entry)) (now (worsts .entry))) (upTo 32) ⌝ }
+    ensures { λ r. ⌜ placeIn r ≡ firstBad (inTimeTest results tasks (now (runs .entry)) (now (modes .entry)) (now (ages .entry)) (now (homes .entry)) (now (givens .entry)) (now (worsts .entry))) (upTo 32) ⌝ }
 {
     let mut t = 0;
     while t < 32 {
@@ -132,7 +130,7 @@ pub fn not_allowed<'a>(
     running: &'a [u8; 16],
     ages: &'a [u32; 16],
 ) -> Found
-    ensures { λ r. ⌜ foundOf r ≡ firstBad (allowedTest changes modules modes (now (homes .entry)) (now (switches .entry)) (now (running .entry)) (now (ages .entry))) (upTo 16) ⌝ }
+    ensures { λ r. ⌜ placeIn r ≡ firstBad (allowedTest changes modules modes (now (homes .entry)) (now (switches .entry)) (now (running .entry)) (now (ages .entry))) (upTo 16) ⌝ }
 {
     let mut m = 0;
     while m < 16 {
@@ -158,13 +156,13 @@ pub fn judged_results<'a>(
     givens: &'a [bool; 32],
     sizes: &'a [u8; 32],
     worsts: &'a [u32; 32],
-) -> Judged
-    ensures { λ r. ⌜ judgedOf r ≡ resultsJudged results tasks (now (runs .entry)) (now (modes .entry)) (now (ages .entry)) (now (homes .entry)) (now (givens .entry)) (now (sizes .entry)) (now (worsts .entry)) ⌝ }
+) -> Verdict
+    ensures { λ r. ⌜ heard r ≡ resultsJudged results tasks (now (runs .entry)) (now (modes .entry)) (now (ages .entry)) (now (homes .entry)) (now (givens .entry)) (now (sizes .entry)) (now (worsts .entry)) ⌝ }
 {
     match not_awaited(results, tasks, runs, modes, ages, homes, givens, worsts) {
-        Found::At(t) => Judged::Refused(Refusal::NotAwaited(TaskNo(t as u8))),
+        Found::At(t) => Verdict::Refused(Refusal::NotAwaited(TaskNo(t as u8))),
         Found::Nothing => match too_large(results, sizes) {
-            Found::At(t) => Judged::Refused(Refusal::ResultTooLarge(TaskNo(t as u8))),
+            Found::At(t) => Verdict::Refused(Refusal::ResultTooLarge(TaskNo(t as u8))),
             Found::Nothing => match overdue(
                 results,
                 tasks,
@@ -175,8 +173,8 @@ pub fn judged_results<'a>(
                 givens,
                 worsts,
             ) {
-                Found::At(t) => Judged::Refused(Refusal::ResultOverdue(TaskNo(t as u8))),
-                Found::Nothing => Judged::Fine,
+                Found::At(t) => Verdict::Refused(Refusal::ResultOverdue(TaskNo(t as u8))),
+                Found::Nothing => Verdict::Passed,
             },
         },
     }
@@ -184,7 +182,7 @@ pub fn judged_results<'a>(
 
 // 44, where nothing was refused before.
 pub fn judged_changes<'a>(
-    before: Judged,
+    before: Verdict,
     changes: [Change; 16],
     modules: u8,
     modes: u8,
@@ -192,14 +190,22 @@ pub fn judged_changes<'a>(
     switches: &'a [u32; 32],
     running: &'a [u8; 16],
     ages: &'a [u32; 16],
-) -> Judged
-    ensures { λ r. ⌜ judgedOf r ≡ changesJudged (judgedOf before) changes modules modes (now (homes .entry)) (now (switches .entry)) (now (running .entry)) (now (ages .entry)) ⌝ }
+) -> Verdict
+    ensures { λ r. ⌜ heard r ≡ changesJudged (heard before) changes modules modes (now (homes .entry)) (now (switches .entry)) (now (running .entry)) (now (ages .entry)) ⌝ }
 {
     match before {
-        Judged::Refused(x) => Judged::Refused(x),
-        Judged::Fine => match not_allowed(changes, modules, modes, homes, switches, running, ages) {
-            Found::At(m) => Judged::Refused(Refusal::ChangeNotAllowed(ModuleNo(m as u8))),
-            Found::Nothing => Judged::Fine,
+        Verdict::Refused(x) => Verdict::Refused(x),
+        Verdict::Passed => match not_allowed(
+            changes,
+            modules,
+            modes,
+            homes,
+            switches,
+            running,
+            ages,
+        ) {
+            Found::At(m) => Verdict::Refused(Refusal::ChangeNotAllowed(ModuleNo(m as u8))),
+            Found::Nothing => Verdict::Passed,
         },
     }
 }

@@ -3,10 +3,11 @@ ghost use mathlib.Core.Path.{_≡_};
 ghost use Prim.Native.Nat.{ℕ, _<_};
 ghost use lib.ListN.{getD};
 ghost use Rattle.laws.specs.Loops.{stores};
-ghost use Rattle.stationruns.specs.Inputs.{foundOf};
+ghost use Rattle.places.specs.Found.{placeIn};
 ghost use Rattle.stationmoves.specs.Moving.{Reads, heldNow, controlAt, dataAt, landingBy, movedBy, playBy, saidBy};
 use answers::Refusal;
 use figures::rest;
+use places::Found;
 use places::byte_at;
 use places::number_at;
 use stationbus::bytes_after;
@@ -22,7 +23,6 @@ use stationrefusals::Modules;
 use stationrefusals::Play;
 use stationrefusals::Tasks;
 use stationruns::Change;
-use stationruns::Found;
 use stationruns::Given;
 use stationsteps::ages_after;
 use stationsteps::givens_after;
@@ -96,7 +96,7 @@ fn started<'a>(
     starts: &'a [u32; 256],
     stops: &'a [u32; 256],
 ) -> Said
-    ensures { λ r. ⌜ r ≡ saidBy controls (now (carries .entry)) (now (deadlines .entry)) (now (starts .entry)) (now (stops .entry)) (foundOf control) (foundOf message) ⌝ }
+    ensures { λ r. ⌜ r ≡ saidBy controls (now (carries .entry)) (now (deadlines .entry)) (now (starts .entry)) (now (stops .entry)) (placeIn control) (placeIn message) ⌝ }
 {
     match control {
         Found::At(r) => Said::Control(control_row(controls, r)),
@@ -141,7 +141,7 @@ fn played<'a>(
     carries: &'a [u8; 256],
     deadlines: &'a [u32; 256],
 ) -> Play
-    ensures { λ r. ⌜ r ≡ playBy results changes modules modes tasks controls play period (foundOf control) (foundOf message) (now (ends .entry)) (now (runs .entry)) (now (carries .entry)) (now (deadlines .entry)) ⌝ }
+    ensures { λ r. ⌜ r ≡ playBy results changes modules modes tasks controls play period (placeIn control) (placeIn message) (now (ends .entry)) (now (runs .entry)) (now (carries .entry)) (now (deadlines .entry)) ⌝ }
     ensures reads { λ r. ⌜ Reads results modules controls play r ⌝ }
 {
     let old_out = play.out;

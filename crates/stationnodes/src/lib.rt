@@ -5,15 +5,15 @@ ghost use lib.ListN.{getD, set};
 ghost use Prim.Native.Nat.{_<_};
 ghost use Rattle.laws.specs.Loops.{stores};
 ghost use Rattle.laws.specs.Lists.{all, upTo};
-ghost use Rattle.stationruns.specs.Inputs.{foundOf};
+ghost use Rattle.places.specs.Found.{placeIn};
 ghost use Rattle.stationbus.specs.Bus.{numberAt};
 ghost use Rattle.stationnodes.specs.Nodes.{isLanding, landedRule, landingOf, noNode, nodeAt, nodeRule, quietAt, shownAt, shownRule, zeroNode};
 use figures::both;
+use places::Found;
 use places::byte_at;
 use places::flag_at;
 use places::value_at;
 use stationbus::has_message;
-use stationruns::Found;
 
 #[repr(C)]
 pub struct Node {
@@ -51,7 +51,7 @@ pub fn lands<'a>(
     homes: &'a [u8; 32],
     nodes: &'a [u8; 16],
 ) -> Landing
-    ensures { λ r. ⌜ r ≡ landingOf (now (tasks .entry)) (now (homes .entry)) (now (nodes .entry)) full load (foundOf row) ⌝ }
+    ensures { λ r. ⌜ r ≡ landingOf (now (tasks .entry)) (now (homes .entry)) (now (nodes .entry)) full load (placeIn row) ⌝ }
 {
     match row {
         Found::Nothing => Landing::Nothing,

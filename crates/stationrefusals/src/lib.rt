@@ -2,11 +2,11 @@
 ghost use mathlib.Core.Path.{_≡_};
 ghost use Prim.Native.Nat.{_<_};
 ghost use Rattle.laws.specs.Lists.{all, upTo};
-ghost use Rattle.stationjudge.specs.Judging.{judgedOf};
+ghost use Rattle.answers.specs.Refusals.{heard};
 ghost use Rattle.stationrefusals.specs.Refusing.{judgedBy, keptTest, heldTest, refusedBy, stateTest};
 use answers::Refusal;
+use answers::Verdict;
 use figures::both;
-use stationjudge::Judged;
 use stationjudge::judged_changes;
 use stationjudge::judged_results;
 use stationruns::Change;
@@ -157,8 +157,8 @@ fn judged<'a>(
     tasks: Tasks,
     play: Play,
     runs: &'a [u32; 1024],
-) -> Judged
-    ensures { λ r. ⌜ judgedOf r ≡ judgedBy results changes modules modes tasks play (now (runs .entry)) ⌝ }
+) -> Verdict
+    ensures { λ r. ⌜ heard r ≡ judgedBy results changes modules modes tasks play (now (runs .entry)) ⌝ }
 {
     let before = judged_results(
         results,
@@ -199,8 +199,8 @@ pub fn refused<'a>(
     deadlines: &'a [u32; 256],
     starts: &'a [u32; 256],
     stops: &'a [u32; 256],
-) -> Judged
-    ensures { λ r. ⌜ judgedOf r ≡ refusedBy results changes modules modes tasks controls datas period play (now (runs .entry)) (now (carries .entry)) (now (deadlines .entry)) (now (starts .entry)) (now (stops .entry)) ⌝ }
+) -> Verdict
+    ensures { λ r. ⌜ heard r ≡ refusedBy results changes modules modes tasks controls datas period play (now (runs .entry)) (now (carries .entry)) (now (deadlines .entry)) (now (starts .entry)) (now (stops .entry)) ⌝ }
 {
     let kept = kept_in_range(
         modules,
@@ -218,6 +218,6 @@ pub fn refused<'a>(
     if both(kept, state_in_range(modules, modes, period, play)) {
         judged(results, changes, modules, modes, tasks, play, runs)
     } else {
-        Judged::Refused(Refusal::NotBegun(ModuleNo(0)))
+        Verdict::Refused(Refusal::NotBegun(ModuleNo(0)))
     }
 }

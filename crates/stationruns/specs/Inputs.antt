@@ -8,8 +8,6 @@ use Rattle.stationruns.specs.declared.Given.{Given}
 use Rattle.stationruns.specs.declared.Given.the-variants as given
 use Rattle.stationruns.specs.declared.Change.{Change}
 use Rattle.stationruns.specs.declared.Change.the-variants as change
-use Rattle.stationruns.specs.declared.Found.{Found}
-use Rattle.stationruns.specs.declared.Found.the-variants as found
 
 -- "nothing or one 64-bit unsigned result"
 abbrev pub resultOf : Given → Option ℕ
@@ -30,8 +28,3 @@ changeAt changes m = changeOf (getD changes m change.Nothing)
 
 unfoldable pub inputOf : List Given → List Change → Input
 inputOf results changes = record { result = resultAt results; change = changeAt changes }
-
--- where a scan stopped
-abbrev pub foundOf : Found → Option ℕ
-foundOf found.Nothing = none
-foundOf (found.At k) = some k

@@ -27,12 +27,6 @@ pub enum Change {
     To(ModeNo),
 }
 
-// Where a scan stopped.
-pub enum Found {
-    Nothing,
-    At(usize),
-}
-
 // A task's run: the period of its invocation in the mode that runs, 0 where there is none, and the time since that mode began.
 pub struct Run {
     pub period: Ticks,

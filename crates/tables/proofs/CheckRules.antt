@@ -13,7 +13,7 @@ use Rattle.rules.specs.Plan.{readPlan}
 use Rattle.rules.specs.Frames.{layout}
 use Rattle.rules.specs.Table.{FrameRow}
 use Rattle.rules.specs.Checker.{Passed, tableOf, judged, passed, checkedRow, check}
-use Rattle.framerows.specs.declared.Frame.{Frame}
+use Rattle.units.specs.declared.Frame.{Frame}
 use Rattle.framerows.specs.Frames.{rowOf, filled}
 use Rattle.framerows.proofs.Laid.{filled-is}
 use Rattle.checked.specs.declared.Checked.{Checked}

@@ -31,9 +31,9 @@ use denote.Triple.Clauses.{ensured, lasts}
 use Rattle.rows.specs.declared.Rows.{Rows}
 use Rattle.rows.proofs.Rows as R
 use Rattle.rows.proofs.Rows.Laws as R′
-use Rattle.framerows.specs.declared.Frame.{Frame}
+use Rattle.units.specs.declared.Frame.{Frame}
 use Rattle.framerows.specs.Frames.{filled}
-use Rattle.framerows.proofs.Frame as F
+use Rattle.units.proofs.Frame as F
 use Rattle.framerows.proofs.fill as fill
 use Rattle.framerows.proofs.fill.Symbol.{name as #fill}
 

@@ -7,12 +7,13 @@ use lib.Dec.{leb, lit≤}
 use lib.ListN.{length, length-map}
 use Prim.Native.Nat.{ℕ, suc, _≤_, _<_}
 use Rattle.laws.specs.Res.{Res, ok, refuse, _>>_, unless}
-use Rattle.rules.specs.Frames.{Layout, mostFrames}
+use Rattle.rules.specs.Limits.{mostFrames}
+use Rattle.rules.specs.Frames.{Layout}
 use Rattle.rules.specs.Frames as rules
 use Rattle.rules.specs.LatestRelease.{Placed}
 use Rattle.rules.specs.Table.{FrameRow, rowsFrom, rowsThenZero, MadeTable, madeTable, tableFor, make}
 use Rattle.rules.proofs.MadePasses.{table-made}
-use Rattle.framerows.specs.declared.Frame.{Frame}
+use Rattle.units.specs.declared.Frame.{Frame}
 use Rattle.framerows.specs.Frames.{rowOf, filled}
 use Rattle.framerows.proofs.Laid.{filled-is}
 use Rattle.linetable.specs.declared.Making.{Making}
@@ -51,11 +52,9 @@ few-made plan lent room = by-test (leb mostFrames lent)
 
 module _ (plan : List ℕ) (rows : List FrameRow) (buffer : List ℕ) where
   enough-rows : 256 ≤ length rows → make plan rows buffer .rows ≡ rowsThenZero (rowsOf (ruling plan rows buffer)) (length rows)
-  unfolding mostFrames
   enough-rows h = rw (le-leb 256 (length rows) h) at (make-rows plan rows buffer)
 
   short-rows : length rows < 256 → make plan rows buffer .rows ≡ rows
-  unfolding mostFrames
   short-rows h = rw (lt-leb 256 (length rows) h) at (make-rows plan rows buffer)
 
 pub makes-lent : (plan : List ℕ) (ys zs : List Frame) (before after : List ℕ) (m : Making) → zs ≡ filled (m .rows) ys → Makes m before after (lentFor plan (length ys) (length before))

@@ -2,11 +2,11 @@
 use mathlib.Core.Path.{_≡_, sym, _∙_}
 use mathlib.Core.List.{List}
 use Prim.Native.Nat.{ℕ}
-use Rattle.framerows.specs.declared.Frame.{Frame}
+use Rattle.units.specs.declared.Frame.{Frame}
 use Rattle.framerows.proofs.Laid.{rows-once}
-use Rattle.linetable.specs.declared.Answer.{Answer as MakerAnswer}
+use Rattle.linetable.specs.declared.Answer.{Verdict as MakerAnswer}
 use Rattle.linetable.proofs.Unique as made
-use Rattle.checked.specs.declared.Answer.{Answer as CheckerAnswer}
+use Rattle.answers.specs.declared.Verdict.{Verdict}
 use Rattle.checked.proofs.Unique as checked
 use Rattle.tables.specs.Lent.{MakesLent, ChecksLent}
 
@@ -18,7 +18,7 @@ make-once a b plan before rows rows′ old buffer buffer′ p q = (
   p .written ∙ sym (q .written),
 )
 
-pub check-once : (a b : CheckerAnswer) (plan table : List ℕ) (before rows rows′ : List Frame)
+pub check-once : (a b : Verdict) (plan table : List ℕ) (before rows rows′ : List Frame)
     → ChecksLent a plan table before rows → ChecksLent b plan table before rows′ → (a ≡ b) × (rows ≡ rows′)
 check-once a b plan table before rows rows′ p q =
     (checked.heard-once a b (p .answered ∙ sym (q .answered)), rows-once rows rows′ (p .left ∙ sym (q .left)))

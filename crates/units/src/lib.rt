@@ -10,12 +10,6 @@ impl Ticks {
     // Mode periods, switch periods and worst times go up to this.
     pub const LONGEST: u32 = 1_000_000;
 
-    pub fn zero() -> Ticks
-        ensures { λ r. ⌜ r .0 ≡ 0 ⌝ }
-    {
-        Ticks(0)
-    }
-
     pub fn longest() -> Ticks
         ensures { λ r. ⌜ r .0 ≡ 1000000 ⌝ }
     {
@@ -123,3 +117,28 @@ pub struct FrameNo(pub usize);
 
 // A place in a file, in bytes from its front.
 pub struct Offset(pub usize);
+
+// A frame as the caller lends it a row: its task, release and deadline, and the start that a table gives it.
+#[repr(C)]
+pub struct Frame {
+    pub task: TaskNo,
+    pub release: Ticks,
+    pub deadline: Ticks,
+    pub start: Ticks,
+}
+
+impl Frame {
+    // Refusals 9 and 19: a plan has at most this many frames, and as many rows are lent.
+    pub const MOST: usize = 256;
+
+    pub fn zero() -> Frame
+        ensures { λ r. ⌜ r ≡ record { task = record { 0 = 0 }; release = record { 0 = 0 }; deadline = record { 0 = 0 }; start = record { 0 = 0 } } ⌝ }
+    {
+        Frame {
+            task: TaskNo(0),
+            release: Ticks(0),
+            deadline: Ticks(0),
+            start: Ticks(0),
+        }
+    }
+}

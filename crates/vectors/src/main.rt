@@ -5,6 +5,7 @@
 ghost use Prim.Native.Nat.{_<_, _≤_};
 ghost use mathlib.Core.Path.{_≡_};
 ghost use lib.ListN.{length};
+use answers::Verdict;
 use input::Input;
 use lines::say;
 use lines::say_left;
@@ -59,8 +60,8 @@ fn read(plan: &[u8]) {
     let reading = planrules::read(plan);
     let answer = reading.answer;
     match answer {
-        planrules::Answer::Sound => say(b"sound"),
-        planrules::Answer::Refused(why) => say_refusal(why),
+        Verdict::Passed => say(b"sound"),
+        Verdict::Refused(why) => say_refusal(why),
     }
 }
 
@@ -95,8 +96,8 @@ fn check(plan: &[u8], table: &[u8], lent: usize) {
     let checked = checker::check(plan, table, lent);
     let answer = checked.answer;
     match answer {
-        checked::Answer::Passed => say(b"passed rows"),
-        checked::Answer::Refused(why) => say_refusal(why),
+        Verdict::Passed => say(b"passed rows"),
+        Verdict::Refused(why) => say_refusal(why),
     }
     let rows = checked.rows;
     say_rows(rows);

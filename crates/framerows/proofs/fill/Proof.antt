@@ -50,9 +50,9 @@ use Rattle.laws.proofs.Loops.{stores-turn, length-stores}
 use Rattle.rows.specs.declared.Rows.{Rows}
 use Rattle.rows.proofs.Rows as R
 use Rattle.rows.proofs.Rows.Laws as R′
-use Rattle.framerows.specs.declared.Frame.{Frame}
+use Rattle.units.specs.declared.Frame.{Frame}
 use Rattle.framerows.specs.Frames.{zeroFrame, withinPlaces, frameIn, frameTable, endIn, filled}
-use Rattle.framerows.proofs.Frame.Laws as T′
+use Rattle.units.proofs.Frame.Laws as T′
 use Rattle.framerows.proofs.Lent.{Row, vals, tells, offset-fits, typed, elem-store, second}
 use Rattle.framerows.proofs.Two.{typed-array, elem-known-2, elem-look-2, array-opens, array-shuts}
 use Rattle.framerows.proofs.Calls.{Plain, calls-plain}

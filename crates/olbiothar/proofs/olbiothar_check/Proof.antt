@@ -37,14 +37,14 @@ use denote.Triple.Clauses.{ensured, lasts}
 use denote.Triple.Table.{entered, cited}
 use denote.Triple.Walked.{says, Stays, stay-dropped, gave-slice, walkOf, goes-dropped, goes-gave-slice, ends-at, walked, walk-meets}
 use denote.Exit.{yes}
-use Rattle.framerows.specs.declared.Frame.{Frame}
-use Rattle.framerows.proofs.Frame as F
+use Rattle.units.specs.declared.Frame.{Frame}
+use Rattle.units.proofs.Frame as F
 use Rattle.framerows.proofs.Calls.{Plain, calls-plain}
 use Rattle.outward.specs.declared.Answer.{Answer}
 use Rattle.outward.proofs.Answer as T
 use Rattle.outward.proofs.Answer.Laws as T′
-use Rattle.checked.specs.declared.Answer.{Answer as Inner}
-use Rattle.checked.specs.Checking.{heard as heardIn}
+use Rattle.answers.specs.declared.Verdict.{Verdict}
+use Rattle.answers.specs.Refusals.{heard as heardIn}
 use Rattle.checked.proofs.Answer as B
 use Rattle.checked.proofs.Answer.Laws as B′
 use Rattle.tables.specs.Lent.{ChecksLent}
@@ -53,9 +53,9 @@ use Rattle.tables.proofs.check.Symbol as inner-def
 use Rattle.tables.proofs.check.Symbol.{name as #inner}
 use Rattle.tables.proofs.check.Met as inner-thm
 use Rattle.outward.specs.Answers.{answerOf}
-use Rattle.outward.proofs.checked.Symbol as told-def
-use Rattle.outward.proofs.checked.Symbol.{name as #told}
-use Rattle.outward.proofs.checked.Met as told-thm
+use Rattle.outward.proofs.judged.Symbol as told-def
+use Rattle.outward.proofs.judged.Symbol.{name as #told}
+use Rattle.outward.proofs.judged.Met as told-thm
 use Rattle.olbiothar.proofs.olbiothar_check.Key.{name as #fn}
 use Rattle.olbiothar.proofs.olbiothar_check as fn
 use Rattle.olbiothar.proofs.olbiothar_check.Statement as stated
@@ -70,17 +70,17 @@ Table = SliceRefOf (1 ∷ []) tt (plain (λ κs. u8)) (λ κs. tt)
 abbrev stayed : Stays (fn.ended .signature .params) (fn.ended .kept)
 stayed = (stay-dropped Plan yes, (stay-dropped Table yes, (gave-slice (2 ∷ []) tt (plain (λ _. F.the-row)), tt)))
 
-abbrev Says : List ℕ → List ℕ → List Frame → List Frame → Inner → Type 0
+abbrev Says : List ℕ → List ℕ → List Frame → List Frame → Verdict → Type 0
 Says plan table rows rows′ a = ChecksLent a plan table rows rows′
 
-abbrev ToldSays : Inner → Answer → Type 0
+abbrev ToldSays : Verdict → Answer → Type 0
 ToldSays a r = r ≡ answerOf (heardIn a)
 
 module _ {M : Type 1} (𝓤 : URA M) (H : Heap 𝓤) (A : Atoms 𝓤) (W : Given 𝓤 H A) (mem : Memory → SProp 𝓤) (run : Routine → Fun 𝓤) where
   abbrev InnerMet : Contract 𝓤
   InnerMet = tripleOf 𝓤 H A inner.signature (inner.spec 𝓤 H A mem run)
 
-  typedB : (a : Inner) {v : Val} → Is B.the-row a (v ∷ []) → Holds (hasTy B′.mir v) × WT v
+  typedB : (a : Verdict) {v : Val} → Is B.the-row a (v ∷ []) → Holds (hasTy B′.mir v) × WT v
   typedB a is = EL.lawful B.the-type B′.the-laws 𝓤 H A W tt .typed a _ is .0
 
   typedT : (r : Answer) {v : Val} → Is T.the-row r (v ∷ []) → Holds (hasTy T′.mir v) × WT v
@@ -123,7 +123,7 @@ module _ {M : Type 1} (𝓤 : URA M) (H : Heap 𝓤) (A : Atoms 𝓤) (W : Given
     abbrev Had : List Frame → List (Item 𝓤)
     Had zs = Tokens ∷ ‵ (finally F.the-row (rows .name) zs) ∷ []
 
-    exits : (a : Inner) (r : Answer) (v : Val) (zs : List Frame) → Is T.the-row r (v ∷ []) → length zs ≡ length (rows .now)
+    exits : (a : Verdict) (r : Answer) (v : Val) (zs : List Frame) → Is T.the-row r (v ∷ []) → length zs ≡ length (rows .now)
         → Says (plan .now) (table .now) (rows .now) zs a → r ≡ answerOf (heardIn a) → ent 𝓤 (⋆ 𝓤 H A (Had zs)) (Post v)
     exits a r v zs is lr e told =
         qed W (Had zs) ∵
@@ -141,7 +141,7 @@ module _ {M : Type 1} (𝓤 : URA M) (H : Heap 𝓤) (A : Atoms 𝓤) (W : Given
         assigns ! (agg ! (and-then ! (load ! (from ! (stop !)) (look ! 2 refl)) (and-then ! (load ! (from ! (fld ! refl (stop !))) (look-in ! 6 (sub ! 1 refl (whole !)))) (no-more !)))) (from ! (stop !)) (init ! 0 refl (tt, (tt, (record { fits = gr .0 }, tt)))) $
         move ! (14 ∷ []) $ use1 W (raw (InnerMet .pre to-inner)) asked $
         calls-at ! fm InnerMet known-inner to-inner (and-then ! (load ! (from ! (stop !)) (look ! 11 refl)) (and-then ! (load ! (from ! (stop !)) (look ! 9 refl)) (and-then ! (load ! (from ! (stop !)) (look ! 1 refl)) (no-more !)))) (λ v.
-        use1 W (later (some (λ (a : Inner). (Tokens ⊛ ‵ (B.the-row .own a (v ∷ []))) ⊛ raw (ensured 𝓤 H A inner.ended (inner.clauses 𝓤 H A mem run) κs x tt a)))) (id⊢ 𝓤 _) $ await ! tt $ pick ! (λ a.
+        use1 W (later (some (λ (a : Verdict). (Tokens ⊛ ‵ (B.the-row .own a (v ∷ []))) ⊛ raw (ensured 𝓤 H A inner.ended (inner.clauses 𝓤 H A mem run) κs x tt a)))) (id⊢ 𝓤 _) $ await ! tt $ pick ! (λ a.
         split ! $ move ! (1 ∷ []) $ use1 W (some (λ (ws : Unit {0} × (Unit {0} × (List Frame × Unit {0}))). ‵ (lasts inner.ended κs x ws) ⊛ raw (fact 𝓤 (Says (plan .now) (table .now) (rows .now) (ws .1 .1 .0) a)))) (id⊢ 𝓤 _) $ pick ! (λ ws.
         split ! $ move ! (1 ∷ []) $ heard ! (Says (plan .now) (table .now) (rows .now) (ws .1 .1 .0) a) (λ e.
         fsplit ! $ move ! (1 ∷ []) $ fsplit ! $ move ! (1 ∷ []) $ fsplit ! $ fsplit ! $ move ! (1 ∷ []) $ feqL ! (λ lr.

@@ -37,14 +37,14 @@ use denote.Triple.Clauses.{ensured, lasts}
 use denote.Triple.Table.{entered, cited}
 use denote.Triple.Walked.{says, Stays, stay-dropped, gave-slice, walkOf, goes-dropped, goes-gave-slice, ends-at, walked, walk-meets}
 use denote.Exit.{yes}
-use Rattle.framerows.specs.declared.Frame.{Frame}
-use Rattle.framerows.proofs.Frame as F
+use Rattle.units.specs.declared.Frame.{Frame}
+use Rattle.units.proofs.Frame as F
 use Rattle.framerows.proofs.Calls.{Plain, calls-plain}
 use Rattle.outward.specs.declared.Answer.{Answer}
 use Rattle.outward.proofs.Answer as T
 use Rattle.outward.proofs.Answer.Laws as T′
 use Rattle.linetable.specs.declared.Answer.{Answer as Inner}
-use Rattle.linetable.specs.Making.{heard as heardIn}
+use Rattle.linetable.specs.Making.{heardMade as heardIn}
 use Rattle.linetable.proofs.Answer as B
 use Rattle.linetable.proofs.Answer.Laws as B′
 use Rattle.tables.specs.Lent.{MakesLent}

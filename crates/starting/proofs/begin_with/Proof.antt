@@ -3,7 +3,7 @@ use mathlib.Core.Path.{sym, ap, _∙_}
 use native.Mathlib.Omega.{arith}
 use Prim.Native.Nat.{_<_}
 use Rattle.laws.proofs.Loops.{firstBad-upTo-within}
-use Rattle.stationruns.specs.Inputs.{foundOf}
+use Rattle.places.specs.Found.{placeIn}
 use Rattle.starting.specs.Starting.{startTest, wrongStart, begunAt, begunBy}
 use borrow.Author.Needs.{needs}
 use Rattle.starting.proofs.begin_with.Statement.{statement}
@@ -14,7 +14,7 @@ cast-t9 c =
     let c1 = c .before .before .before in
     let a = c1 .before .before .before .before .args in
     let w : _ < 16 = firstBad-upTo-within (startTest (a .starting) (a .kept .modules .count) (a .kept .modes .count)
-    (a .kept .modes .homes)) 16 _ (sym (c1 .wrong-start .ensures) ∙ ap foundOf (c .before .m .given .1)) in
+    (a .kept .modes .homes)) 16 _ (sym (c1 .wrong-start .ensures) ∙ ap placeIn (c .before .m .given .1)) in
     omega arith
 
 returns : tie.Need-returns
@@ -23,7 +23,7 @@ returns c =
     let c1 = c .before .before .before .before in
     let a = c1 .before .before .before .before .args in
     c .refused .ensures ∙ ap (begunAt (a .kept) (a .starting))
-    (sym (ap foundOf (c .before .before .m .given .1)) ∙ c1 .wrong-start .ensures)
+    (sym (ap placeIn (c .before .before .m .given .1)) ∙ c1 .wrong-start .ensures)
 
 returns-2 : tie.Need-returns-2
 unfolding begunBy wrongStart
@@ -31,7 +31,7 @@ returns-2 c =
     let c1 = c .before .before .before in
     let a = c1 .before .before .before .before .args in
     rw (c .started .ensures) (ap (begunAt (a .kept) (a .starting))
-    (sym (ap foundOf (c .before .enum-told .given .1)) ∙ c1 .wrong-start .ensures))
+    (sym (ap placeIn (c .before .enum-told .given .1)) ∙ c1 .wrong-start .ensures))
 
 pub begin-with-spec : {M : Type 1} → statement M
 begin-with-spec =

@@ -2,7 +2,7 @@
 use mathlib.Core.Path.{_∙_}
 use denote.Ref.{now}
 use Rattle.laws.proofs.Stores.{stores-idle}
-use Rattle.stationruns.specs.Inputs.{foundOf}
+use Rattle.places.specs.Found.{placeIn}
 use Rattle.stationbus.specs.Bus.{modeByteRule, numberAt}
 use borrow.Author.Needs.{needs}
 use Rattle.stationbus.proofs.bytes_after.Statement.{statement}
@@ -12,7 +12,7 @@ returns : tie.Need-returns
 returns c =
     let a = c .before .before .args in
     stores-idle (a .bytes) (modeByteRule (now (a .sends)) (now (a .nodes)) (numberAt (now (a .modes))) (now (a .senders))
-    (a .bytes) (foundOf (a .row))) 16 0 (λ k w. rw (c .enum-told .given .1))
+    (a .bytes) (placeIn (a .row))) 16 0 (λ k w. rw (c .enum-told .given .1))
 
 returns-2 : tie.Need-returns-2
 returns-2 c = rw (c .before .before .before .before .row .given .1) (c .bytes-from .ensures ∙ rw (c .before .byte-at .ensures .0))

@@ -4,7 +4,7 @@ use lib.ListN.{length}
 use denote.Ref.{now}
 use Rattle.laws.specs.Loops.{stores}
 use Rattle.laws.proofs.Stores.{stores-idle, stores-within}
-use Rattle.stationruns.specs.Inputs.{foundOf}
+use Rattle.places.specs.Found.{placeIn}
 use Rattle.stationbus.specs.Bus.{heldAt, heldRule}
 use borrow.Author.Needs.{needs}
 use Rattle.stationbus.proofs.held_after.Statement.{statement}
@@ -15,12 +15,12 @@ returns c =
     let a = c .before .before .args in
     let size : length (a .held) ≡ 128 = search needs in
     let e : a .held ≡ stores (a .held) (heldRule (now (a .sends)) (now (a .nodes)) (now (a .bytes)) (now (a .senders)) (a .held)
-    (foundOf (a .row))) 128 = stores-idle (a .held)
-    (heldRule (now (a .sends)) (now (a .nodes)) (now (a .bytes)) (now (a .senders)) (a .held) (foundOf (a .row))) 128 0
+    (placeIn (a .row))) 128 = stores-idle (a .held)
+    (heldRule (now (a .sends)) (now (a .nodes)) (now (a .bytes)) (now (a .senders)) (a .held) (placeIn (a .row))) 128 0
     (λ k w. rw (c .enum-told .given .1)) in (
       e,
       stores-within (a .held) (heldRule (now (a .sends)) (now (a .nodes)) (now (a .bytes)) (now (a .senders)) (a .held)
-          (foundOf (a .row))) 128 0 size e,
+          (placeIn (a .row))) 128 0 size e,
     )
 
 returns-2 : tie.Need-returns-2
@@ -29,14 +29,14 @@ returns-2 c =
     let a = c1 .before .before .args in
     let size : length (a .held) ≡ 128 = search needs in
     let e : c .held-from .result ≡ stores (a .held)
-    (heldRule (now (a .sends)) (now (a .nodes)) (now (a .bytes)) (now (a .senders)) (a .held) (foundOf (a .row))) 128 =
+    (heldRule (now (a .sends)) (now (a .nodes)) (now (a .bytes)) (now (a .senders)) (a .held) (placeIn (a .row))) 128 =
     c .held-from .ensures ∙ ap (λ s. stores (a .held) (heldAt (now (a .sends)) (now (a .nodes)) (now (a .bytes)) s (a .held))
     128) (c .before .byte-at .ensures .0) ∙ ap
     (λ o. stores (a .held) (heldRule (now (a .sends)) (now (a .nodes)) (now (a .bytes)) (now (a .senders)) (a .held) o) 128)
-    (sym (ap foundOf (c1 .row .given .1))) in (
+    (sym (ap placeIn (c1 .row .given .1))) in (
       e,
       stores-within (a .held) (heldRule (now (a .sends)) (now (a .nodes)) (now (a .bytes)) (now (a .senders)) (a .held)
-          (foundOf (a .row))) 128 0 size e,
+          (placeIn (a .row))) 128 0 size e,
     )
 
 pub held-after-spec : {M : Type 1} → statement M

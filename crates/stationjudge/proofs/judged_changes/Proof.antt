@@ -5,7 +5,7 @@ use native.Mathlib.Nat.{zero-add}
 use denote.Ref.{now}
 use Prim.Native.Nat.{_<_}
 use Rattle.laws.proofs.Loops.{firstBad-upTo-within}
-use Rattle.stationruns.specs.Inputs.{foundOf}
+use Rattle.places.specs.Found.{placeIn}
 use Rattle.stationjudge.specs.Judging.{allowedTest}
 use borrow.Author.Needs.{needs}
 use Rattle.stationjudge.proofs.judged_changes.Statement.{statement}
@@ -16,7 +16,7 @@ cast-t14 c =
     let c1 = c .before .before .before in
     let a = c1 .before .before .before .args in
     let w : _ < 16 = firstBad-upTo-within (allowedTest (a .changes) (a .modules) (a .modes) (now (a .homes)) (now (a .switches))
-    (now (a .running)) (now (a .ages))) 16 _ (sym (c1 .not-allowed .ensures) ∙ ap foundOf (c .before .m .given .1)) in
+    (now (a .running)) (now (a .ages))) 16 _ (sym (c1 .not-allowed .ensures) ∙ ap placeIn (c .before .m .given .1)) in
     omega arith
 
 returns : tie.Need-returns

@@ -5,7 +5,7 @@ use native.Mathlib.Nat.{zero-add}
 use denote.Ref.{now}
 use Prim.Native.Nat.{_<_}
 use Rattle.laws.proofs.Loops.{firstBad-upTo-within}
-use Rattle.stationruns.specs.Inputs.{foundOf}
+use Rattle.places.specs.Found.{placeIn}
 use Rattle.stationjudge.specs.Judging.{awaitedTest, fitsTest, inTimeTest}
 use borrow.Author.Needs.{needs}
 use Rattle.stationjudge.proofs.judged_results.Statement.{statement}
@@ -17,7 +17,7 @@ cast-t15 c =
     let a = c1 .before .args in
     let w : _ < 32 = firstBad-upTo-within (awaitedTest (a .results) (a .tasks) (now (a .runs)) (now (a .modes)) (now (a .ages))
     (now (a .homes)) (now (a .givens)) (now (a .worsts))) 32 _
-    (sym (c1 .not-awaited .ensures) ∙ ap foundOf (c .before .t .given .1)) in
+    (sym (c1 .not-awaited .ensures) ∙ ap placeIn (c .before .t .given .1)) in
     omega arith
 
 cast-t20 : tie.Need-cast-t20
@@ -25,7 +25,7 @@ cast-t20 c =
     let c1 = c .before .before .before in
     let a = c1 .before .before .before .before .args in
     let w : _ < 32 = firstBad-upTo-within (fitsTest (a .results) (now (a .sizes))) 32 _
-    (sym (c1 .too-large .ensures) ∙ ap foundOf (c .before .t2 .given .1)) in
+    (sym (c1 .too-large .ensures) ∙ ap placeIn (c .before .t2 .given .1)) in
     omega arith
 
 cast-t25 : tie.Need-cast-t25
@@ -35,7 +35,7 @@ cast-t25 c =
     let a = start .args in
     let w : _ < 32 = firstBad-upTo-within (inTimeTest (a .results) (a .tasks) (now (a .runs)) (now (a .modes)) (now (a .ages))
     (now (a .homes)) (now (a .givens)) (now (a .worsts))) 32 _
-    (sym (c1 .overdue .ensures) ∙ ap foundOf (c .before .t3 .given .1)) in
+    (sym (c1 .overdue .ensures) ∙ ap placeIn (c .before .t3 .given .1)) in
     omega arith
 
 returns : tie.Need-returns

@@ -1,7 +1,7 @@
 -- Each part is its step's promise (`play-made`); the frames take the modes and out-boxes after the tick (`bytes-same`).
 use mathlib.Core.Path.{_∙_}
 use denote.Ref.{now}
-use Rattle.stationruns.specs.Inputs.{foundOf}
+use Rattle.places.specs.Found.{placeIn}
 use Rattle.stationsteps.specs.Steps.{modeRule, outRule}
 use Rattle.stationmoves.specs.Moving.{playBy}
 use Rattle.stationmoves.proofs.Ways.{bytes-same, full-same, load-same, play-made}
@@ -22,13 +22,13 @@ returns c =
     let a = c7 .before .before .args in (
       play-made (c .one-on .ensures) (c5 .modes-after .ensures .0) (c4 .ages-after .ensures)
           (c2 .bytes-after .ensures ∙ bytes-same _ (modeRule (a .changes) (a .t7 .running)) (c5 .modes-after .ensures .1)
-          (a .t3 .sending) (a .t3 .sites) (a .t6 .nodes) (a .t7 .bytes) (foundOf (a .control)))
+          (a .t3 .sending) (a .t3 .sites) (a .t6 .nodes) (a .t7 .bytes) (placeIn (a .control)))
           (c3 .givens-after .ensures) (c7 .out-after .ensures .0) (c6 .held-by .ensures .0)
           (c1 .full-after .ensures ∙ full-same _ (modeRule (a .changes) (a .t7 .running)) (c5 .modes-after .ensures .1)
           (a .t5 .bus) (now (a .runs)) (a .t5 .homes) (now (a .carries)) (now (a .deadlines)) (a .t7 .full)
-          (foundOf (a .message)))
+          (placeIn (a .message)))
           (c .before .load-after .ensures ∙ load-same _ (outRule (a .results) (a .t7 .out)) (c7 .out-after .ensures .1)
-          (now (a .carries)) (a .t7 .load) (foundOf (a .message))),
+          (now (a .carries)) (a .t7 .load) (placeIn (a .message))),
       record { out = c7 .out-after .ensures .1; held = c6 .held-by .ensures .1 },
     )
 

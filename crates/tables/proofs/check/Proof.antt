@@ -41,13 +41,13 @@ use denote.Triple.Walked.{says, Stays, stay-dropped, gave-slice, walkOf, goes-dr
 use denote.Exit.{yes}
 use Rattle.rows.proofs.Rows as R
 use Rattle.rows.proofs.Rows.Laws as R′
-use Rattle.framerows.specs.declared.Frame.{Frame}
+use Rattle.units.specs.declared.Frame.{Frame}
 use Rattle.framerows.specs.Frames.{filled}
-use Rattle.framerows.proofs.Frame as F
+use Rattle.units.proofs.Frame as F
 use Rattle.framerows.proofs.fill.Symbol as fill-def
 use Rattle.framerows.proofs.fill.Symbol.{name as #fill}
 use Rattle.framerows.proofs.fill.Met as fill-thm
-use Rattle.checked.specs.declared.Answer.{Answer}
+use Rattle.answers.specs.declared.Verdict.{Verdict}
 use Rattle.checked.specs.declared.Checked.{Checked}
 use Rattle.checked.specs.Checking.{Checks, lentPassed, PassesExactly, RefusesExactly}
 use Rattle.checked.proofs.Answer as B
@@ -81,7 +81,7 @@ module _ {M : Type 1} (𝓤 : URA M) (H : Heap 𝓤) (A : Atoms 𝓤) (W : Given
   typedK : (m : Checked) {v : Val} → Is K.the-row m (v ∷ []) → Holds (hasTy K′.mir v) × WT v
   typedK m is = LL.lawful K.the-type K′.the-laws 𝓤 H A W .typed m _ is .0
 
-  typedB : (a : Answer) {v : Val} → Is B.the-row a (v ∷ []) → Holds (hasTy B′.mir v) × WT v
+  typedB : (a : Verdict) {v : Val} → Is B.the-row a (v ∷ []) → Holds (hasTy B′.mir v) × WT v
   typedB a is = EL.lawful B.the-type B′.the-laws 𝓤 H A W tt .typed a _ is .0
 
   module _ (κ₀ κ₁ κ₂ : Lft) (q₀ q₁ q₂ : Share) (plan table : RefT (List ℕ)) (b o : ℕ) (γ : GName) (ys : List Frame) (gp : Room u8 (length (plan .now))) (gt : Room u8 (length (table .now))) (gr : Room F.the-row (length ys)) where

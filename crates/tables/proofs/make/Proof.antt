@@ -41,9 +41,9 @@ use denote.Triple.Walked.{says, Stays, stay-dropped, gave-slice, walkOf, goes-dr
 use denote.Exit.{yes}
 use Rattle.rows.proofs.Rows as R
 use Rattle.rows.proofs.Rows.Laws as R′
-use Rattle.framerows.specs.declared.Frame.{Frame}
+use Rattle.units.specs.declared.Frame.{Frame}
 use Rattle.framerows.specs.Frames.{filled}
-use Rattle.framerows.proofs.Frame as F
+use Rattle.units.proofs.Frame as F
 use Rattle.framerows.proofs.fill.Symbol as fill-def
 use Rattle.framerows.proofs.fill.Symbol.{name as #fill}
 use Rattle.framerows.proofs.fill.Met as fill-thm

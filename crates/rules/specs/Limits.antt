@@ -1,0 +1,53 @@
+-- The limits of document 01: how many things of each kind there may be, and how large each number may become. Each stands here
+-- once; the code has each as an associated constant of the type that it limits.
+use Prim.Native.Nat.{ℕ}
+
+-- nodes, modules, modes, tasks, invocations, connections of a plan
+abbrev pub mostNodes : ℕ
+mostNodes = 8
+
+abbrev pub mostModules : ℕ
+mostModules = 16
+
+abbrev pub mostModes : ℕ
+mostModes = 32
+
+abbrev pub mostTasks : ℕ
+mostTasks = 32
+
+abbrev pub mostInvocations : ℕ
+mostInvocations = 64
+
+abbrev pub mostConnections : ℕ
+mostConnections = 64
+
+-- data frames (9), and the frame rows that are to be lent (19)
+abbrev pub mostFrames : ℕ
+mostFrames = 256
+
+-- the bus: kbit/s, overhead and payload in bytes, gap in bits, resolution in ticks
+abbrev pub fastestBus : ℕ
+fastestBus = 100000
+
+abbrev pub mostOverhead : ℕ
+mostOverhead = 64
+
+abbrev pub mostPayload : ℕ
+mostPayload = 254
+
+abbrev pub mostGap : ℕ
+mostGap = 1000
+
+abbrev pub coarsest : ℕ
+coarsest = 1000
+
+-- mode periods, switch periods and worst times in ticks
+abbrev pub longestTime : ℕ
+longestTime = 1000000
+
+-- a message's size in bytes, and how often in its mode's period an invocation runs
+abbrev pub largestMessage : ℕ
+largestMessage = 8
+
+abbrev pub mostRate : ℕ
+mostRate = 65535
