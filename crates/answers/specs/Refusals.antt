@@ -4,7 +4,7 @@ use Rattle.laws.specs.Res.{Res, ok, refuse}
 use Rattle.rules.specs.Limits.{mostFrames}
 use Rattle.answers.specs.declared.Refusal.{Refusal}
 use Rattle.answers.specs.declared.Verdict.{Verdict}
-use Rattle.answers.specs.declared.Verdict.the-variants.{Passed, Refused}
+use Rattle.answers.specs.declared.Verdict.the-variants.{Fine, Refused}
 use Rattle.answers.specs.declared.Refusal.the-variants.{
   BadRecords,
   BadCount,
@@ -100,5 +100,5 @@ abbrev pub said : {A : Type 0} → Refusal → Res A
 said x = refuse (numberOf x) (placeOf x)
 
 abbrev pub heard : Verdict → Res (Unit {0})
-heard Passed = ok tt
+heard Fine = ok tt
 heard (Refused x) = said x

@@ -47,7 +47,7 @@ pub enum Refusal {
 
 // What was judged: nothing to refuse, or the first refusal that applies.
 pub enum Verdict {
-    Passed,
+    Fine,
     Refused(Refusal),
 }
 

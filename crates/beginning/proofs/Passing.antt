@@ -23,7 +23,7 @@ use Rattle.rules.specs.Records.{records, tableFollows}
 use Rattle.rules.specs.Plan.{Plan, readPlan}
 use Rattle.rules.specs.Frames.{ControlRow, noControlRow, Layout, layout, layoutOf}
 use Rattle.rules.specs.Table.{DataRow}
-use Rattle.rules.specs.Checker.{TableRead, Passed, passed, tableOf, judged, headerRight, controlAt, rowAt, noDataRow}
+use Rattle.rules.specs.Checker.{TableRead, Passed, checkFiles, tableOf, judged, headerRight, controlAt, rowAt, noDataRow}
 use Rattle.rules.specs.Playing.{periodIn}
 use Rattle.rules.specs.Station as rules
 use Rattle.rules.specs.Station.{Kept, holdsModeOf, isModeOf, startsWell, stateAtStart}
@@ -77,8 +77,8 @@ plan-kept : (p : Plan) (l : Layout) → layout p ≡ ok l → l .plan ≡ p
 unfolding layoutOf
 plan-kept p l e = ap (λ (x : Layout). x .plan) (sym (laid-out p l e .is))
 
-pub tells : (plan table : List ℕ) (c : Passed) → passed plan table ≡ ok c → Tells plan table c
-unfolding passed
+pub tells : (plan table : List ℕ) (c : Passed) → checkFiles plan table ≡ ok c → Tells plan table c
+unfolding checkFiles
 tells plan table c e =
     bind-case (readPlan plan) _ e λ p isRead e₁.
     bind-case (layout p) _ e₁ λ l isLaid e₂.
@@ -207,17 +207,17 @@ verdict-refused : (n p : ℕ) (rule : Res Passed) → verdict rule ≡ refuse n 
 verdict-refused n p (ok c) e = refuse≢ok (sym e)
 verdict-refused n p (refuse m q) e = rw (refuse-number e, refuse-place e)
 
-lent-enough : (plan table : List ℕ) → lentPassed plan table 256 ≡ passed plan table
+lent-enough : (plan table : List ℕ) → lentPassed plan table 256 ≡ checkFiles plan table
 unfolding lentPassed
 lent-enough plan table = refl
 
 module _ (plan table : List ℕ) (x : Checked) (says : Checks x (lentPassed plan table 256)) where
-  pub passes : x .answer ≡ checker.Passed → (c : Passed) × (passed plan table ≡ ok c)
-  passes e = verdict-ok (passed plan table) (ap verdict (sym (lent-enough plan table)) ∙ sym (says .answered) ∙ ap heard e)
+  pub passes : x .answer ≡ checker.Fine → (c : Passed) × (checkFiles plan table ≡ ok c)
+  passes e = verdict-ok (checkFiles plan table) (ap verdict (sym (lent-enough plan table)) ∙ sym (says .answered) ∙ ap heard e)
 
-  refuses : (why : Refusal) → x .answer ≡ checker.Refused why → passed plan table ≡ said why
+  refuses : (why : Refusal) → x .answer ≡ checker.Refused why → checkFiles plan table ≡ said why
   refuses why e =
-      verdict-refused (numberOf why) (placeOf why) (passed plan table)
+      verdict-refused (numberOf why) (placeOf why) (checkFiles plan table)
       (ap verdict (sym (lent-enough plan table)) ∙ sym (says .answered) ∙ ap heard e)
 
   -- the checker's number
@@ -227,7 +227,7 @@ module _ (plan table : List ℕ) (x : Checked) (says : Checks x (lentPassed plan
   refused-begins starting why e q = rw (q, refuses why e) (record { answered = refl; left = refl })
 
 -- what is handed on of a passed plan and table
-module _ (plan table : List ℕ) (c : Passed) (e : passed plan table ≡ ok c) {read : Reading} {gathered : tables.Reading}
+module _ (plan table : List ℕ) (c : Passed) (e : checkFiles plan table ≡ ok c) {read : Reading} {gathered : tables.Reading}
     (reads : Reads read (readPlan plan)) (gathers : gathered ≡ readingOf (records tableFollows 20 table)) where
   plan-seen : seen (read .plan) ≡ c .layout .plan
   plan-seen =

@@ -26,7 +26,7 @@ use Rattle.station.specs.Memory.{keptBy, keptOf, laid, notBegun, stateOf}
 use Rattle.station.specs.declared.Station.{Station}
 use Rattle.station.proofs.Plays.{Plays, plays-follows}
 use Rattle.station.proofs.Sized.{Sized, laid-agrees, sized-laid}
-use Rattle.answers.specs.declared.Verdict.the-variants.{Passed}
+use Rattle.answers.specs.declared.Verdict.the-variants.{Fine}
 use Rattle.starting.specs.declared.Begun.{Begun}
 use Rattle.beginning.specs.Begins.{Begins, keptLaid, runLaid, stationLaid}
 use Rattle.answers.specs.Refusals.{heard}
@@ -107,13 +107,13 @@ record Beginning (r : Begun) (rule : Res rules.Begun) : Type 0 where
   is : rule ≡ ok b
   station : r .station ≡ stationLaid b
 
-begun-by : (r : Begun) (rule : Res rules.Begun) → Begins r rule → r .answer ≡ Passed → Beginning r rule
+begun-by : (r : Begun) (rule : Res rules.Begun) → Begins r rule → r .answer ≡ Fine → Beginning r rule
 begun-by r (ok b) h e = record { b = b; is = refl; station = h .left }
 begun-by r (refuse n p) h e = refuse≢ok (sym (h .answered) ∙ ap heard e)
 
 -- A station that has begun, and a history of accepted ticks: what is seen of the station behind it is
 module _ (plan table : List ℕ) (starting : List Change) (r : Begun) (begins : Begins r (rules.begin plan table (changeAt starting)))
-    (started : r .answer ≡ Passed) (p : Plan) (reads : readPlan plan ≡ ok p) (history : List Input) (after : Station)
+    (started : r .answer ≡ Fine) (p : Plan) (reads : readPlan plan ≡ ok p) (history : List Input) (after : Station)
     (plays : Plays (r .station) history after) where
   abbrev by : Beginning r (rules.begin plan table (changeAt starting))
   by = begun-by r (rules.begin plan table (changeAt starting)) begins started

@@ -6,15 +6,15 @@ use Rattle.answers.proofs.Said.{said-once}
 use Rattle.rules.specs.Station as rules
 use Rattle.station.specs.declared.Station.{Station}
 use Rattle.answers.specs.declared.Verdict.{Verdict}
-use Rattle.answers.specs.declared.Verdict.the-variants.{Passed, Refused}
+use Rattle.answers.specs.declared.Verdict.the-variants.{Fine, Refused}
 use Rattle.starting.specs.declared.Begun.{Begun}
 use Rattle.beginning.specs.Begins.{Begins}
 use Rattle.answers.specs.Refusals.{heard}
 
 heard-once : (x y : Verdict) → heard x ≡ heard y → x ≡ y
-heard-once Passed Passed e = refl
-heard-once Passed (Refused y) e = refuse≢ok (sym e)
-heard-once (Refused x) Passed e = refuse≢ok e
+heard-once Fine Fine e = refl
+heard-once Fine (Refused y) e = refuse≢ok (sym e)
+heard-once (Refused x) Fine e = refuse≢ok e
 heard-once (Refused x) (Refused y) e = ap Refused (said-once x y e)
 
 pub begins-once : (a b : Begun) (rule : Res rules.Begun) → Begins a rule → Begins b rule → a ≡ b

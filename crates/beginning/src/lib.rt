@@ -20,7 +20,7 @@ pub fn begin(plan: &[u8], table: &[u8], starting: [Change; 16]) -> Begun
     let answer = checked.answer;
     match answer {
         Verdict::Refused(why) => refused(why),
-        Verdict::Passed => {
+        Verdict::Fine => {
             let reading = read(plan);
             let gathered = read_table(table);
             begin_with(keeping::kept(reading.plan, gathered.table), starting)

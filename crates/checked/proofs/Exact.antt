@@ -9,7 +9,7 @@ use Rattle.rules.specs.Table.{FrameRow, zeroRow}
 use Rattle.rules.specs.Checker as rules
 use Rattle.rules.proofs.CheckerExact.{checker-exact, checker-refuses, unread-exact, rule-exact}
 use Rattle.answers.specs.declared.Verdict.{Verdict}
-use Rattle.answers.specs.declared.Verdict.the-variants.{Passed}
+use Rattle.answers.specs.declared.Verdict.the-variants.{Fine}
 use Rattle.checked.specs.Checking.{verdict, lentPassed, PassesExactly, RefusesExactly}
 use Rattle.answers.specs.Refusals.{heard}
 use Rattle.checked.proofs.Rules.{check-answer}
@@ -33,7 +33,7 @@ module _ (a : Verdict) (plan table : List ℕ) where
 
     passes-with : PassesExactly a plan table (length rows)
     unfolding PassesExactly
-    passes-with = same-when (λ h. said-by (ap heard h)) (λ h. heard-once a Passed (heard-by h)) (checker-exact plan table rows)
+    passes-with = same-when (λ h. said-by (ap heard h)) (λ h. heard-once a Fine (heard-by h)) (checker-exact plan table rows)
 
     refuses-with : RefusesExactly a plan table (length rows)
     refuses-with =

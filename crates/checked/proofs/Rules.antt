@@ -10,12 +10,12 @@ use Rattle.laws.proofs.Orders.{le-or-lt}
 use mathlib.Core.Logic.{_⊎_, inl, inr}
 use Rattle.rules.specs.Table.{FrameRow, zeroRow, rowsThenZero}
 use Rattle.rules.specs.Checker as rules
-use Rattle.rules.specs.Checker.{passed, checkOutcome}
+use Rattle.rules.specs.Checker.{checkFiles, checkOutcome}
 use Rattle.rules.proofs.CheckerExact.{lent-enough, lent-short}
 use Rattle.checked.specs.Checking.{verdict, rowsOf, lentPassed}
 
 module _ (plan table : List ℕ) (lent : ℕ) where
-  pub enough-is : 256 ≤ lent → lentPassed plan table lent ≡ passed plan table
+  pub enough-is : 256 ≤ lent → lentPassed plan table lent ≡ checkFiles plan table
   unfolding lentPassed
   enough-is h = rw (le-leb 256 lent h)
 
@@ -38,14 +38,14 @@ outcome-rows (refuse n p) rows = all-zero (length rows)
 
 module _ (plan table : List ℕ) (rows : List FrameRow) where
   answer-by : (256 ≤ length rows) ⊎ (length rows < 256) → rules.check plan table rows .answer ≡ verdict (lentPassed plan table (length rows))
-  answer-by (inl h) = rw (lent-enough plan table rows h, enough-is plan table (length rows) h) (outcome-answer (passed plan table) rows)
+  answer-by (inl h) = rw (lent-enough plan table rows h, enough-is plan table (length rows) h) (outcome-answer (checkFiles plan table) rows)
   answer-by (inr h) = rw (lent-short plan table rows h, short-is plan table (length rows) h)
 
   pub check-answer : rules.check plan table rows .answer ≡ verdict (lentPassed plan table (length rows))
   check-answer = answer-by (le-or-lt 256 (length rows))
 
   pub check-rows : 256 ≤ length rows → rules.check plan table rows .rows ≡ rowsThenZero (rowsOf (lentPassed plan table (length rows))) (length rows)
-  check-rows h = rw (lent-enough plan table rows h, enough-is plan table (length rows) h) (outcome-rows (passed plan table) rows)
+  check-rows h = rw (lent-enough plan table rows h, enough-is plan table (length rows) h) (outcome-rows (checkFiles plan table) rows)
 
   -- 19 leaves the rows as they were
   pub check-rows-short : length rows < 256 → rules.check plan table rows .rows ≡ rows

@@ -6,15 +6,15 @@ use Rattle.rules.specs.Checker as rules
 use Rattle.answers.proofs.Said.{said-once}
 use Rattle.rows.specs.declared.Rows.{Rows}
 use Rattle.answers.specs.declared.Verdict.{Verdict}
-use Rattle.answers.specs.declared.Verdict.the-variants.{Passed, Refused}
+use Rattle.answers.specs.declared.Verdict.the-variants.{Fine, Refused}
 use Rattle.checked.specs.declared.Checked.{Checked}
 use Rattle.checked.specs.Checking.{Checks}
 use Rattle.answers.specs.Refusals.{heard}
 
 pub heard-once : (x y : Verdict) → heard x ≡ heard y → x ≡ y
-heard-once Passed Passed e = refl
-heard-once Passed (Refused y) e = refuse≢ok (sym e)
-heard-once (Refused x) Passed e = refuse≢ok e
+heard-once Fine Fine e = refl
+heard-once Fine (Refused y) e = refuse≢ok (sym e)
+heard-once (Refused x) Fine e = refuse≢ok e
 heard-once (Refused x) (Refused y) e = ap Refused (said-once x y e)
 
 pub checks-once : (a b : Checked) (rule : Res rules.Passed) → Checks a rule → Checks b rule → a ≡ b

@@ -8,14 +8,14 @@ use Rattle.laws.specs.Res.{Res, ok, refuse, _>>_, unless}
 use Rattle.rules.specs.Limits.{mostFrames}
 use Rattle.rules.specs.Table.{FrameRow}
 use Rattle.rules.specs.Checker as rules
-use Rattle.rules.specs.Checker.{checkedRow, passed}
-use Rattle.rules.specs.Obeys.{Passes, CheckFault, UnreadAt, BrokenAt}
+use Rattle.rules.specs.Checker.{checkedRow, checkFiles}
+use Rattle.rules.specs.Obeys.{MayPass, CheckFault, UnreadAt, BrokenAt}
 use Rattle.answers.specs.Refusals.{said, heard}
 use Rattle.line.specs.declared.Line.{Line}
 use Rattle.rows.specs.declared.Rows.{Rows}
 use Rattle.rows.specs.Rows.{rowsLaid}
 use Rattle.answers.specs.declared.Verdict.{Verdict}
-use Rattle.answers.specs.declared.Verdict.the-variants.{Passed, Refused}
+use Rattle.answers.specs.declared.Verdict.the-variants.{Fine, Refused}
 use Rattle.checked.specs.declared.Checked.{Checked}
 
 abbrev pub verdict : Res rules.Passed → Res (Unit {0})
@@ -36,7 +36,7 @@ pub record Checks (r : Checked) (rule : Res rules.Passed) : Type 0 where
 unfoldable pub lentPassed : List ℕ → List ℕ → ℕ → Res rules.Passed
 lentPassed plan table lent = do
   unless 19 mostFrames (leb mostFrames lent)
-  passed plan table
+  checkFiles plan table
 
 -- the frames of a line in arrays, with a start for each
 unfoldable pub rowsOn : Line → List ℕ → Rows
@@ -45,7 +45,7 @@ rowsOn l starts =
 
 -- The answer passes exactly the tables of laid out plans that keep every rule.
 unfoldable pub PassesExactly : Verdict → List ℕ → List ℕ → ℕ → Type 0
-PassesExactly a plan table lent = (a ≡ Passed) ↔ ((256 ≤ lent) × Passes plan table)
+PassesExactly a plan table lent = (a ≡ Fine) ↔ ((256 ≤ lent) × MayPass plan table)
 
 -- The answer refuses exactly by the first fault: 19 where too few rows are lent, else the plan's or the table's first; 20 exactly
 -- where the table first breaks the record rules; 21 to 27 exactly where that rule is the first that is broken, at its lowest record.

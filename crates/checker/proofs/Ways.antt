@@ -12,7 +12,7 @@ use Rattle.rules.specs.Records.{Rec, records, tableFollows}
 use Rattle.rules.specs.Plan.{readPlan}
 use Rattle.rules.specs.Frames.{Layout, layout}
 use Rattle.rules.specs.Checker as rules
-use Rattle.rules.specs.Checker.{TableRead, tableOf, judged, passed, startIn, checkedRow}
+use Rattle.rules.specs.Checker.{TableRead, tableOf, judged, checkFiles, startIn, checkedRow}
 use Rattle.rules.proofs.RecordsExact.{records-refused}
 use Rattle.answers.specs.declared.Refusal.{Refusal}
 use Rattle.answers.specs.declared.Refusal.the-variants.{TooFewRows, BadTableRecords}
@@ -31,7 +31,7 @@ use Rattle.line.proofs.Drawn.{Drawn, drawn}
 use Rattle.judging.proofs.Layouts.{line-numbered, line-controls, line-right}
 use Rattle.rows.specs.declared.Rows.{Rows}
 use Rattle.rows.specs.Rows.{rowTask, rowRelease, rowDeadline, rowStart, rowsLaid}
-use Rattle.answers.specs.declared.Verdict.the-variants.{Passed, Refused}
+use Rattle.answers.specs.declared.Verdict.the-variants.{Fine, Refused}
 use Rattle.checked.specs.declared.Checked.{Checked}
 use Rattle.checked.specs.Checking.{Checks, lentPassed, rowsOn, PassesExactly, RefusesExactly}
 use Rattle.checked.proofs.Rules.{enough-is, short-is}
@@ -61,7 +61,7 @@ laid-refused : (n p : ℕ) (rule : Res Layout) → laying.verdict rule ≡ refus
 laid-refused n p (ok l) e = refuse≢ok (sym e)
 laid-refused n p (refuse m q) e = rw (refuse-number e, refuse-place e)
 
-laid-sound : {C : Type 0} (rule : Res Layout) (x : Laid) → Lays x rule → x .answer ≡ Passed → ((l : Layout) → rule ≡ ok l → x .line ≡ lineOf l → C) → C
+laid-sound : {C : Type 0} (rule : Res Layout) (x : Laid) → Lays x rule → x .answer ≡ Fine → ((l : Layout) → rule ≡ ok l → x .line ≡ lineOf l → C) → C
 laid-sound (ok l) x h e go = go l refl (h .left)
 laid-sound (refuse n p) x h e go =
     let z : ok tt ≡ refuse n p = sym (ap heard e) ∙ h .answered in refuse≢ok (sym z)
@@ -70,7 +70,7 @@ file-drawn : (plan : List ℕ) (l : Layout) → fileLaid plan ≡ ok l → Drawn
 unfolding fileLaid
 file-drawn plan l e = bind-case (readPlan plan) layout e λ p isRead isLaid. drawn plan p l isRead isLaid
 
-module _ (plan : List ℕ) (x : Laid) (h : Lays x (fileLaid plan)) (e : x .answer ≡ Passed) where
+module _ (plan : List ℕ) (x : Laid) (h : Lays x (fileLaid plan)) (e : x .answer ≡ Fine) where
   pub judge-ready : Numbered (x .line .task) (x .line .deadline) (x .line .frames) × (x .line .controls ≤ 8)
   judge-ready =
       laid-sound (fileLaid plan) x h e λ l q same.
@@ -120,8 +120,8 @@ module _ (plan table : List ℕ) (lent : ℕ) (r : Checked) where
 
   module _ (enough : 256 ≤ lent) (x : Laid) (h : Lays x (fileLaid plan)) where
     -- 1 to 11
-    plan-refused : (n p : ℕ) → fileLaid plan ≡ refuse n p → passed plan table ≡ refuse n p
-    unfolding passed fileLaid
+    plan-refused : (n p : ℕ) → fileLaid plan ≡ refuse n p → checkFiles plan table ≡ refuse n p
+    unfolding checkFiles fileLaid
     plan-refused n p e = bind-refused (readPlan plan) layout e (λ a. rw a) (λ q a b. rw (a, b))
 
     pub way-plan : (why : Refusal) → x .answer ≡ Refused why → r ≡ refusedBy why → Says r plan table lent
@@ -130,10 +130,10 @@ module _ (plan table : List ℕ) (lent : ℕ) (r : Checked) where
         says r plan table lent
         (checks-refused why r (lentPassed plan table lent) e (enough-is plan table lent enough ∙ plan-refused (numberOf why) (placeOf why) n))
 
-    module _ (sound : x .answer ≡ Passed) (reading : Reading) (is : reading ≡ readingOf (records tableFollows 20 table)) where
+    module _ (sound : x .answer ≡ Fine) (reading : Reading) (is : reading ≡ readingOf (records tableFollows 20 table)) where
       -- 20
-      broken-refused : (l : Layout) → fileLaid plan ≡ ok l → (n p : ℕ) → records tableFollows 20 table ≡ refuse n p → passed plan table ≡ refuse 20 p
-      unfolding passed fileLaid
+      broken-refused : (l : Layout) → fileLaid plan ≡ ok l → (n p : ℕ) → records tableFollows 20 table ≡ refuse n p → checkFiles plan table ≡ refuse 20 p
+      unfolding checkFiles fileLaid
       broken-refused l laid n p e =
           bind-case (readPlan plan) layout laid λ q isRead isLaid.
           rw (isRead, isLaid, e, records-refused tableFollows 20 table n p .0 e .0)
@@ -157,13 +157,13 @@ module _ (plan table : List ℕ) (lent : ℕ) (r : Checked) where
             go l rs laid areRows same (line-right l (file-drawn plan l laid) (tableOf rs) (rw (same, held) at right))
 
         judged-refused : (l : Layout) (rs : List Rec) (n p : ℕ) → fileLaid plan ≡ ok l → records tableFollows 20 table ≡ ok rs → judged l (tableOf rs) ≡ refuse n p
-            → passed plan table ≡ refuse n p
-        unfolding passed fileLaid
+            → checkFiles plan table ≡ refuse n p
+        unfolding checkFiles fileLaid
         judged-refused l rs n p laid areRows e = bind-case (readPlan plan) layout laid λ q isRead isLaid. rw (isRead, isLaid, areRows, e)
 
         judged-passed : (l : Layout) (rs : List Rec) → fileLaid plan ≡ ok l → records tableFollows 20 table ≡ ok rs → judged l (tableOf rs) ≡ ok tt
-            → passed plan table ≡ ok (record { layout = l; table = tableOf rs })
-        unfolding passed fileLaid
+            → checkFiles plan table ≡ ok (record { layout = l; table = tableOf rs })
+        unfolding checkFiles fileLaid
         judged-passed l rs laid areRows e = bind-case (readPlan plan) layout laid λ q isRead isLaid. rw (isRead, isLaid, areRows, e)
 
         pub way-judged : (why : Refusal) → j .verdict ≡ Refused why → r ≡ refusedBy why → Says r plan table lent
@@ -174,8 +174,8 @@ module _ (plan table : List ℕ) (lent : ℕ) (r : Checked) where
             (checks-refused why r (lentPassed plan table lent) e
             (enough-is plan table lent enough ∙ judged-refused l rs (numberOf why) (placeOf why) laid areRows n))
 
-        pub way-passed : j .verdict ≡ Passed → (rows : Rows) → rows ≡ rowsOn (x .line) (j .starts)
-            → r ≡ record { answer = Passed; rows = rows } → Says r plan table lent
+        pub way-passed : j .verdict ≡ Fine → (rows : Rows) → rows ≡ rowsOn (x .line) (j .starts)
+            → r ≡ record { answer = Fine; rows = rows } → Says r plan table lent
         way-passed q rows e same-r =
             as-read λ l rs laid areRows same seenRight.
             let n : judged l (tableOf rs) ≡ ok tt = sym (seenRight .verdict) ∙ ap heard q in

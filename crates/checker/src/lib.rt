@@ -36,8 +36,8 @@ pub fn check(plan: &[u8], table: &[u8], lent: usize) -> Checked
     let starts = judgement.starts;
     match verdict {
         Verdict::Refused(why) => refused(why),
-        Verdict::Passed => Checked {
-            answer: Verdict::Passed,
+        Verdict::Fine => Checked {
+            answer: Verdict::Fine,
             rows: rows_on(line, starts),
         },
     }

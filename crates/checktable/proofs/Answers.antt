@@ -10,10 +10,10 @@ use Rattle.io.specs.Counts.{Counts}
 use Rattle.laws.specs.Res.{Res, ok, refuse}
 use Rattle.laws.proofs.Res.{refuse≢ok, refuse-number, refuse-place}
 use Rattle.rules.specs.Checker as rules
-use Rattle.rules.specs.Checker.{passed}
+use Rattle.rules.specs.Checker.{checkFiles}
 use Rattle.answers.specs.declared.Refusal.{Refusal}
 use Rattle.answers.specs.Refusals.{numberOf, placeOf}
-use Rattle.answers.specs.declared.Verdict.the-variants.{Passed, Refused}
+use Rattle.answers.specs.declared.Verdict.the-variants.{Fine, Refused}
 use Rattle.checked.specs.declared.Checked.{Checked}
 use Rattle.checked.specs.Checking.{Checks, verdict, lentPassed}
 use Rattle.answers.specs.Refusals.{heard}
@@ -45,11 +45,11 @@ module _ (plan table old out : List ℕ) (n : ℕ) where
   long-table h a = too-long (rw (lt-leb (length table) 65536 h, both-false)) a
 
   module _ (p : length plan ≤ 65536) (t : length table ≤ 65536) (r : Checked) (h : Checks r (lentPassed plan table 256)) where
-    short : answerFor plan table ≡ lineFor (passed plan table)
+    short : answerFor plan table ≡ lineFor (checkFiles plan table)
     unfolding answerFor isShort
     short = rw (le-leb (length plan) 65536 p, le-leb (length table) 65536 t)
 
-    says : heard (r .answer) ≡ verdict (passed plan table)
+    says : heard (r .answer) ≡ verdict (checkFiles plan table)
     says = h .answered ∙ ap verdict (enough-is plan table 256 (omega arith))
 
     passed-line : (m : Res rules.Passed) → ok tt ≡ verdict m → lineFor m ≡ passedLine
@@ -60,16 +60,16 @@ module _ (plan table old out : List ℕ) (n : ℕ) where
     refused-line k q (ok c) e = refuse≢ok e
     refused-line k q (refuse i j) e = sym (ap₂ refusedLine (refuse-number e) (refuse-place e))
 
-    pub passed-response : r .answer ≡ Passed → Front passedLine old out n → Responds plan table old out n
+    pub passed-response : r .answer ≡ Fine → Front passedLine old out n → Responds plan table old out n
     unfolding passedLine
     passed-response e a =
-        let is : answerFor plan table ≡ passedLine = short ∙ passed-line (passed plan table) (sym (ap heard e) ∙ says) in
+        let is : answerFor plan table ≡ passedLine = short ∙ passed-line (checkFiles plan table) (sym (ap heard e) ∙ says) in
         (rw is a, λ room. front-counts passedLine old out n a (omega arith))
 
     pub refused-response : (why : Refusal) (k q : ℕ) → r .answer ≡ Refused why → k ≡ numberOf why → q ≡ placeOf why
         → k < 18446744073709551616 → q < 18446744073709551616 → Front (refusedLine k q) old out n → Responds plan table old out n
     refused-response why k q e number place kw qw a =
-        let same : refuse k q ≡ verdict (passed plan table) = ap₂ refuse number place ∙ (sym (ap heard e) ∙ says) in
-        let is : answerFor plan table ≡ refusedLine k q = short ∙ refused-line k q (passed plan table) same in
+        let same : refuse k q ≡ verdict (checkFiles plan table) = ap₂ refuse number place ∙ (sym (ap heard e) ∙ says) in
+        let is : answerFor plan table ≡ refusedLine k q = short ∙ refused-line k q (checkFiles plan table) same in
         let few : length (refusedLine k q) ≤ 53 = refused-line-most k q kw qw in
         (rw is a, λ room. front-counts (refusedLine k q) old out n a (omega arith))

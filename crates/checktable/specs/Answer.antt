@@ -5,7 +5,7 @@ use lib.Dec.{leb}
 use lib.ListN.{length}
 use Prim.Native.Nat.{ℕ}
 use Rattle.laws.specs.Res.{Res, ok, refuse}
-use Rattle.rules.specs.Checker.{Passed, passed}
+use Rattle.rules.specs.Checker.{Passed, checkFiles}
 use Rattle.text.specs.Text.{passedLine, refusedLine, tooLongLine}
 
 -- the line `passed`, or "one line `refused N at P`"
@@ -22,4 +22,4 @@ unfoldable pub isShort : List ℕ → Bool
 isShort file = leb (length file) 65536
 
 unfoldable pub answerFor : List ℕ → List ℕ → List ℕ
-answerFor plan table = unlessLong (isShort plan && isShort table) (lineFor (passed plan table))
+answerFor plan table = unlessLong (isShort plan && isShort table) (lineFor (checkFiles plan table))

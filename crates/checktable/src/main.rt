@@ -27,7 +27,7 @@ fn respond(plan: &[u8], table: &[u8], out: &mut [u8]) -> usize
     let checked = checker::check(plan, table, Frame::MOST);
     let answer = checked.answer;
     match answer {
-        Verdict::Passed => text::put_passed(&mut *out),
+        Verdict::Fine => text::put_passed(&mut *out),
         Verdict::Refused(why) => { text::put_refused(&mut *out, why.number(), why.place()) }
     }
 }

@@ -23,7 +23,7 @@ use Rattle.places.specs.declared.Found.{Found}
 use Rattle.places.specs.declared.Found.the-variants.{At, Nothing}
 use Rattle.judging.specs.declared.Bounds.{Bounds}
 use Rattle.answers.specs.declared.Verdict.{Verdict}
-use Rattle.answers.specs.declared.Verdict.the-variants.{Passed, Refused}
+use Rattle.answers.specs.declared.Verdict.the-variants.{Fine, Refused}
 use Rattle.judging.specs.declared.Judgement.{Judgement}
 use Rattle.naming.specs.Places.{beforeIn, Numbered, numberAt, isNew, spread}
 use Rattle.places.specs.Found.{foundOf}
@@ -78,7 +78,7 @@ module _ {says : Res (Unit {0})} (frames : List Frame) (t : TableRead) {j : Judg
   pub right-refused : {n p : ℕ} → says ≡ refuse n p → (heard (j .verdict) ≡ refuse n p) × (j .starts ≡ replicate 256 0) → Right says frames t j
   right-refused e h = record { verdict = h .0 ∙ sym e; starts = rw e (h .1) }
 
-  pub right-passed : says ≡ ok tt → j .verdict ≡ Passed → j .starts ≡ startsOn (ok tt) frames t → Right says frames t j
+  pub right-passed : says ≡ ok tt → j .verdict ≡ Fine → j .starts ≡ startsOn (ok tt) frames t → Right says frames t j
   right-passed e v s = record { verdict = ap heard v ∙ sym e; starts = rw e s }
 
 -- ---- rules 23 to 27
@@ -141,7 +141,7 @@ module _ (tasks releases deadlines times : List ℕ) (frames : ℕ) (n : Numbere
     pub rows-refused : {x : Refusal} {j : Judgement} → v ≡ Refused x → (heard (j .verdict) ≡ said x) × (j .starts ≡ replicate 256 0) → JudgedRows j
     rows-refused q h = right-refused wanted (seen t) (sym judged-rows ∙ ap heard q) h
 
-    pub rows-passed : {j : Judgement} → v ≡ Passed → j .verdict ≡ Passed → j .starts ≡ spread named (t .starts) (t .rows) → JudgedRows j
+    pub rows-passed : {j : Judgement} → v ≡ Fine → j .verdict ≡ Fine → j .starts ≡ spread named (t .starts) (t .rows) → JudgedRows j
     unfolding seen rowSeen
     rows-passed q w h =
         let passed : rowsJudged wanted (timeIn times) b (seen t) ≡ ok tt = sym judged-rows ∙ ap heard q in

@@ -29,7 +29,7 @@ use Rattle.answers.specs.Refusals.{said, heard}
 use Rattle.tableread.specs.declared.Header.{Header}
 use Rattle.judging.specs.declared.Bounds.{Bounds}
 use Rattle.answers.specs.declared.Verdict.{Verdict}
-use Rattle.answers.specs.declared.Verdict.the-variants.{Passed, Refused}
+use Rattle.answers.specs.declared.Verdict.the-variants.{Fine, Refused}
 use Rattle.judging.specs.declared.Judgement.{Judgement}
 use Rattle.line.specs.declared.Line.{Line}
 use Rattle.places.specs.declared.Found.{Found}

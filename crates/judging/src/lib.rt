@@ -147,7 +147,7 @@ fn rows_judged(
     if let Found::At(k) = crowded {
         return Verdict::Refused(Refusal::GapBroken(RecordNo(first + k)));
     }
-    Verdict::Passed
+    Verdict::Fine
 }
 
 // Rules 23 to 27.
@@ -191,7 +191,7 @@ fn by_rows<'a>(
         return refused(x);
     }
     Judgement {
-        verdict: Verdict::Passed,
+        verdict: Verdict::Fine,
         starts: starts_by_frame(&named, &t.starts, count),
     }
 }

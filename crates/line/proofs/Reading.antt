@@ -11,7 +11,7 @@ use Rattle.plan.specs.Memory.{seen}
 use Rattle.plan.proofs.Laid.{read-seen}
 use Rattle.answers.specs.declared.Refusal.{Refusal}
 use Rattle.answers.specs.Refusals.{said, numberOf, placeOf}
-use Rattle.answers.specs.declared.Verdict.the-variants.{Passed, Refused}
+use Rattle.answers.specs.declared.Verdict.the-variants.{Fine, Refused}
 use Rattle.planrules.specs.declared.Reading.{Reading}
 use Rattle.planrules.specs.Reading.{Reads, verdict}
 use Rattle.line.specs.declared.Laid.{Laid}
@@ -29,12 +29,12 @@ verdict-refused n k (ok p) e = refuse≢ok (sym e)
 verdict-refused n k (refuse m j) e = rw (refuse-number e, refuse-place e)
 
 module _ (file : List ℕ) (r : Reading) (h : Reads r (readPlan file)) where
-  pub sound-kept : r .answer ≡ Passed → PlanKept (seen (r .plan))
+  pub sound-kept : r .answer ≡ Fine → PlanKept (seen (r .plan))
   sound-kept e =
       verdict-ok (readPlan file) (rw (← h .answered, e)) λ p q.
       rw (h .left, q, read-seen file p q) (readable-kept file p q)
 
-  pub sound-laid : (x : Laid) → r .answer ≡ Passed → Lays x (layout (seen (r .plan))) → Lays x (fileLaid file)
+  pub sound-laid : (x : Laid) → r .answer ≡ Fine → Lays x (layout (seen (r .plan))) → Lays x (fileLaid file)
   unfolding fileLaid
   sound-laid x e l =
       verdict-ok (readPlan file) (rw (← h .answered, e)) λ p q.

@@ -5,16 +5,16 @@ use Rattle.laws.proofs.Res.{refuse≢ok}
 use Rattle.rules.specs.Frames.{Layout}
 use Rattle.answers.proofs.Said.{said-once}
 use Rattle.answers.specs.declared.Verdict.{Verdict}
-use Rattle.answers.specs.declared.Verdict.the-variants.{Passed, Refused}
+use Rattle.answers.specs.declared.Verdict.the-variants.{Fine, Refused}
 use Rattle.line.specs.declared.Line.{Line}
 use Rattle.line.specs.declared.Laid.{Laid}
 use Rattle.line.specs.Laying.{Lays}
 use Rattle.answers.specs.Refusals.{heard}
 
 heard-once : (x y : Verdict) → heard x ≡ heard y → x ≡ y
-heard-once Passed Passed e = refl
-heard-once Passed (Refused y) e = refuse≢ok (sym e)
-heard-once (Refused x) Passed e = refuse≢ok e
+heard-once Fine Fine e = refl
+heard-once Fine (Refused y) e = refuse≢ok (sym e)
+heard-once (Refused x) Fine e = refuse≢ok e
 heard-once (Refused x) (Refused y) e = ap Refused (said-once x y e)
 
 pub lays-once : (a b : Laid) (rule : Res Layout) → Lays a rule → Lays b rule → a ≡ b

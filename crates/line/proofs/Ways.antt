@@ -16,7 +16,7 @@ use Rattle.rules.specs.Frames.{Layout, layout, layoutOf, isBusTask, busTasks, m
 use Rattle.answers.specs.declared.Refusal.{Refusal}
 use Rattle.answers.specs.Refusals.{said}
 use Rattle.bus.specs.Senders.{byNumber}
-use Rattle.answers.specs.declared.Verdict.the-variants.{Passed, Refused}
+use Rattle.answers.specs.declared.Verdict.the-variants.{Fine, Refused}
 use Rattle.line.specs.declared.Laid.{Laid}
 use Rattle.line.specs.Line.{noLine, lineOf}
 use Rattle.payloads.specs.Tests.{flagAt, messageKeeps, payloadKeeps}
@@ -25,7 +25,7 @@ use Rattle.line.specs.Laying.{Lays, closing}
 pub lays-refused : (x : Refusal) (r : Laid) (rule : Res Layout) → r ≡ record { answer = Refused x; line = noLine } → rule ≡ said x → Lays r rule
 lays-refused x r rule e q = record { answered = rw (e, q); left = rw (e, q) }
 
-pub lays-sound : (l : Layout) (r : Laid) (rule : Res Layout) → r ≡ record { answer = Passed; line = lineOf l } → rule ≡ ok l → Lays r rule
+pub lays-sound : (l : Layout) (r : Laid) (rule : Res Layout) → r ≡ record { answer = Fine; line = lineOf l } → rule ≡ ok l → Lays r rule
 lays-sound l r rule e q = record { answered = rw (e, q); left = rw (e, q) }
 
 all-same : (p q : ℕ → Bool) (n : ℕ) → ((k : ℕ) → k < n → p k ≡ q k) → all p (upTo n) ≡ all q (upTo n)

@@ -10,7 +10,7 @@ use Rattle.rules.specs.Limits.{mostFrames}
 use Rattle.rules.specs.Frames.{Layout, layout, layoutOf, frames, payloadsFit, controlEnd, busPeriod}
 use Rattle.answers.specs.Refusals.{said, heard}
 use Rattle.answers.specs.declared.Verdict.{Verdict}
-use Rattle.answers.specs.declared.Verdict.the-variants.{Passed, Refused}
+use Rattle.answers.specs.declared.Verdict.the-variants.{Fine, Refused}
 use Rattle.line.specs.declared.Laid.{Laid}
 use Rattle.line.specs.Line.{lineFor}
 

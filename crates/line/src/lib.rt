@@ -168,7 +168,7 @@ fn closed<'a>(
     let control = control_rows(p, payloads);
     let line = line_of(p, period, end, control, count, task, release, deadline);
     Laid {
-        answer: Verdict::Passed,
+        answer: Verdict::Fine,
         line: line,
     }
 }
@@ -226,7 +226,7 @@ pub fn lay_out(s: &[u8]) -> Laid
     let reading = planrules::read(s);
     let answer = reading.answer;
     match answer {
-        Verdict::Passed => cycled(reading.plan),
+        Verdict::Fine => cycled(reading.plan),
         Verdict::Refused(why) => refused(why),
     }
 }

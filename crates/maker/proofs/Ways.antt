@@ -17,7 +17,7 @@ use Rattle.rules.proofs.MadePasses.{table-made, made-checked}
 use Rattle.answers.specs.declared.Refusal.{Refusal}
 use Rattle.answers.specs.Refusals.{said, heard}
 use Rattle.line.specs.declared.Laid.{Laid}
-use Rattle.answers.specs.declared.Verdict.the-variants.{Passed, Refused as LineRefused}
+use Rattle.answers.specs.declared.Verdict.the-variants.{Fine, Refused as LineRefused}
 use Rattle.line.specs.Line.{lineFor}
 use Rattle.line.specs.Laying.{Lays, fileLaid, verdict}
 use Rattle.line.specs.Laying as laying
@@ -59,7 +59,7 @@ module _ (plan : List ℕ) (lent room : ℕ) where
       pub stands : Stands (r .line)
       pub rule : lentFor plan lent room ≡ laidTable (stands .lay) room
 
-    pub plan-sound : r .answer ≡ Passed → StandsFor
+    pub plan-sound : r .answer ≡ Fine → StandsFor
     unfolding fileLaid
     plan-sound e = go (fileLaid plan) refl (sym (ap heard e) ∙ h .answered) (h .left)
       where

@@ -20,7 +20,7 @@ pub fn made(plan: &[u8], lent: usize, buf: &mut [u8]) -> Making
     let laid = line::lay_out(plan);
     let answer = laid.answer;
     match answer {
-        Verdict::Passed => placed_table(laid.line, &mut *buf),
+        Verdict::Fine => placed_table(laid.line, &mut *buf),
         Verdict::Refused(why) => refused(why),
     }
 }

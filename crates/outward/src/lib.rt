@@ -31,7 +31,7 @@ pub fn judged(answer: Verdict) -> Answer
     ensures { λ r. ⌜ r ≡ answerOf (heard answer) ⌝ }
 {
     match answer {
-        Verdict::Passed => Answer {
+        Verdict::Fine => Answer {
             number: 0,
             place: 0,
         },

@@ -24,7 +24,7 @@ use Rattle.plangather.specs.Gather.{gatheredOf}
 use Rattle.plan.proofs.Laid.{counts-placed, seen-laid}
 use Rattle.places.specs.declared.Found.{Found}
 use Rattle.places.specs.declared.Found.the-variants.{At, Nothing}
-use Rattle.answers.specs.declared.Verdict.the-variants.{Passed, Refused}
+use Rattle.answers.specs.declared.Verdict.the-variants.{Fine, Refused}
 use Rattle.planrules.specs.declared.Reading.{Reading}
 use Rattle.planrules.specs.Reading.{Reads}
 use Rattle.planfits.specs.Scans.{placeOr, isOk, firstBadOf, unfitOf}
@@ -72,7 +72,7 @@ with-outcome g o e = ap (λ (x : Outcome). record { outcome = x; plan = g .plan 
 refused-reads : (r : Reading) (x : Refusal) (rule : Res rules.Plan) → r ≡ record { answer = Refused x; plan = emptyPlan } → rule ≡ said x → Reads r rule
 refused-reads r x rule e q = record { answered = rw (e, q); left = rw (e, q) }
 
-sound-reads : (r : Reading) (p : rules.Plan) (rule : Res rules.Plan) → r ≡ record { answer = Passed; plan = layOut p } → rule ≡ ok p → Reads r rule
+sound-reads : (r : Reading) (p : rules.Plan) (rule : Res rules.Plan) → r ≡ record { answer = Fine; plan = layOut p } → rule ≡ ok p → Reads r rule
 sound-reads r p rule e q = record { answered = rw (e, q); left = rw (e, q) }
 
 -- ---- the rules, from a file's records on
@@ -183,7 +183,7 @@ module _ (s : List ℕ) (p : Plan) (r : Reading) (g : gatheredOf (records planFo
               gathered-as p (records planFollows 1 s) g λ rs walked laid.
               refused-reads r (Unfit (record { 0 = n })) (rules.readPlan s) w (unfit-of s p rs walked laid k e counted named ranged n q)
 
-          pub way-sound : unfitOf Nothing ≡ rules.rule5 (seen p) → r ≡ record { answer = Passed; plan = p } → Reads r (rules.readPlan s)
+          pub way-sound : unfitOf Nothing ≡ rules.rule5 (seen p) → r ≡ record { answer = Fine; plan = p } → Reads r (rules.readPlan s)
           way-sound q w =
               gathered-as p (records planFollows 1 s) g λ rs walked laid.
               sound-reads r (rules.planOf rs) (rules.readPlan s) (w ∙ rw laid) (read-of s p rs walked laid k e counted named ranged q)

@@ -10,7 +10,7 @@ use Prim.Native.Nat.{ℕ, _≤_, _<_}
 use Rattle.laws.proofs.Lists.{both-left, both-right, true-false}
 use Rattle.laws.proofs.Table.{below}
 use Rattle.rules.specs.Records.{Rec, Field, names, ranges, free, kinds, fields, orNone, decoded, recordOf}
-use Rattle.rules.specs.Plan.{passes, isThere, isWithin, isKind, payloadsOrdered, namesAreThere, numbersAreWithin}
+use Rattle.rules.specs.Plan.{eachNumber, isThere, isWithin, isKind, payloadsOrdered, namesAreThere, numbersAreWithin}
 
 pub and-true : (b : Bool) → (b && true) ≡ b
 and-true true = refl
@@ -29,7 +29,7 @@ rangeless (names k ∷ fs) = rangeless fs
 rangeless (ranges w low high ∷ fs) = false
 rangeless (free w ∷ fs) = rangeless fs
 
-nameless-passes : (counts : ℕ → ℕ) (fs : List Field) (ns : List ℕ) → nameless fs ≡ true → passes (isThere counts) fs ns ≡ true
+nameless-passes : (counts : ℕ → ℕ) (fs : List Field) (ns : List ℕ) → nameless fs ≡ true → eachNumber (isThere counts) fs ns ≡ true
 unfolding nameless
 nameless-passes counts [] ns e = refl
 nameless-passes counts (f ∷ fs) [] e = refl
@@ -37,7 +37,7 @@ nameless-passes counts (names k ∷ fs) (x ∷ xs) e = true-false (sym e)
 nameless-passes counts (ranges w low high ∷ fs) (x ∷ xs) e = nameless-passes counts fs xs e
 nameless-passes counts (free w ∷ fs) (x ∷ xs) e = nameless-passes counts fs xs e
 
-rangeless-passes : (fs : List Field) (ns : List ℕ) → rangeless fs ≡ true → passes isWithin fs ns ≡ true
+rangeless-passes : (fs : List Field) (ns : List ℕ) → rangeless fs ≡ true → eachNumber isWithin fs ns ≡ true
 unfolding rangeless
 rangeless-passes [] ns e = refl
 rangeless-passes (f ∷ fs) [] e = refl
@@ -129,7 +129,7 @@ module _ (f g : ℕ → ℕ) (nodes : f 2 ≡ g 2) (modules : f 3 ≡ g 3) (mode
   unfolding isNamed
   same k e = same-if k (eqb k 2) (eqb k 3) (eqb k 4) (eqb k 5) refl refl refl refl e
 
-  passes-alike : (fs : List Field) (ns : List ℕ) → wellNamed fs ≡ true → passes (isThere f) fs ns ≡ passes (isThere g) fs ns
+  passes-alike : (fs : List Field) (ns : List ℕ) → wellNamed fs ≡ true → eachNumber (isThere f) fs ns ≡ eachNumber (isThere g) fs ns
   unfolding wellNamed
   passes-alike [] ns e = refl
   passes-alike (h ∷ fs) [] e = refl

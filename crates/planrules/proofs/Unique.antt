@@ -6,15 +6,15 @@ use Rattle.rules.specs.Plan.{Plan}
 use Rattle.answers.proofs.Said.{said-once}
 use Rattle.plan.specs.declared.Plan as memory
 use Rattle.answers.specs.declared.Verdict.{Verdict}
-use Rattle.answers.specs.declared.Verdict.the-variants.{Passed, Refused}
+use Rattle.answers.specs.declared.Verdict.the-variants.{Fine, Refused}
 use Rattle.planrules.specs.declared.Reading.{Reading}
 use Rattle.planrules.specs.Reading.{Reads}
 use Rattle.answers.specs.Refusals.{heard}
 
 heard-once : (x y : Verdict) → heard x ≡ heard y → x ≡ y
-heard-once Passed Passed e = refl
-heard-once Passed (Refused y) e = refuse≢ok (sym e)
-heard-once (Refused x) Passed e = refuse≢ok e
+heard-once Fine Fine e = refl
+heard-once Fine (Refused y) e = refuse≢ok (sym e)
+heard-once (Refused x) Fine e = refuse≢ok e
 heard-once (Refused x) (Refused y) e = ap Refused (said-once x y e)
 
 pub reads-once : (a b : Reading) (rule : Res Plan) → Reads a rule → Reads b rule → a ≡ b

@@ -6,7 +6,7 @@ use Rattle.answers.specs.Refusals.{said, heard}
 use Rattle.plan.specs.declared.Plan.{Plan}
 use Rattle.plan.specs.Memory.{layOut, emptyPlan}
 use Rattle.answers.specs.declared.Verdict.{Verdict}
-use Rattle.answers.specs.declared.Verdict.the-variants.{Passed, Refused}
+use Rattle.answers.specs.declared.Verdict.the-variants.{Fine, Refused}
 use Rattle.planrules.specs.declared.Reading.{Reading}
 
 abbrev pub verdict : Res rules.Plan → Res (Unit {0})

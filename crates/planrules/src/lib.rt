@@ -57,7 +57,7 @@ fn judged(s: &[u8], p: Plan) -> Reading
         return refused(Refusal::Unfit(RecordNo(n)));
     }
     Reading {
-        answer: Verdict::Passed,
+        answer: Verdict::Fine,
         plan: p,
     }
 }

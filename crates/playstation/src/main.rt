@@ -32,7 +32,7 @@ fn say_begun() {
 
 fn say_answer(answer: Verdict) {
     match answer {
-        Verdict::Passed => say_begun(),
+        Verdict::Fine => say_begun(),
         Verdict::Refused(why) => say_refusal(why),
     }
 }

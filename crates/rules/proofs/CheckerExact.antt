@@ -45,7 +45,7 @@ use Rattle.rules.specs.Checker.{
   rowsKeep,
   judged,
   Passed,
-  passed,
+  checkFiles,
   checkOutcome,
   check,
 }
@@ -62,7 +62,7 @@ use Rattle.rules.specs.Obeys.{
   ObeysTable,
   rowsAsk,
   tableRules,
-  Passes,
+  MayPass,
   CheckFault,
   ofPlan,
   ofLayout,
@@ -245,8 +245,8 @@ unfolding layoutOf
 sorted-frames p l e = subst (λ (l : Layout). Pairs Before (l .frames)) (laid-out p l e .is) (plan-frames p .sorted)
 
 module _ (plan table : List ℕ) where
-  pub passed-says : (c : Passed) → passed plan table ≡ ok c → Passes plan table
-  unfolding passed
+  pub passed-says : (c : Passed) → checkFiles plan table ≡ ok c → MayPass plan table
+  unfolding checkFiles
   passed-says c e =
       bind-case (readPlan plan) _ e λ p isRead e₁.
       bind-case (layout p) _ e₁ λ l isLaid e₂.
@@ -264,19 +264,19 @@ module _ (plan table : List ℕ) where
       }
 
   -- what is handed on when the table passes
-  abbrev passedOf : Passes plan table → Passed
+  abbrev passedOf : MayPass plan table → Passed
   passedOf h = record { layout = h .laid; table = tableOf (h .rows) }
 
-  pub passed-passes : (h : Passes plan table) → passed plan table ≡ ok (passedOf h)
-  unfolding passed
+  pub passed-passes : (h : MayPass plan table) → checkFiles plan table ≡ ok (passedOf h)
+  unfolding checkFiles
   passed-passes h =
       let sorted = sorted-frames (h .read) (h .laid) (h .isLaid) in
       let t = tableOf (h .rows) in
       let isTable = records-exact tableFollows 20 table (h .rows) .1 (h .areRows) in
       rw (h .isRead, h .isLaid, isTable, judged-exact (h .laid) sorted t .passes (obeys-kept (h .laid) sorted t (h .obeys)))
 
-  pub passed-faults : (n p : ℕ) → passed plan table ≡ refuse n p → CheckFault plan table n p
-  unfolding passed
+  pub passed-faults : (n p : ℕ) → checkFiles plan table ≡ refuse n p → CheckFault plan table n p
+  unfolding checkFiles
   passed-faults n p e =
       bind-refused (readPlan plan) _ e ofPlan λ q isRead e₁.
       bind-refused (layout q) _ e₁ (ofLayout isRead) λ l isLaid e₂.
@@ -287,8 +287,8 @@ module _ (plan table : List ℕ) where
       (λ f. ofTable isRead isLaid (records-exact tableFollows 20 table rs .0 areRows) (judged-exact l sorted (tableOf rs) .refuses n p f))
       (λ _ _ f. refuse≢ok (sym f))
 
-  pub fault-refuses : (n p : ℕ) → CheckFault plan table n p → passed plan table ≡ refuse n p
-  unfolding passed
+  pub fault-refuses : (n p : ℕ) → CheckFault plan table n p → checkFiles plan table ≡ refuse n p
+  unfolding checkFiles
   fault-refuses n p (ofPlan e) = rw e
   fault-refuses n p (ofLayout a e) = rw (a, e)
   fault-refuses n p (ofRecords a b e f) = rw (a, b, records-refused tableFollows 20 table n p .1 (e, f))
@@ -299,7 +299,7 @@ module _ (plan table : List ℕ) where
 -- ---- the checker
 
 module _ (plan table : List ℕ) (rows : List FrameRow) where
-  pub lent-enough : 256 ≤ length rows → check plan table rows ≡ checkOutcome (passed plan table) rows
+  pub lent-enough : 256 ≤ length rows → check plan table rows ≡ checkOutcome (checkFiles plan table) rows
   unfolding check
   lent-enough h = rw (le-leb 256 (length rows) h, check)
 
@@ -315,15 +315,15 @@ module _ (plan table : List ℕ) (rows : List FrameRow) where
   answer-refused (ok c) n p e = refuse≢ok (sym e)
   answer-refused (refuse m q) n p e = rw (refuse-number e, refuse-place e)
 
-  passes-only : (256 ≤ length rows) ⊎ (length rows < 256) → check plan table rows .answer ≡ ok tt → (256 ≤ length rows) × Passes plan table
-  passes-only (inl h) e = let c = answer-ok (passed plan table) (rw (lent-enough h) at e) in (h, passed-says plan table (c .0) (c .1))
+  passes-only : (256 ≤ length rows) ⊎ (length rows < 256) → check plan table rows .answer ≡ ok tt → (256 ≤ length rows) × MayPass plan table
+  passes-only (inl h) e = let c = answer-ok (checkFiles plan table) (rw (lent-enough h) at e) in (h, passed-says plan table (c .0) (c .1))
   passes-only (inr h) e = let f : refuse 19 256 ≡ ok tt = rw (lent-short h) at e in refuse≢ok f
 
-  passes-all : (256 ≤ length rows) × Passes plan table → check plan table rows .answer ≡ ok tt
+  passes-all : (256 ≤ length rows) × MayPass plan table → check plan table rows .answer ≡ ok tt
   passes-all h = rw (lent-enough (h .0), passed-passes plan table (h .1))
 
   -- the checker passes exactly the tables of laid out plans that keep every rule
-  pub checker-exact : (check plan table rows .answer ≡ ok tt) ↔ ((256 ≤ length rows) × Passes plan table)
+  pub checker-exact : (check plan table rows .answer ≡ ok tt) ↔ ((256 ≤ length rows) × MayPass plan table)
   checker-exact = (passes-only (le-or-lt 256 (length rows)), passes-all)
 
   -- 19 before all; else the first fault
@@ -331,7 +331,7 @@ module _ (plan table : List ℕ) (rows : List FrameRow) where
   CheckRefuses n p = ((length rows < 256) × (n ≡ 19) × (p ≡ 256)) ⊎ ((256 ≤ length rows) × CheckFault plan table n p)
 
   refuses-only : (256 ≤ length rows) ⊎ (length rows < 256) → (n p : ℕ) → check plan table rows .answer ≡ refuse n p → CheckRefuses n p
-  refuses-only (inl h) n p e = inr (h, passed-faults plan table n p (answer-refused (passed plan table) n p (rw (lent-enough h) at e)))
+  refuses-only (inl h) n p e = inr (h, passed-faults plan table n p (answer-refused (checkFiles plan table) n p (rw (lent-enough h) at e)))
   refuses-only (inr h) n p e =
       let f : refuse 19 256 ≡ refuse n p = rw (lent-short h) at e in
       inl (h, sym (refuse-number f), sym (refuse-place f))

@@ -47,8 +47,8 @@ use Rattle.rules.specs.Table.{
   outcome,
   make,
 }
-use Rattle.rules.specs.Checker.{TableRead, rowAt, noDataRow, Passed, passed, startIn, isFrameOf, checkedRow, check}
-use Rattle.rules.specs.Obeys.{frameAt, NamesFrame, NamesNew, TimeIsRight, IsReleased, IsInTime, IsSpaced, ObeysTable, Passes}
+use Rattle.rules.specs.Checker.{TableRead, rowAt, noDataRow, Passed, checkFiles, startIn, isFrameOf, checkedRow, check}
+use Rattle.rules.specs.Obeys.{frameAt, NamesFrame, NamesNew, TimeIsRight, IsReleased, IsInTime, IsSpaced, ObeysTable, MayPass}
 use Rattle.rules.proofs.PlanKept.{PlanKept, readable-kept}
 use Rattle.rules.proofs.LaidOut.{LaidOut, laid-out, period-kept, FrameKept, frames-kept, control-kept, control-count, gap-within}
 use Rattle.rules.proofs.FramesOf.{Before, before-not-same, one-of-a-pair, plan-frames}
@@ -340,7 +340,7 @@ module _ {plan : List ℕ} {room : ℕ} {t : MadeTable} (m : TableMade plan room
   read-back : records tableFollows 20 (t .table) ≡ ok (tableRecords (m .laid) (m .placed))
   read-back = ap (records tableFollows 20) (sym bytes-are) ∙ table-reads (m .laid) (m .placed) (fineOf .fit)
 
-  pub made-keeps : Passes plan (t .table)
+  pub made-keeps : MayPass plan (t .table)
   made-keeps =
       record {
         read = m .read;
@@ -353,7 +353,7 @@ module _ {plan : List ℕ} {room : ℕ} {t : MadeTable} (m : TableMade plan room
       }
 
   -- what the checker hands on is what was laid out and written
-  pub made-passed : passed plan (t .table) ≡ ok (record { layout = m .laid; table = tableRead (m .laid) (m .placed) })
+  pub made-passed : checkFiles plan (t .table) ≡ ok (record { layout = m .laid; table = tableRead (m .laid) (m .placed) })
   unfolding made-keeps
   made-passed = passed-passes plan (t .table) made-keeps ∙ rw (table-read (m .laid) (m .placed))
 
@@ -362,7 +362,7 @@ module _ {plan : List ℕ} {room : ℕ} {t : MadeTable} (m : TableMade plan room
   made-checked lent w = lent-enough plan (t .table) lent w ∙ rw (made-passed, fineOf .rows, rows-are)
 
 -- Whatever the maker makes passes the checker.
-pub made-passes : (plan : List ℕ) (room : ℕ) (t : MadeTable) → tableFor plan room ≡ ok t → (c : Passed) × (passed plan (t .table) ≡ ok c)
+pub made-passes : (plan : List ℕ) (room : ℕ) (t : MadeTable) → tableFor plan room ≡ ok t → (c : Passed) × (checkFiles plan (t .table) ≡ ok c)
 made-passes plan room t e =
     let m = table-made plan room t e in
     (record { layout = m .laid; table = tableRead (m .laid) (m .placed) }, made-passed m)

@@ -58,7 +58,7 @@ use Rattle.rules.specs.Plan.{
   planOf,
   count,
   countFits,
-  passes,
+  eachNumber,
   isThere,
   namesAreThere,
   isWithin,
@@ -168,19 +168,19 @@ plan-read file p e =
 
 -- ---- bodies by kind
 
--- the k-th number of a body passes the test of the k-th field
+-- the k-th number of a body eachNumber the test of the k-th field
 pub record BodyKept (counts : ℕ → ℕ) (kind : ℕ) (b : List ℕ) : Type 0 where
   pub there : (k : ℕ) → k < length (fields kind) → isThere counts (getD (fields kind) k (free 0)) (nth b k) ≡ true
   pub within : (k : ℕ) → k < length (fields kind) → isWithin (getD (fields kind) k (free 0)) (nth b k) ≡ true
   pub ordered : payloadsOrdered (record { kind = kind; numbers = b }) ≡ true
 
-passes-at : (test : Field → ℕ → Bool) (fs : List Field) (b : List ℕ) → length b ≡ length fs → passes test fs b ≡ true
+passes-at : (test : Field → ℕ → Bool) (fs : List Field) (b : List ℕ) → length b ≡ length fs → eachNumber test fs b ≡ true
     → (k : ℕ) → k < length fs → test (getD fs k (free 0)) (nth b k) ≡ true
 passes-at test [] b l e k w = absurd (not-suc-le-zero w)
 passes-at test (f ∷ fs) [] l e k w = absurd (omega (arith, l))
-passes-at test (f ∷ fs) (x ∷ b) l e zero w = both-left (test f x) (passes test fs b) e
+passes-at test (f ∷ fs) (x ∷ b) l e zero w = both-left (test f x) (eachNumber test fs b) e
 passes-at test (f ∷ fs) (x ∷ b) l e (suc k) w =
-    passes-at test fs b (suc-inj l) (both-right (test f x) (passes test fs b) e) k (le-of-suc-le-suc w)
+    passes-at test fs b (suc-inj l) (both-right (test f x) (eachNumber test fs b) e) k (le-of-suc-le-suc w)
 
 body-kept : (counts : ℕ → ℕ) (kind : ℕ) (r : Rec) → isKind kind r ≡ true → Sized r → namesAreThere counts r ≡ true
     → numbersAreWithin r ≡ true
@@ -193,8 +193,8 @@ body-kept counts kind r e s n w =
       there = passes-at (isThere counts) (fields (r .kind)) (r .numbers) s n;
       within =
           passes-at isWithin (fields (r .kind)) (r .numbers) s
-          (both-left (passes isWithin (fields (r .kind)) (r .numbers)) (payloadsOrdered r) w);
-      ordered = both-right (passes isWithin (fields (r .kind)) (r .numbers)) (payloadsOrdered r) w;
+          (both-left (eachNumber isWithin (fields (r .kind)) (r .numbers)) (payloadsOrdered r) w);
+      ordered = both-right (eachNumber isWithin (fields (r .kind)) (r .numbers)) (payloadsOrdered r) w;
     })
 
 module _ {file : List ℕ} {p : Plan} (h : PlanRead file p) where
@@ -487,6 +487,6 @@ module _ (file : List ℕ) (p : Plan) (h : PlanRead file p) where
         once = once-only (planOf (h .rs)) five;
       })
 
--- a plan that passes 1 to 5 keeps every count, name, range and sentence of them
+-- a plan that eachNumber 1 to 5 keeps every count, name, range and sentence of them
 pub readable-kept : (file : List ℕ) (p : Plan) → readPlan file ≡ ok p → PlanKept p
 readable-kept file p e = plan-kept file p (plan-read file p e)

@@ -38,7 +38,7 @@ use Rattle.rules.specs.Checker.{
   firstRow,
   judged,
   tableOf,
-  passed,
+  checkFiles,
   rowsKeep,
 }
 use Rattle.rules.proofs.RecordsExact.{records-refused}
@@ -87,8 +87,8 @@ judged-gives l t =
     (gives-then (rows-give 25 t (releaseKept l t) tt tt)
     (gives-then (rows-give 26 t (deadlineKept t) tt tt) (rows-give 27 t (gapKept l t) tt tt))))))
 
-pub passed-gives : (plan table : List ℕ) → Gives 1 27 (passed plan table)
-unfolding passed
+pub passed-gives : (plan table : List ℕ) → Gives 1 27 (checkFiles plan table)
+unfolding checkFiles
 passed-gives plan table =
     gives-bind (gives-within (lit≤ tt) (lit≤ tt) (plan-gives plan)) λ p.
     gives-bind (gives-within (lit≤ tt) (lit≤ tt) (layout-gives p)) λ l.

@@ -20,7 +20,7 @@ use Rattle.laws.proofs.Orders.{le-or-lt}
 use Rattle.laws.proofs.Faults.{Exact, exact-rule, exact-then, fault-of-rule, rule-of-fault}
 use Rattle.laws.proofs.Refusals.{Gives, gives-ok, gives-at, gives-then}
 use Rattle.rules.specs.Playing.{modulePlaces, taskPlaces, Input, isGiven}
-use Rattle.rules.specs.Checker.{Passed, passed}
+use Rattle.rules.specs.Checker.{Passed, checkFiles}
 use Rattle.rules.specs.Station.{Kept, keptOf, State, runPeriod, taskAge, runAge, isRunning, isAwaited, resultAwaited, fitsIn, resultFits, isLastChance, resultInTime, isModeOf, maySwitch, mayTake, changeAllowed, judgedTick, tick, started, step, Ticked, startsWell, Begun, begin}
 use Rattle.rules.specs.Obeys.{
   noRule,
@@ -244,7 +244,7 @@ module _ (plan table : List ℕ) (starting : ℕ → Option ℕ) where
   begins : (b : Begun) → begin plan table starting ≡ ok b → MayBegin plan table starting b
   unfolding begin
   begins b e =
-      bind-case (passed plan table) _ e λ c passes e₁.
+      bind-case (checkFiles plan table) _ e λ c passes e₁.
       then-case (at 40 0 (firstBad (startsWell (keptOf c) starting) (upTo modulePlaces))) _ e₁ λ u starts e₂.
       record { played = c; passes = passes; starts = starts-faults c .says starts .0 .each; is = sym (ok-injective e₂) }
 
@@ -258,10 +258,10 @@ module _ (plan table : List ℕ) (starting : ℕ → Option ℕ) where
   begin-exact b = (begins b, may-begin b)
 
   begin-refused : (n p : ℕ) → begin plan table starting ≡ refuse n p
-      → (passed plan table ≡ refuse n p) ⊎ ((c : Passed) × (passed plan table ≡ ok c) × BreaksAt (startRule (keptOf c) starting) n p)
+      → (checkFiles plan table ≡ refuse n p) ⊎ ((c : Passed) × (checkFiles plan table ≡ ok c) × BreaksAt (startRule (keptOf c) starting) n p)
   unfolding begin
   begin-refused n p e =
-      bind-refused (passed plan table) _ e inl λ c passes e₁.
+      bind-refused (checkFiles plan table) _ e inl λ c passes e₁.
       then-refused (at 40 0 (firstBad (startsWell (keptOf c) starting) (upTo modulePlaces))) _ e₁
       (λ f. inr (c, passes, broken c (starts-faults c .refuses n p f)))
       (λ u f g. refuse≢ok (sym g))
@@ -274,7 +274,7 @@ module _ (plan table : List ℕ) (starting : ℕ → Option ℕ) where
   unfolding begin
   refuses-starts p h = rw (h .passes, starts-faults (h .played) .refused 40 p (inl (h .broken)))
 
-  refuses-table : (n p : ℕ) → passed plan table ≡ refuse n p → begin plan table starting ≡ refuse n p
+  refuses-table : (n p : ℕ) → checkFiles plan table ≡ refuse n p → begin plan table starting ≡ refuse n p
   unfolding begin
   refuses-table n p e = rw e
 
@@ -282,16 +282,16 @@ module _ (plan table : List ℕ) (starting : ℕ → Option ℕ) where
   pub begin-forty : (p : ℕ) → (begin plan table starting ≡ refuse 40 p) ↔ BeginBrokenAt plan table starting p
   begin-forty p = (λ e. which (begin-refused 40 p e), refuses-starts p)
     where
-      which : (passed plan table ≡ refuse 40 p) ⊎ ((c : Passed) × (passed plan table ≡ ok c) × BreaksAt (startRule (keptOf c) starting) 40 p)
+      which : (checkFiles plan table ≡ refuse 40 p) ⊎ ((c : Passed) × (checkFiles plan table ≡ ok c) × BreaksAt (startRule (keptOf c) starting) 40 p)
           → BeginBrokenAt plan table starting p
       which (inl e) = absurd (omega (arith, passed-gives plan table .number 40 p e))
       which (inr h) = record { played = h .0; passes = h .1; broken = h .2 }
 
   -- any other number of a beginning is the checker's
-  pub begin-checks : (n p : ℕ) → (n ≡ 40 → ⊥) → (begin plan table starting ≡ refuse n p) ↔ (passed plan table ≡ refuse n p)
+  pub begin-checks : (n p : ℕ) → (n ≡ 40 → ⊥) → (begin plan table starting ≡ refuse n p) ↔ (checkFiles plan table ≡ refuse n p)
   begin-checks n p other = (λ e. which (begin-refused n p e), refuses-table n p)
     where
-      which : (passed plan table ≡ refuse n p) ⊎ ((c : Passed) × (passed plan table ≡ ok c) × BreaksAt (startRule (keptOf c) starting) n p)
-          → passed plan table ≡ refuse n p
+      which : (checkFiles plan table ≡ refuse n p) ⊎ ((c : Passed) × (checkFiles plan table ≡ ok c) × BreaksAt (startRule (keptOf c) starting) n p)
+          → checkFiles plan table ≡ refuse n p
       which (inl e) = e
       which (inr h) = absurd (other (sym (h .2 .itsNumber)))

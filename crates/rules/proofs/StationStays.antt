@@ -23,7 +23,7 @@ use Rattle.rules.specs.Plan.{Mode, Task, Invocation, Plan, noMode, noTas
 use Rattle.rules.specs.Frames.{moduleNode, busPeriod, ControlRow, noControlRow, controlRows, Layout, layoutOf}
 use Rattle.rules.specs.LatestRelease.{noFrame}
 use Rattle.rules.specs.Table.{DataRow}
-use Rattle.rules.specs.Checker.{TableRead, tableOf, controlAt, noDataRow, rowAt, Passed, passed}
+use Rattle.rules.specs.Checker.{TableRead, tableOf, controlAt, noDataRow, rowAt, Passed, checkFiles}
 use Rattle.rules.specs.Playing.{nodePlaces, modulePlaces, taskPlaces, Input, isGiven, isRun, periodAmong, periodIn}
 use Rattle.rules.specs.Station.{
   Kept,
@@ -316,7 +316,7 @@ module _ (p : Plan) (kept : PlanKept p) {l : Layout} (laid : LaidOut p l) (t : T
       }
 
 -- what a station keeps of a table that passes
-pub kept-begins : (plan table : List ℕ) (c : Passed) → passed plan table ≡ ok c → KeptIn (keptOf c)
+pub kept-begins : (plan table : List ℕ) (c : Passed) → checkFiles plan table ≡ ok c → KeptIn (keptOf c)
 kept-begins plan table c e =
     let h = passed-says plan table c e in
     let same = ok-injective (sym (passed-passes plan table h) ∙ e) in

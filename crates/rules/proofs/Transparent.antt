@@ -18,11 +18,11 @@ use Rattle.laws.proofs.Members.{all-member, all-getD, any-member, any-among}
 use Rattle.laws.proofs.Res.{ok-injective, bind-case, then-case, at-ok}
 use Rattle.rules.specs.Plan.{Plan, Invocation, Connection, readPlan, noTask, theTask}
 use Rattle.rules.specs.Frames.{taskNode, invokes, leaves, isBusTask, Layout, layoutOf}
-use Rattle.rules.specs.Checker.{TableRead, Passed, passed, tableOf}
+use Rattle.rules.specs.Checker.{TableRead, Passed, checkFiles, tableOf}
 use Rattle.rules.specs.Playing.{modulePlaces, Input, isRun, periodAmong, periodIn}
 use Rattle.rules.specs.Station.{Kept, State, Begun, keptOf, stateAtStart, homeNode, runPeriod, endsNow, isModeOf, holdsModeOf, startsWell, step, tick, begin}
 use Rattle.rules.specs.OneBoard.{value}
-use Rattle.rules.specs.Obeys.{MayTick, ObeysTable, Passes}
+use Rattle.rules.specs.Obeys.{MayTick, ObeysTable, MayPass}
 use Rattle.rules.specs.History.{played, homeIn, firstIn, boardValue, brings, consumes}
 use Rattle.rules.proofs.CheckerExact.{passed-says, passed-passes}
 use Rattle.rules.proofs.PlanKept.{PlanKept, readable-kept}
@@ -47,7 +47,7 @@ pub record Beginning (plan table : List ℕ) (starting : ℕ → Option ℕ) (b 
   pub starts : (m : ℕ) → m < modulePlaces → startsWell (keptFor read rows) starting m ≡ true
 
 -- the checker's answer, with the plan's layout in its place
-passed-is : (plan table : List ℕ) (c : Passed) → passed plan table ≡ ok c → (h : Passes plan table)
+passed-is : (plan table : List ℕ) (c : Passed) → checkFiles plan table ≡ ok c → (h : MayPass plan table)
     → c ≡ record { layout = layoutOf (h .read); table = tableOf (h .rows) }
 passed-is plan table c e h =
     let same : record { layout = h .laid; table = tableOf (h .rows) } ≡ c = ok-injective (sym (passed-passes plan table h) ∙ e) in
@@ -57,7 +57,7 @@ passed-is plan table c e h =
 pub begun : (plan table : List ℕ) (starting : ℕ → Option ℕ) (b : Begun) → begin plan table starting ≡ ok b → Beginning plan table starting b
 unfolding begin
 begun plan table starting b e =
-    bind-case (passed plan table) _ e λ c isPassed e₁.
+    bind-case (checkFiles plan table) _ e λ c isPassed e₁.
     then-case (at 40 0 (firstBad (startsWell (keptOf c) starting) (upTo modulePlaces))) _ e₁ λ _ a₄₀ e₂.
     let h = passed-says plan table c isPassed in
     let laid = laid-out (h .read) (h .laid) (h .isLaid) in

@@ -127,8 +127,8 @@ pub record Passed : Type 0 where
   pub table : TableRead
 
 -- Refusals 1 to 11 for the plan, then 20 to 27.
-unfoldable pub passed : List ℕ → List ℕ → Res Passed
-passed plan table = do
+unfoldable pub checkFiles : List ℕ → List ℕ → Res Passed
+checkFiles plan table = do
   p ← readPlan plan
   l ← layout p
   rs ← records tableFollows 20 table
@@ -159,6 +159,6 @@ checkOutcome (refuse n p) rows = record { answer = refuse n p; rows = replicate 
 unfoldable pub check : List ℕ → List ℕ → List FrameRow → Checked
 check plan table rows =
     elim (leb mostFrames (length rows)) [
-      | true ↦ checkOutcome (passed plan table) rows
+      | true ↦ checkOutcome (checkFiles plan table) rows
       | false ↦ record { answer = refuse 19 mostFrames; rows = rows }
     ]

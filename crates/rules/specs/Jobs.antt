@@ -9,7 +9,7 @@ use Rattle.laws.specs.Res.{Res, ok, refuse}
 use Rattle.laws.specs.Lists.{joined}
 use Rattle.rules.specs.Records.{Rec}
 use Rattle.rules.specs.Table.{recordBytes, MadeTable, tableFor, zeroRow, make}
-use Rattle.rules.specs.Checker.{passed}
+use Rattle.rules.specs.Checker.{checkFiles}
 
 -- an entry: what is made of a plan in a room, or refused; a table that passes, or is refused; too few rows lent
 pub data Entry : Type 0 where
@@ -40,8 +40,8 @@ isOk (refuse n p) = false
 abbrev pub holds : Entry → Bool
 holds (made plan room table) = isMade (tableFor plan room) table
 holds (notMade plan room number place) = isRefused (tableFor plan room) number place
-holds (passes plan table) = isOk (passed plan table)
-holds (fails plan table number place) = isRefused (passed plan table) number place
+holds (passes plan table) = isOk (checkFiles plan table)
+holds (fails plan table number place) = isRefused (checkFiles plan table) number place
 holds (rowsLent rows number place) = isRefused (make [] (replicate rows zeroRow) [] .answer) number place
 
 -- a record by its kind and its numbers, and a file of records with the end record

@@ -13,7 +13,7 @@ use Rattle.rules.specs.Plan.{Plan, readPlan}
 use Rattle.rules.specs.Frames.{Frame, Layout, layout, gapTime}
 use Rattle.rules.specs.LatestRelease.{Placed, noFrame, frameTime, latestRelease}
 use Rattle.rules.specs.Table.{tableBytes}
-use Rattle.rules.specs.Checker.{TableRead, tableOf, controlAt, rowAt, stopBefore, firstRow, Passed, passed}
+use Rattle.rules.specs.Checker.{TableRead, tableOf, controlAt, rowAt, stopBefore, firstRow, Passed, checkFiles}
 use Rattle.rules.specs.Playing.{modulePlaces, taskPlaces, Input}
 use Rattle.rules.specs.Station.{Kept, keptOf, State, stateAtStart, runPeriod, taskAge, runAge, Begun}
 
@@ -125,7 +125,7 @@ tableRules l t =
 
 -- What the checker asks of plan and table: the plan passes 1 to 5 and is laid out by 6 to 11, the table reads as records (20) and
 -- keeps 21 to 27.
-pub record Passes (plan table : List ℕ) : Type 0 where
+pub record MayPass (plan table : List ℕ) : Type 0 where
   pub read : Plan
   pub isRead : readPlan plan ≡ ok read
   pub laid : Layout
@@ -264,12 +264,12 @@ startRule k starting = record { number = 40; first = 0; places = modulePlaces; a
 -- What a beginning needs: a table that passes, and each starting place holding what it must.
 pub record MayBegin (plan table : List ℕ) (starting : ℕ → Option ℕ) (b : Begun) : Type 0 where
   pub played : Passed
-  pub passes : passed plan table ≡ ok played
+  pub passes : checkFiles plan table ≡ ok played
   pub starts : (m : ℕ) → m < modulePlaces → StartsRight (keptOf played) starting m
   pub is : b ≡ record { kept = keptOf played; state = stateAtStart starting }
 
 -- The table passes, and the lowest starting place that does not hold what it must is m.
 pub record BeginBrokenAt (plan table : List ℕ) (starting : ℕ → Option ℕ) (m : ℕ) : Type 0 where
   pub played : Passed
-  pub passes : passed plan table ≡ ok played
+  pub passes : checkFiles plan table ≡ ok played
   pub broken : BreaksAt (startRule (keptOf played) starting) 40 m

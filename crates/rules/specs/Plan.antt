@@ -112,11 +112,11 @@ mostCounts = mostNodes ∷ mostModules ∷ mostModes ∷ mostTasks ∷ mostInvoc
 unfoldable pub countFits : List Rec → ℕ → Bool
 countFits rs k = leb (nth leastCounts k) (count rs (2 + k)) && leb (count rs (2 + k)) (nth mostCounts k)
 
--- every number of a body passes the test of its field
-abbrev pub passes : (Field → ℕ → Bool) → List Field → List ℕ → Bool
-passes test [] numbers = true
-passes test (f ∷ fs) [] = true
-passes test (f ∷ fs) (x ∷ xs) = test f x && passes test fs xs
+-- every number of a body eachNumber the test of its field
+abbrev pub eachNumber : (Field → ℕ → Bool) → List Field → List ℕ → Bool
+eachNumber test [] numbers = true
+eachNumber test (f ∷ fs) [] = true
+eachNumber test (f ∷ fs) (x ∷ xs) = test f x && eachNumber test fs xs
 
 -- Refusal 3: "a number names a node, module, mode or task not there".
 abbrev pub isThere : (ℕ → ℕ) → Field → ℕ → Bool
@@ -125,7 +125,7 @@ isThere counts (ranges w low high) x = true
 isThere counts (free w) x = true
 
 unfoldable pub namesAreThere : (ℕ → ℕ) → Rec → Bool
-namesAreThere counts r = passes (isThere counts) (fields (r .kind)) (r .numbers)
+namesAreThere counts r = eachNumber (isThere counts) (fields (r .kind)) (r .numbers)
 
 -- Refusal 4: "another number is outside its range"; "largest payload .. not below the least" (reading 7).
 abbrev pub isWithin : Field → ℕ → Bool
@@ -137,7 +137,7 @@ unfoldable pub payloadsOrdered : Rec → Bool
 payloadsOrdered r = cond (isKind 1 r) (leb (nth (r .numbers) 2) (nth (r .numbers) 3)) true
 
 unfoldable pub numbersAreWithin : Rec → Bool
-numbersAreWithin r = passes isWithin (fields (r .kind)) (r .numbers) && payloadsOrdered r
+numbersAreWithin r = eachNumber isWithin (fields (r .kind)) (r .numbers) && payloadsOrdered r
 
 -- things by number; a number that names nothing gives the zero thing
 abbrev pub noMode : Mode

@@ -12,7 +12,7 @@ use Rattle.laws.specs.Numbers.{divides}
 use Rattle.rules.specs.Plan.{theMode, theTask}
 use Rattle.rules.specs.Frames.{moduleNode, isBusTask, isSending, ControlRow}
 use Rattle.rules.specs.Table.{DataRow}
-use Rattle.rules.specs.Checker.{controlAt, rowAt, Passed, passed}
+use Rattle.rules.specs.Checker.{controlAt, rowAt, Passed, checkFiles}
 use Rattle.rules.specs.Playing.{modulePlaces, taskPlaces, Input, isGiven, periodIn}
 
 -- "It keeps its own copy of what it needs": of the plan the modules, modes and tasks, the runs (`run mode task` is the invocation's
@@ -336,6 +336,6 @@ pub record Begun : Type 0 where
 -- "It begins only with a passed table (else the checker's number) and one mode for each module."
 unfoldable pub begin : List ℕ → List ℕ → (ℕ → Option ℕ) → Res Begun
 begin plan table starting = do
-  c ← passed plan table
+  c ← checkFiles plan table
   at 40 0 (firstBad (startsWell (keptOf c) starting) (upTo modulePlaces))
   ok (record { kept = keptOf c; state = stateAtStart starting })

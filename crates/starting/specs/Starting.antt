@@ -17,7 +17,7 @@ use Rattle.station.specs.Memory.{notBegun}
 use Rattle.stationrefusals.specs.declared.Play.{Play}
 use Rattle.station.specs.declared.Station.{Station}
 use Rattle.answers.specs.declared.Verdict.{Verdict}
-use Rattle.answers.specs.declared.Verdict.the-variants.{Passed, Refused}
+use Rattle.answers.specs.declared.Verdict.the-variants.{Fine, Refused}
 use Rattle.starting.specs.declared.Begun.{Begun}
 
 -- "a module's holds no mode of its own, or a later one holds anything"
@@ -72,7 +72,7 @@ startedBy kept starting =
 
 -- what a station that keeps a passed plan and table begins as
 abbrev pub begunAt : Station → List Change → Option ℕ → Begun
-begunAt kept starting none = record { answer = Passed; station = startedBy kept starting }
+begunAt kept starting none = record { answer = Fine; station = startedBy kept starting }
 begunAt kept starting (some m) = record { answer = Refused (NotBegun (record { 0 = m })); station = notBegun }
 
 unfoldable pub begunBy : Station → List Change → Begun

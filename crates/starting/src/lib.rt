@@ -79,7 +79,7 @@ pub fn begin_with(kept: Station, starting: [Change; 16]) -> Begun
     match wrong_start(starting, kept.modules.count, modes.count, &modes.homes) {
         Found::At(m) => refused(Refusal::NotBegun(ModuleNo(m as u8))),
         Found::Nothing => Begun {
-            answer: Verdict::Passed,
+            answer: Verdict::Fine,
             station: started(kept, starting),
         },
     }

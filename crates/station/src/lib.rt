@@ -178,7 +178,7 @@ pub fn turned_by<'a>(
             said: Said::Refused(x),
             turn: at_rest(play),
         },
-        Verdict::Passed => accepted(
+        Verdict::Fine => accepted(
             results,
             changes,
             modules,

@@ -174,7 +174,7 @@ pub fn judged_results<'a>(
                 worsts,
             ) {
                 Found::At(t) => Verdict::Refused(Refusal::ResultOverdue(TaskNo(t as u8))),
-                Found::Nothing => Verdict::Passed,
+                Found::Nothing => Verdict::Fine,
             },
         },
     }
@@ -195,7 +195,7 @@ pub fn judged_changes<'a>(
 {
     match before {
         Verdict::Refused(x) => Verdict::Refused(x),
-        Verdict::Passed => match not_allowed(
+        Verdict::Fine => match not_allowed(
             changes,
             modules,
             modes,
@@ -205,7 +205,7 @@ pub fn judged_changes<'a>(
             ages,
         ) {
             Found::At(m) => Verdict::Refused(Refusal::ChangeNotAllowed(ModuleNo(m as u8))),
-            Found::Nothing => Verdict::Passed,
+            Found::Nothing => Verdict::Fine,
         },
     }
 }

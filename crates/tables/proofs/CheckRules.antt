@@ -12,7 +12,7 @@ use Rattle.rules.specs.Records.{records, tableFollows}
 use Rattle.rules.specs.Plan.{readPlan}
 use Rattle.rules.specs.Frames.{layout}
 use Rattle.rules.specs.Table.{FrameRow}
-use Rattle.rules.specs.Checker.{Passed, tableOf, judged, passed, checkedRow, check}
+use Rattle.rules.specs.Checker.{Passed, tableOf, judged, checkFiles, checkedRow, check}
 use Rattle.units.specs.declared.Frame.{Frame}
 use Rattle.framerows.specs.Frames.{rowOf, filled}
 use Rattle.framerows.proofs.Laid.{filled-is}
@@ -22,8 +22,8 @@ use Rattle.checked.proofs.Rules.{enough-is, short-is, check-answer, check-rows,
 use Rattle.tables.specs.Lent.{ChecksLent}
 use Rattle.tables.proofs.FewFrames.{few-laid}
 
-few-passed : (plan table : List ℕ) (c : Passed) → passed plan table ≡ ok c → length (c .layout .frames) ≤ 256
-unfolding passed
+few-passed : (plan table : List ℕ) (c : Passed) → checkFiles plan table ≡ ok c → length (c .layout .frames) ≤ 256
+unfolding checkFiles
 few-passed plan table c e =
     bind-case (readPlan plan) _ e λ p _ e₁.
     bind-case (layout p) _ e₁ λ l isLaid e₂.
@@ -31,7 +31,7 @@ few-passed plan table c e =
     then-case (judged l (tableOf rs)) _ e₃ λ _ _ e₄.
     subst (λ (c : Passed). length (c .layout .frames) ≤ 256) (ok-injective e₄) (few-laid p l isLaid)
 
-few-rows : (plan table : List ℕ) (rule : Res Passed) → passed plan table ≡ rule → length (rowsOf rule) ≤ 256
+few-rows : (plan table : List ℕ) (rule : Res Passed) → checkFiles plan table ≡ rule → length (rowsOf rule) ≤ 256
 few-rows plan table (ok c) e = rw (length-map (c .layout .frames) (checkedRow (c .table))) (few-passed plan table c e)
 few-rows plan table (refuse n p) e = lit≤ tt
 
@@ -39,7 +39,7 @@ few-checked : (plan table : List ℕ) (lent : ℕ) → length (rowsOf (lentPasse
 few-checked plan table lent = by-lent (le-or-lt 256 lent)
   where
     by-lent : (256 ≤ lent) ⊎ (lent < 256) → length (rowsOf (lentPassed plan table lent)) ≤ 256
-    by-lent (inl h) = rw (enough-is plan table lent h) (few-rows plan table (passed plan table) refl)
+    by-lent (inl h) = rw (enough-is plan table lent h) (few-rows plan table (checkFiles plan table) refl)
     by-lent (inr h) = rw (short-is plan table lent h) (lit≤ tt)
 
 pub checks-lent : (plan table : List ℕ) (ys zs : List Frame) (m : Checked) → zs ≡ filled (m .rows) ys → Checks m (lentPassed plan table (length ys))

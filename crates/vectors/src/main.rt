@@ -60,7 +60,7 @@ fn read(plan: &[u8]) {
     let reading = planrules::read(plan);
     let answer = reading.answer;
     match answer {
-        Verdict::Passed => say(b"sound"),
+        Verdict::Fine => say(b"sound"),
         Verdict::Refused(why) => say_refusal(why),
     }
 }
@@ -96,7 +96,7 @@ fn check(plan: &[u8], table: &[u8], lent: usize) {
     let checked = checker::check(plan, table, lent);
     let answer = checked.answer;
     match answer {
-        Verdict::Passed => say(b"passed rows"),
+        Verdict::Fine => say(b"passed rows"),
         Verdict::Refused(why) => say_refusal(why),
     }
     let rows = checked.rows;

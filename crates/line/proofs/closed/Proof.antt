@@ -8,7 +8,7 @@ use Rattle.answers.specs.declared.Refusal.the-variants.{PayloadTooLarge, Contro
 use Rattle.bus.specs.declared.Senders.{Senders}
 use Rattle.bus.specs.Senders.{sendersOf}
 use Rattle.line.specs.declared.Line.{Line}
-use Rattle.answers.specs.declared.Verdict.the-variants.{Passed}
+use Rattle.answers.specs.declared.Verdict.the-variants.{Fine}
 use Rattle.line.proofs.Ways.{lays-refused, lays-sound, ten-message, ten-control, eleven, sound}
 use borrow.Author.Needs.{needs}
 use Rattle.line.proofs.closed.Statement.{statement}
@@ -94,7 +94,7 @@ returns-4 c =
     let c2 = c1 .before .before .before .before in
     let start = c2 .before .before .before .before in
     let a = start .args in
-    lays-sound (layoutOf (seen (a .t1))) _ _ (ap (λ (x : Line). record { answer = Passed; line = x }) (c .line-of .ensures))
+    lays-sound (layoutOf (seen (a .t1))) _ _ (ap (λ (x : Line). record { answer = Fine; line = x }) (c .line-of .ensures))
     (sound (seen (a .t1)) _ _ (omega (arith, start .pre .0 .taskCount .most)) (omega (arith, start .pre .0 .nodeCount .most))
     (ap (λ (x : Senders). x .tasks) (start .pre .1 .0)) (ap (λ (x : Senders). x .payloads) (start .pre .1 .0))
     (start .pre .1 .1 .1 .1) (sym (c2 .before .messages-fit .ensures) ∙ not-false _ (c2 .if1 .left))
