@@ -2,7 +2,7 @@
 // slice, so there is one here, `fill`, and every choice that it makes is a covered function's.
 ghost use mathlib.Core.Path.{_≡_};
 ghost use Prim.Native.Nat.{_≤_};
-ghost use Rattle.framerows.specs.Frames.{zeroFrame, frameOf, withinPlaces, frameTable, endIn, filled};
+ghost use Rattle.framerows.specs.Frames.{frameOf, withinPlaces, frameTable, endIn, filled};
 use rows::Rows;
 use units::Frame;
 use units::TaskNo;

@@ -6,6 +6,7 @@ ghost use Rattle.laws.specs.Lists.{firstBad, upTo};
 ghost use Rattle.laws.specs.Loops.{stores};
 ghost use Rattle.naming.specs.Places.{keyOf, Numbered, Parted, hasKey, numberOf, numberAt, isNew, spread};
 ghost use Rattle.places.specs.Found.{foundOf};
+use places::Found;
 
 // Frames are numbered by deadline, then by task.
 fn key(deadline: u32, task: u8) -> u64

@@ -13,6 +13,7 @@ use figures::both;
 use figures::divides;
 use figures::lower;
 use figures::quotient;
+use places::Found;
 use plan::Invocation;
 use plan::Mode;
 use plan::Plan;

@@ -4,7 +4,7 @@ use mathlib.Core.List.{List}
 use Prim.Native.Nat.{ℕ}
 use Rattle.units.specs.declared.Frame.{Frame}
 use Rattle.framerows.proofs.Laid.{rows-once}
-use Rattle.linetable.specs.declared.Answer.{Verdict as MakerAnswer}
+use Rattle.linetable.specs.declared.Answer.{Answer as MakerAnswer}
 use Rattle.linetable.proofs.Unique as made
 use Rattle.answers.specs.declared.Verdict.{Verdict}
 use Rattle.checked.proofs.Unique as checked

@@ -6,7 +6,7 @@ use Rattle.rules.specs.Table.{make}
 use Rattle.rules.specs.Checker.{check}
 use Rattle.units.specs.declared.Frame.{Frame}
 use Rattle.framerows.specs.Frames.{rowOf}
-use Rattle.linetable.specs.declared.Answer.{Verdict as MakerAnswer}
+use Rattle.linetable.specs.declared.Answer.{Answer as MakerAnswer}
 use Rattle.linetable.specs.Making.{heardMade as heardMaker}
 use Rattle.answers.specs.declared.Verdict.{Verdict}
 use Rattle.answers.specs.Refusals.{heard as heardChecker}

@@ -45,8 +45,8 @@ use Rattle.outward.proofs.Answer as T
 use Rattle.outward.proofs.Answer.Laws as T′
 use Rattle.answers.specs.declared.Verdict.{Verdict}
 use Rattle.answers.specs.Refusals.{heard as heardIn}
-use Rattle.checked.proofs.Answer as B
-use Rattle.checked.proofs.Answer.Laws as B′
+use Rattle.answers.proofs.Verdict as B
+use Rattle.answers.proofs.Verdict.Laws as B′
 use Rattle.tables.specs.Lent.{ChecksLent}
 use Rattle.tables.proofs.check as inner
 use Rattle.tables.proofs.check.Symbol as inner-def

@@ -50,8 +50,8 @@ use Rattle.framerows.proofs.fill.Met as fill-thm
 use Rattle.answers.specs.declared.Verdict.{Verdict}
 use Rattle.checked.specs.declared.Checked.{Checked}
 use Rattle.checked.specs.Checking.{Checks, lentPassed, PassesExactly, RefusesExactly}
-use Rattle.checked.proofs.Answer as B
-use Rattle.checked.proofs.Answer.Laws as B′
+use Rattle.answers.proofs.Verdict as B
+use Rattle.answers.proofs.Verdict.Laws as B′
 use Rattle.checked.proofs.Checked as K
 use Rattle.checked.proofs.Checked.Laws as K′
 use Rattle.checker.proofs.check as checked
