@@ -180,5 +180,5 @@ olbiothar-check-spec 𝓤 H 𝓜 𝓖 𝓡 =
     (olbiothar-check-meets 𝓤 H (𝓖 .A) (givenOf 𝓤 H 𝓜 𝓖) (𝓜 .mem) (𝓡 .run) (tablesOf 𝓤 H 𝓜 (tables 𝓤 H 𝓜 𝓡 code.env))
     (cited 𝓤 H (InnerMet 𝓤 H (𝓖 .A) (givenOf 𝓤 H 𝓜 𝓖) (𝓜 .mem) (𝓡 .run)) 𝓜 𝓡 code.env #inner inner-def.routine
     code.calls-tables·check (inner-thm.met 𝓤 H 𝓜 𝓖 𝓡))
-    (cited 𝓤 H (Plain B.the-row T.the-row ToldSays 𝓤 H (𝓖 .A)) 𝓜 𝓡 code.env #told told-def.routine code.calls-outward·checked
+    (cited 𝓤 H (Plain B.the-row T.the-row ToldSays 𝓤 H (𝓖 .A)) 𝓜 𝓡 code.env #told told-def.routine code.calls-outward·judged
     (told-thm.met 𝓤 H 𝓜 𝓖 𝓡)))
