@@ -18,6 +18,7 @@ use Rattle.laws.proofs.Res.{refuse≢ok, refuse-number, refuse-place, bind-case
 use Rattle.laws.proofs.Faults.{Exact, exact-rule, exact-once, exact-then, fault-of-rule, rule-of-fault}
 use Rattle.laws.proofs.Orders.{le-or-lt}
 use Rattle.laws.proofs.Members.{Pairs, member-getD}
+use Rattle.rules.specs.Limits.{mostFrames}
 use Rattle.rules.specs.Records.{records, tableFollows}
 use Rattle.rules.specs.Plan.{Plan, readPlan}
 use Rattle.rules.specs.Frames.{Frame, ControlRow, Layout, layout, layoutOf, gapTime}
@@ -299,13 +300,13 @@ module _ (plan table : List ℕ) where
 -- ---- the checker
 
 module _ (plan table : List ℕ) (rows : List FrameRow) where
-  pub lent-enough : 256 ≤ length rows → check plan table rows ≡ checkOutcome (checkFiles plan table) rows
+  pub lent-enough : mostFrames ≤ length rows → check plan table rows ≡ checkOutcome (checkFiles plan table) rows
   unfolding check
-  lent-enough h = rw (le-leb 256 (length rows) h, check)
+  lent-enough h = rw (le-leb mostFrames (length rows) h, check)
 
-  pub lent-short : length rows < 256 → check plan table rows ≡ record { answer = refuse 19 256; rows = rows }
+  pub lent-short : length rows < mostFrames → check plan table rows ≡ record { answer = refuse 19 mostFrames; rows = rows }
   unfolding check
-  lent-short h = rw (lt-leb 256 (length rows) h, check)
+  lent-short h = rw (lt-leb mostFrames (length rows) h, check)
 
   answer-ok : (m : Res Passed) → checkOutcome m rows .answer ≡ ok tt → (c : Passed) × (m ≡ ok c)
   answer-ok (ok c) e = (c, refl)
@@ -315,25 +316,25 @@ module _ (plan table : List ℕ) (rows : List FrameRow) where
   answer-refused (ok c) n p e = refuse≢ok (sym e)
   answer-refused (refuse m q) n p e = rw (refuse-number e, refuse-place e)
 
-  passes-only : (256 ≤ length rows) ⊎ (length rows < 256) → check plan table rows .answer ≡ ok tt → (256 ≤ length rows) × MayPass plan table
+  passes-only : (mostFrames ≤ length rows) ⊎ (length rows < mostFrames) → check plan table rows .answer ≡ ok tt → (mostFrames ≤ length rows) × MayPass plan table
   passes-only (inl h) e = let c = answer-ok (checkFiles plan table) (rw (lent-enough h) at e) in (h, passed-says plan table (c .0) (c .1))
-  passes-only (inr h) e = let f : refuse 19 256 ≡ ok tt = rw (lent-short h) at e in refuse≢ok f
+  passes-only (inr h) e = let f : refuse 19 mostFrames ≡ ok tt = rw (lent-short h) at e in refuse≢ok f
 
-  passes-all : (256 ≤ length rows) × MayPass plan table → check plan table rows .answer ≡ ok tt
+  passes-all : (mostFrames ≤ length rows) × MayPass plan table → check plan table rows .answer ≡ ok tt
   passes-all h = rw (lent-enough (h .0), passed-passes plan table (h .1))
 
   -- the checker passes exactly the tables of laid out plans that keep every rule
-  pub checker-exact : (check plan table rows .answer ≡ ok tt) ↔ ((256 ≤ length rows) × MayPass plan table)
-  checker-exact = (passes-only (le-or-lt 256 (length rows)), passes-all)
+  pub checker-exact : (check plan table rows .answer ≡ ok tt) ↔ ((mostFrames ≤ length rows) × MayPass plan table)
+  checker-exact = (passes-only (le-or-lt mostFrames (length rows)), passes-all)
 
   -- 19 before all; else the first fault
   abbrev pub CheckRefuses : ℕ → ℕ → Type 0
-  CheckRefuses n p = ((length rows < 256) × (n ≡ 19) × (p ≡ 256)) ⊎ ((256 ≤ length rows) × CheckFault plan table n p)
+  CheckRefuses n p = ((length rows < mostFrames) × (n ≡ 19) × (p ≡ mostFrames)) ⊎ ((mostFrames ≤ length rows) × CheckFault plan table n p)
 
-  refuses-only : (256 ≤ length rows) ⊎ (length rows < 256) → (n p : ℕ) → check plan table rows .answer ≡ refuse n p → CheckRefuses n p
+  refuses-only : (mostFrames ≤ length rows) ⊎ (length rows < mostFrames) → (n p : ℕ) → check plan table rows .answer ≡ refuse n p → CheckRefuses n p
   refuses-only (inl h) n p e = inr (h, passed-faults plan table n p (answer-refused (checkFiles plan table) n p (rw (lent-enough h) at e)))
   refuses-only (inr h) n p e =
-      let f : refuse 19 256 ≡ refuse n p = rw (lent-short h) at e in
+      let f : refuse 19 mostFrames ≡ refuse n p = rw (lent-short h) at e in
       inl (h, sym (refuse-number f), sym (refuse-place f))
 
   refuses-all : (n p : ℕ) → CheckRefuses n p → check plan table rows .answer ≡ refuse n p
@@ -341,7 +342,7 @@ module _ (plan table : List ℕ) (rows : List FrameRow) where
   refuses-all n p (inr h) = rw (lent-enough (h .0), fault-refuses plan table n p (h .1))
 
   pub checker-refuses : (n p : ℕ) → (check plan table rows .answer ≡ refuse n p) ↔ CheckRefuses n p
-  checker-refuses n p = (refuses-only (le-or-lt 256 (length rows)) n p, refuses-all n p)
+  checker-refuses n p = (refuses-only (le-or-lt mostFrames (length rows)) n p, refuses-all n p)
 
 -- ---- each number for itself
 
@@ -372,22 +373,22 @@ module _ (plan table : List ℕ) where
 
 module _ (plan table : List ℕ) (rows : List FrameRow) where
   -- the first fault, where enough rows are lent
-  faults : (n p : ℕ) → 20 ≤ n → check plan table rows .answer ≡ refuse n p → (256 ≤ length rows) × CheckFault plan table n p
+  faults : (n p : ℕ) → 20 ≤ n → check plan table rows .answer ≡ refuse n p → (mostFrames ≤ length rows) × CheckFault plan table n p
   faults n p w e = lent (checker-refuses plan table rows n p .0 e)
     where
-      lent : CheckRefuses plan table rows n p → (256 ≤ length rows) × CheckFault plan table n p
+      lent : CheckRefuses plan table rows n p → (mostFrames ≤ length rows) × CheckFault plan table n p
       lent (inl h) = absurd (omega (arith, h .1))
       lent (inr h) = h
 
   -- 20: the plan passes 1 to 11, and the table breaks the record rules, first there
-  pub unread-exact : (p : ℕ) → (check plan table rows .answer ≡ refuse 20 p) ↔ ((256 ≤ length rows) × UnreadAt plan table p)
+  pub unread-exact : (p : ℕ) → (check plan table rows .answer ≡ refuse 20 p) ↔ ((mostFrames ≤ length rows) × UnreadAt plan table p)
   unread-exact p = (
     λ e. let f = faults 20 p (omega arith) e in (f .0, fault-twenty plan table p (f .1)),
     λ h. checker-refuses plan table rows 20 p .1 (inr (h .0, ofRecords (h .1 .isRead) (h .1 .isLaid) refl (h .1 .unread))),
   )
 
   -- 21 to 27: the rules before are kept, and this one is broken, first there
-  pub rule-exact : (i p : ℕ) → i < 7 → (check plan table rows .answer ≡ refuse (21 + i) p) ↔ ((256 ≤ length rows) × BrokenAt plan table i p)
+  pub rule-exact : (i p : ℕ) → i < 7 → (check plan table rows .answer ≡ refuse (21 + i) p) ↔ ((mostFrames ≤ length rows) × BrokenAt plan table i p)
   rule-exact i p w = (
     λ e. let f = faults (21 + i) p (omega arith) e in (f .0, fault-rule plan table i p w (f .1)),
     λ h. checker-refuses plan table rows (21 + i) p .1 (inr (h .0, rule-fault plan table i p w (h .1))),

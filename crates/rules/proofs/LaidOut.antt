@@ -33,6 +33,7 @@ use Rattle.laws.proofs.Members.{
   keep-member,
   member-tab,
 }
+use Rattle.rules.specs.Limits.{mostFrames}
 use Rattle.rules.specs.Plan.{Plan, noMode, theMode, theTask}
 use Rattle.rules.specs.Frames.{Run, runOf, ofBusTask, busRuns, invokes, isBusTask, busTasks, livesIn, isSending, isSendingNode, sendingNodes, ofSender, switchGrid, busPeriod, Frame, message, messagesOf, messages, frames, sendingTime, gapTime, controlPayload, ControlRow, noControlRow, controlFrom, controlRows, controlEnd, someBusTask, payloadsFit, Layout, layoutOf, layout}
 use Rattle.rules.proofs.Period.{switch-grid}
@@ -44,7 +45,7 @@ pub record LaidOut (p : Plan) (l : Layout) : Type 0 where
   pub someBus : someBusTask p ≡ true
   pub divides : busPeriod p ∣ switchGrid p
   pub onGrid : p .bus .resolution ∣ busPeriod p
-  pub few : length (frames p) ≤ 256
+  pub few : length (frames p) ≤ mostFrames
   pub payloads : payloadsFit p ≡ true
   pub room : controlEnd p ≤ busPeriod p
   pub is : layoutOf p ≡ l
@@ -55,14 +56,14 @@ laid-out p l e =
     then-case (unless 6 0 (someBusTask p)) _ e λ _ a₆ e₆.
     then-case (unless 7 0 (divides (busPeriod p) (switchGrid p))) _ e₆ λ _ a₇ e₇.
     then-case (unless 8 0 (divides (p .bus .resolution) (busPeriod p))) _ e₇ λ _ a₈ e₈.
-    then-case (unless 9 0 (leb (length (frames p)) 256)) _ e₈ λ _ a₉ e₉.
+    then-case (unless 9 0 (leb (length (frames p)) mostFrames)) _ e₈ λ _ a₉ e₉.
     then-case (unless 10 0 (payloadsFit p)) _ e₉ λ _ a₁₀ e₁₀.
     then-case (unless 11 0 (leb (controlEnd p) (busPeriod p))) _ e₁₀ λ _ a₁₁ e₁₁.
     record {
       someBus = unless-ok 6 0 (someBusTask p) a₆;
       divides = divides-true (busPeriod p) (switchGrid p) (unless-ok 7 0 (divides (busPeriod p) (switchGrid p)) a₇);
       onGrid = divides-true (p .bus .resolution) (busPeriod p) (unless-ok 8 0 (divides (p .bus .resolution) (busPeriod p)) a₈);
-      few = leb-true (length (frames p)) 256 (unless-ok 9 0 (leb (length (frames p)) 256) a₉);
+      few = leb-true (length (frames p)) mostFrames (unless-ok 9 0 (leb (length (frames p)) mostFrames) a₉);
       payloads = unless-ok 10 0 (payloadsFit p) a₁₀;
       room = leb-true (controlEnd p) (busPeriod p) (unless-ok 11 0 (leb (controlEnd p) (busPeriod p)) a₁₁);
       is = ok-injective e₁₁;

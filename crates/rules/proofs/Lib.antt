@@ -25,3 +25,4 @@ pub mod TransparentPlays
 pub mod StationPlaces
 pub mod StationKept
 pub mod BodyNumbers
+pub mod Top

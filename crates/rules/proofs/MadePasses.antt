@@ -29,6 +29,7 @@ use Rattle.laws.proofs.Members.{
   member-getD,
   map-getD,
 }
+use Rattle.rules.specs.Limits.{mostFrames}
 use Rattle.rules.specs.Records.{records, tableFollows}
 use Rattle.rules.specs.Plan.{Plan, readPlan}
 use Rattle.rules.specs.Frames.{Frame, Layout, layout, layoutOf, gapTime, controlRows, controlEnd, frames}
@@ -357,7 +358,7 @@ module _ {plan : List ℕ} {room : ℕ} {t : MadeTable} (m : TableMade plan room
   unfolding made-keeps
   made-passed = passed-passes plan (t .table) made-keeps ∙ rw (table-read (m .laid) (m .placed))
 
-  pub made-checked : (lent : List FrameRow) → 256 ≤ length lent
+  pub made-checked : (lent : List FrameRow) → mostFrames ≤ length lent
       → check plan (t .table) lent ≡ record { answer = ok tt; rows = rowsThenZero (t .rows) (length lent) }
   made-checked lent w = lent-enough plan (t .table) lent w ∙ rw (made-passed, fineOf .rows, rows-are)
 
@@ -375,24 +376,24 @@ outcome-case (ok t) rows buffer n e f = f t refl (ok-injective e)
 outcome-case (refuse m p) rows buffer n e f = refuse≢ok e
 
 module _ (plan : List ℕ) (rows : List FrameRow) (buffer : List ℕ) where
-  pub make-enough : 256 ≤ length rows → make plan rows buffer ≡ outcome (tableFor plan (length buffer)) rows buffer
+  pub make-enough : mostFrames ≤ length rows → make plan rows buffer ≡ outcome (tableFor plan (length buffer)) rows buffer
   unfolding make
-  make-enough h = rw (le-leb 256 (length rows) h, make)
+  make-enough h = rw (le-leb mostFrames (length rows) h, make)
 
-  pub make-short : length rows < 256 → make plan rows buffer ≡ record { answer = refuse 19 256; rows = rows; buffer = buffer }
+  pub make-short : length rows < mostFrames → make plan rows buffer ≡ record { answer = refuse 19 mostFrames; rows = rows; buffer = buffer }
   unfolding make
-  make-short h = rw (lt-leb 256 (length rows) h, make)
+  make-short h = rw (lt-leb mostFrames (length rows) h, make)
 
   -- what a made table is: the table's own, at the front of the buffer, with the frame rows
   pub record MakeGave (n : ℕ) : Type 0 where
-    pub lent : 256 ≤ length rows
+    pub lent : mostFrames ≤ length rows
     pub table : MadeTable
     pub made : tableFor plan (length buffer) ≡ ok table
     pub long : length (table .table) ≡ n
     pub front : take n (make plan rows buffer .buffer) ≡ table .table
     pub rowsAre : make plan rows buffer .rows ≡ rowsThenZero (table .rows) (length rows)
 
-  gave : (n : ℕ) → 256 ≤ length rows → make plan rows buffer .answer ≡ ok n → MakeGave n
+  gave : (n : ℕ) → mostFrames ≤ length rows → make plan rows buffer .answer ≡ ok n → MakeGave n
   gave n h e =
       outcome-case (tableFor plan (length buffer)) rows buffer n (rw (make-enough h) at e) λ t made long.
       record {
@@ -404,15 +405,15 @@ module _ (plan : List ℕ) (rows : List FrameRow) (buffer : List ℕ) where
         rowsAre = rw (make-enough h, made);
       }
 
-  gave-any : (256 ≤ length rows) ⊎ (length rows < 256) → (n : ℕ) → make plan rows buffer .answer ≡ ok n → MakeGave n
+  gave-any : (mostFrames ≤ length rows) ⊎ (length rows < mostFrames) → (n : ℕ) → make plan rows buffer .answer ≡ ok n → MakeGave n
   gave-any (inl h) n e = gave n h e
-  gave-any (inr h) n e = let f : refuse 19 256 ≡ ok n = rw (make-short h) at e in refuse≢ok f
+  gave-any (inr h) n e = let f : refuse 19 mostFrames ≡ ok n = rw (make-short h) at e in refuse≢ok f
 
   pub make-gave : (n : ℕ) → make plan rows buffer .answer ≡ ok n → MakeGave n
-  make-gave n e = gave-any (le-or-lt 256 (length rows)) n e
+  make-gave n e = gave-any (le-or-lt mostFrames (length rows)) n e
 
-  -- Whatever `make` makes passes `check`, with any 256 rows or more lent.
-  pub made-checks : (n : ℕ) → make plan rows buffer .answer ≡ ok n → (lent : List FrameRow) → 256 ≤ length lent
+  -- Whatever `make` makes passes `check`, with enough rows lent.
+  pub made-checks : (n : ℕ) → make plan rows buffer .answer ≡ ok n → (lent : List FrameRow) → mostFrames ≤ length lent
       → check plan (take n (make plan rows buffer .buffer)) lent .answer ≡ ok tt
   made-checks n e lent w =
       let g = make-gave n e in
@@ -423,5 +424,5 @@ module _ (plan : List ℕ) (rows : List FrameRow) (buffer : List ℕ) where
       → check plan (take n (make plan rows buffer .buffer)) lent .rows ≡ make plan rows buffer .rows
   made-rows-agree n e lent q =
       let g = make-gave n e in
-      let w : 256 ≤ length lent = omega (arith, g .lent) in
+      let w : mostFrames ≤ length lent = omega (arith, g .lent) in
       rw (g .front, made-checked (table-made plan (length buffer) (g .table) (g .made)) lent w, g .rowsAre, q)

@@ -22,6 +22,7 @@ use Rattle.laws.proofs.Res.{
 }
 use Rattle.laws.proofs.Orders.{le-or-lt}
 use Rattle.laws.proofs.Faults.{unless-refused}
+use Rattle.rules.specs.Limits.{mostFrames}
 use Rattle.rules.specs.Plan.{Plan, readPlan}
 use Rattle.rules.specs.Frames.{Layout, layout}
 use Rattle.rules.specs.LatestRelease.{Placed, numberedFrom, firstEnd, frameTime, latestRelease}
@@ -157,7 +158,7 @@ outcome-refused (ok t) rows buffer n p e = refuse≢ok (sym e)
 outcome-refused (refuse m q) rows buffer n p e = rw (refuse-number e, refuse-place e)
 
 module _ (plan : List ℕ) (rows : List FrameRow) (buffer : List ℕ) where
-  makes-only : (n : ℕ) → make plan rows buffer .answer ≡ ok n → (256 ≤ length rows) × MakesTable plan (length buffer) n
+  makes-only : (n : ℕ) → make plan rows buffer .answer ≡ ok n → (mostFrames ≤ length rows) × MakesTable plan (length buffer) n
   unfolding madeTable
   makes-only n e =
       let g = make-gave plan rows buffer n e in
@@ -175,24 +176,24 @@ module _ (plan : List ℕ) (rows : List FrameRow) (buffer : List ℕ) where
         },
       )
 
-  makes-all : (n : ℕ) → (256 ≤ length rows) × MakesTable plan (length buffer) n → make plan rows buffer .answer ≡ ok n
+  makes-all : (n : ℕ) → (mostFrames ≤ length rows) × MakesTable plan (length buffer) n → make plan rows buffer .answer ≡ ok n
   unfolding madeTable
   makes-all n h = rw (make-enough plan rows buffer (h .0), table-makes plan (length buffer) n (h .1), h .1 .long)
 
   -- `make` gives a table exactly where the plan passes 1 to 11, the rule places every frame and the room suffices
-  pub make-exact : (n : ℕ) → (make plan rows buffer .answer ≡ ok n) ↔ ((256 ≤ length rows) × MakesTable plan (length buffer) n)
+  pub make-exact : (n : ℕ) → (make plan rows buffer .answer ≡ ok n) ↔ ((mostFrames ≤ length rows) × MakesTable plan (length buffer) n)
   make-exact n = (makes-only n, makes-all n)
 
   -- 19 before all; else the first fault
   abbrev pub MakeRefuses : ℕ → ℕ → Type 0
-  MakeRefuses n p = ((length rows < 256) × (n ≡ 19) × (p ≡ 256)) ⊎ ((256 ≤ length rows) × MakeFault plan (length buffer) n p)
+  MakeRefuses n p = ((length rows < mostFrames) × (n ≡ 19) × (p ≡ mostFrames)) ⊎ ((mostFrames ≤ length rows) × MakeFault plan (length buffer) n p)
 
-  refuses-only : (256 ≤ length rows) ⊎ (length rows < 256) → (n p : ℕ) → make plan rows buffer .answer ≡ refuse n p → MakeRefuses n p
+  refuses-only : (mostFrames ≤ length rows) ⊎ (length rows < mostFrames) → (n p : ℕ) → make plan rows buffer .answer ≡ refuse n p → MakeRefuses n p
   refuses-only (inl h) n p e =
       let r = outcome-refused (tableFor plan (length buffer)) rows buffer n p (rw (make-enough plan rows buffer h) at e) in
       inr (h, table-faults plan (length buffer) n p r)
   refuses-only (inr h) n p e =
-      let f : refuse 19 256 ≡ refuse n p = rw (make-short plan rows buffer h) at e in
+      let f : refuse 19 mostFrames ≡ refuse n p = rw (make-short plan rows buffer h) at e in
       inl (h, sym (refuse-number f), sym (refuse-place f))
 
   refuses-all : (n p : ℕ) → MakeRefuses n p → make plan rows buffer .answer ≡ refuse n p
@@ -200,7 +201,7 @@ module _ (plan : List ℕ) (rows : List FrameRow) (buffer : List ℕ) where
   refuses-all n p (inr h) = rw (make-enough plan rows buffer (h .0), fault-table plan (length buffer) n p (h .1))
 
   pub make-refuses : (n p : ℕ) → (make plan rows buffer .answer ≡ refuse n p) ↔ MakeRefuses n p
-  make-refuses n p = (refuses-only (le-or-lt 256 (length rows)) n p, refuses-all n p)
+  make-refuses n p = (refuses-only (le-or-lt mostFrames (length rows)) n p, refuses-all n p)
 
   fault-twelve : (frame : ℕ) → MakeFault plan (length buffer) 12 frame → RuleRefuses plan frame
   fault-twelve frame (inPlan e) = absurd (omega (arith, plan-gives plan .number 12 frame e))
@@ -208,12 +209,12 @@ module _ (plan : List ℕ) (rows : List FrameRow) (buffer : List ℕ) where
   fault-twelve frame (inRule {q} {l} a b e) = record { read = q; isRead = a; laid = l; isLaid = b; rule = e }
   fault-twelve frame (inRoom a b c w e f) = absurd (omega (arith, e))
 
-  twelve-only : (frame : ℕ) → MakeRefuses 12 frame → (256 ≤ length rows) × RuleRefuses plan frame
+  twelve-only : (frame : ℕ) → MakeRefuses 12 frame → (mostFrames ≤ length rows) × RuleRefuses plan frame
   twelve-only frame (inl h) = absurd (omega (arith, h .1))
   twelve-only frame (inr h) = (h .0, fault-twelve frame (h .1))
 
   -- 12 exactly where the latest-release rule refuses
-  pub twelve-exact : (frame : ℕ) → (make plan rows buffer .answer ≡ refuse 12 frame) ↔ ((256 ≤ length rows) × RuleRefuses plan frame)
+  pub twelve-exact : (frame : ℕ) → (make plan rows buffer .answer ≡ refuse 12 frame) ↔ ((mostFrames ≤ length rows) × RuleRefuses plan frame)
   twelve-exact frame = (
     λ e. twelve-only frame (make-refuses 12 frame .0 e),
     λ h. make-refuses 12 frame .1 (inr (h .0, inRule (h .1 .isRead) (h .1 .isLaid) (h .1 .rule))),

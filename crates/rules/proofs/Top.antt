@@ -1,0 +1,81 @@
+-- What is promised, restated: the theorems that a reader needs, in the order of the demands (docs/PROMISES.md begins here). Each is
+-- proved in the file that it is taken from, and nothing is proved here. What the code does is what these definitions say: its
+-- contracts are equations with them; the last theorem of all, of the exported functions, is `olbiothar/Shown`.
+use mathlib.Core.Path.{_≡_}
+use mathlib.Core.Bool.{true}
+use mathlib.Core.List.{List}
+use mathlib.Core.Logic.{_↔_}
+use mathlib.Core.Option.{Option}
+use lib.ListN.{length, take}
+use Prim.Native.Nat.{ℕ, _+_, _≤_, _<_}
+use Rattle.laws.specs.Res.{ok, refuse}
+use Rattle.rules.specs.Limits.{mostFrames}
+use Rattle.rules.specs.Plan.{Plan, readPlan}
+use Rattle.rules.specs.Frames.{busPeriod, switchGrid, busRuns, messages, frames, taskNode}
+use Rattle.rules.specs.Table.{FrameRow, make}
+use Rattle.rules.specs.Checker.{check}
+use Rattle.rules.specs.Obeys.{MayPass, BrokenAt, MakesTable, RuleRefuses}
+use Rattle.rules.specs.Playing.{Input}
+use Rattle.rules.specs.Station.{Begun, State, begin}
+use Rattle.rules.specs.History.{played, consumes}
+use Rattle.rules.proofs.Period.{IsBusPeriod, IsSwitchGrid, period, switch-grid}
+use Rattle.rules.proofs.FramesOf.{IsFramesOf, plan-frames}
+use Rattle.rules.proofs.CheckerExact.{checker-exact, rule-exact}
+use Rattle.rules.proofs.MadePasses.{made-checks}
+use Rattle.rules.proofs.Room.{make-exact, twelve-exact}
+use Rattle.rules.proofs.TransparentTold.{Tells, shown-told, shown-told-own}
+
+-- ---- Demand 2: period, frames, checker, maker
+
+-- P is a common multiple of the periods of all invocations of bus tasks, and divides every other.
+pub the-bus-period : (p : Plan) → IsBusPeriod p (busPeriod p)
+the-bus-period = period
+
+-- G is a common divisor of the mode and switch periods of all modes of sending modules, and every other divides it.
+pub the-grid : (p : Plan) → IsSwitchGrid p (switchGrid p)
+the-grid = switch-grid
+
+-- The frames are the distinct pairs of task and deadline among the messages, by deadline and then by task, each with the greatest
+-- release of its messages.
+pub the-frames : (p : Plan) → IsFramesOf (messages (busPeriod p) (busRuns p)) (frames p)
+the-frames = plan-frames
+
+-- The checker passes a table exactly when enough rows are lent and plan and table keep every rule.
+pub it-passes-exactly : (plan table : List ℕ) (rows : List FrameRow)
+    → (check plan table rows .answer ≡ ok tt) ↔ ((mostFrames ≤ length rows) × MayPass plan table)
+it-passes-exactly = checker-exact
+
+-- It gives one of 21 to 27 exactly when all before it are kept and this one is broken, at its lowest record.
+pub it-refuses-exactly : (plan table : List ℕ) (rows : List FrameRow) (i p : ℕ) → i < 7
+    → (check plan table rows .answer ≡ refuse (21 + i) p) ↔ ((mostFrames ≤ length rows) × BrokenAt plan table i p)
+it-refuses-exactly = rule-exact
+
+-- A table is made exactly when enough rows are lent, the plan passes 1 to 11, the rule places every frame and the room suffices.
+pub it-makes-exactly : (plan : List ℕ) (rows : List FrameRow) (buffer : List ℕ) (n : ℕ)
+    → (make plan rows buffer .answer ≡ ok n) ↔ ((mostFrames ≤ length rows) × MakesTable plan (length buffer) n)
+it-makes-exactly = make-exact
+
+-- It is refused for want of room exactly when the latest-release rule finds none.
+pub no-room-exactly : (plan : List ℕ) (rows : List FrameRow) (buffer : List ℕ) (frame : ℕ)
+    → (make plan rows buffer .answer ≡ refuse 12 frame) ↔ ((mostFrames ≤ length rows) × RuleRefuses plan frame)
+no-room-exactly = twelve-exact
+
+-- All that is made passes the checker.
+pub what-is-made-passes : (plan : List ℕ) (rows : List FrameRow) (buffer : List ℕ) (n : ℕ) → make plan rows buffer .answer ≡ ok n
+    → (lent : List FrameRow) → mostFrames ≤ length lent → check plan (take n (make plan rows buffer .buffer)) lent .answer ≡ ok tt
+what-is-made-passes = made-checks
+
+-- ---- Demand 3: what boards show
+
+-- Of a station that begins with plan and table, behind every history of accepted ticks: on every node that consumes a task of another
+-- node the value shown is the one result of the last run of the task that has ended, or zero.
+pub boards-show : (plan table : List ℕ) (starting : ℕ → Option ℕ) (b : Begun) → begin plan table starting ≡ ok b
+    → (p : Plan) → readPlan plan ≡ ok p → (history : List Input) (s : State) → played (b .kept) (b .state) history ≡ ok s
+    → (n t : ℕ) → consumes p n t ≡ true → Tells p starting t history (s .shown n t)
+boards-show = shown-told
+
+-- And on the task's own node.
+pub own-boards-show : (plan table : List ℕ) (starting : ℕ → Option ℕ) (b : Begun) → begin plan table starting ≡ ok b
+    → (p : Plan) → readPlan plan ≡ ok p → (history : List Input) (s : State) → played (b .kept) (b .state) history ≡ ok s
+    → (t : ℕ) → t < length (p .tasks) → Tells p starting t history (s .shown (taskNode p t) t)
+own-boards-show = shown-told-own
