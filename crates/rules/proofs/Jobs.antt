@@ -13,7 +13,7 @@ use Rattle.rules.specs.Frames.{payloadsFit, layoutOf, layout}
 use Rattle.rules.specs.LatestRelease.{numberedFrom, withDeadline, greatestDeadline, isCandidate, isLater, latestOf, isOther, lowered, taken, startOf, fits, place, firstEnd, frameTime, latestRelease}
 use Rattle.rules.specs.Table.{recordBytes, dataRow, headerBytes, controlBytes, dataBytes, tableBytes, startFor, rowsFrom, rowsThenZero, madeTable, tableFor, make}
 use Rattle.rules.specs.Checker.{controlRowOf, dataRowOf, tableOf, headerRight, controlAt, rowAt, sameControl, controlKept, isFrameOf, samePair, namesNewFrame, namedIn, frameOfRow, timeKept, releaseKept, deadlineKept, gapKept, firstRow, rowsKeep, judged, checkFiles, startIn, checkedRow, check}
-use Rattle.rules.specs.Jobs.{bytesOf, file, recordsA, planA, tableA, rowsA, tableAWith, planAWith, recordsJ, tableJ, recordsS, recordsMany, plenty, documentJobs, tableAtC, tableCoarse, tableGap, tableEqual, tableRounded, tableLeast, tableEarly, tableTwoFaults, tableInGap, tableOff, ownEntries, entries, holds}
+use Rattle.rules.specs.Jobs.{lentRows, lentBytes, zeroRows, bytesOf, file, changed, recordsA, planA, planAWith, framesA, tableA, rowsA, tableAWith, framesB, recordsJ, tableJ, framesJ, recordsS, recordsMany, recordsCounted, plenty, documentJobs, limits, tableAtC, tableCoarse, tableGap, tableEqual, tableRounded, tableLeast, tableEarly, tableTwoFaults, tableInGap, tableOff, framesOfFour, framesAtC, ownEntries, entries, holds}
 
 -- all that the jobs compute with
 unfoldable pub everything : Unit {0}
@@ -28,9 +28,9 @@ unfolding euclid gcd lcm ceil up down kinds known fields bodyLength planFollows 
     place firstEnd frameTime latestRelease recordBytes dataRow headerBytes controlBytes dataBytes tableBytes startFor rowsFrom
     rowsThenZero madeTable tableFor make controlRowOf dataRowOf tableOf headerRight controlAt rowAt sameControl controlKept
     isFrameOf samePair namesNewFrame namedIn frameOfRow timeKept releaseKept deadlineKept gapKept firstRow rowsKeep judged checkFiles
-    startIn checkedRow check bytesOf file recordsA planA tableA rowsA tableAWith planAWith recordsJ tableJ recordsS recordsMany
-    plenty documentJobs tableAtC tableCoarse tableGap tableEqual tableRounded tableLeast tableEarly tableTwoFaults tableInGap
-    tableOff ownEntries entries
+    startIn checkedRow check lentRows lentBytes zeroRows bytesOf file changed recordsA planA planAWith framesA tableA rowsA tableAWith
+    framesB recordsJ tableJ framesJ recordsS recordsMany recordsCounted plenty documentJobs limits tableAtC tableCoarse tableGap tableEqual tableRounded tableLeast tableEarly tableTwoFaults tableInGap
+    tableOff framesOfFour framesAtC ownEntries entries
 everything = tt
 
 pub jobs : T (all holds entries)

@@ -1,48 +1,91 @@
--- Document 01, "Jobs to run": the entries marked *, and our own for what those let through. Each says what a file must give;
--- `holds` computes it from the definitions.
+-- Document 01, "Jobs to run": the entries marked *, and our own for what those let through. Each says what is given and what is left
+-- of what was lent; `holds` computes it from the definitions.
 use mathlib.Core.Bool.{Bool, true, false, _&&_}
 use mathlib.Core.List.{List, [], _∷_, _++_, map}
 use lib.Dec.{eqb}
-use lib.ListN.{set, take, replicate}
-use Prim.Native.Nat.{ℕ, _+_}
+use lib.ListN.{length, getD, set, take, replicate}
+use Prim.Native.Nat.{ℕ, _-_}
 use Rattle.laws.specs.Res.{Res, ok, refuse}
 use Rattle.laws.specs.Lists.{joined}
 use Rattle.rules.specs.Records.{Rec}
-use Rattle.rules.specs.Table.{recordBytes, MadeTable, tableFor, zeroRow, make}
-use Rattle.rules.specs.Checker.{checkFiles}
+use Rattle.rules.specs.Plan.{Plan, readPlan}
+use Rattle.rules.specs.Frames.{busRuns, busPeriod, messages}
+use Rattle.rules.specs.Table.{recordBytes, FrameRow, zeroRow, Made, make}
+use Rattle.rules.specs.Checker.{Checked, check}
 
--- an entry: what is made of a plan in a room, or refused; a table that passes, or is refused; too few rows lent
+-- An entry: how many messages a plan has; what 1 to 5 say of a plan; what is made of it in a room, the table and the frame rows, or
+-- the refusal; a table that passes, with the frame rows, or the refusal; how many rows are lent, the refusal, and the rows left.
 pub data Entry : Type 0 where
-  made : (plan : List ℕ) (room : ℕ) (table : List ℕ) → Entry
+  hasMessages : (plan : List ℕ) (number : ℕ) → Entry
+  reads : (plan : List ℕ) (says : Res (Unit {0})) → Entry
+  made : (plan : List ℕ) (room : ℕ) (table : List ℕ) (rows : List FrameRow) → Entry
   notMade : (plan : List ℕ) (room number place : ℕ) → Entry
-  passes : (plan table : List ℕ) → Entry
+  passes : (plan table : List ℕ) (rows : List FrameRow) → Entry
   fails : (plan table : List ℕ) (number place : ℕ) → Entry
-  rowsLent : (rows number place : ℕ) → Entry
+  rowsLent : (rows number place : ℕ) (after : List FrameRow) → Entry
 
-abbrev pub sameBytes : List ℕ → List ℕ → Bool
-sameBytes [] [] = true
-sameBytes [] (y ∷ ys) = false
-sameBytes (x ∷ xs) [] = false
-sameBytes (x ∷ xs) (y ∷ ys) = eqb x y && sameBytes xs ys
+-- the same element by element
+abbrev pub sameLists : {A : Type 0} → (A → A → Bool) → List A → List A → Bool
+sameLists same [] [] = true
+sameLists same [] (y ∷ ys) = false
+sameLists same (x ∷ xs) [] = false
+sameLists same (x ∷ xs) (y ∷ ys) = same x y && sameLists same xs ys
 
-abbrev pub isMade : Res MadeTable → List ℕ → Bool
-isMade (ok t) table = sameBytes (t .table) table
-isMade (refuse n p) table = false
+abbrev pub sameFrameRow : FrameRow → FrameRow → Bool
+sameFrameRow a b =
+    (eqb (a .task) (b .task) && eqb (a .release) (b .release))
+    && (eqb (a .deadline) (b .deadline) && eqb (a .start) (b .start))
+
+-- the same refusal, or values that are the same
+abbrev pub sameAnswer : {A B : Type 0} → (A → B → Bool) → Res A → Res B → Bool
+sameAnswer same (ok a) (ok b) = same a b
+sameAnswer same (ok a) (refuse m q) = false
+sameAnswer same (refuse n p) (ok b) = false
+sameAnswer same (refuse n p) (refuse m q) = eqb n m && eqb p q
+
+abbrev pub anyValue : {A B : Type 0} → A → B → Bool
+anyValue a b = true
 
 abbrev pub isRefused : {A : Type 0} → Res A → ℕ → ℕ → Bool
-isRefused (ok a) number place = false
-isRefused (refuse n p) number place = eqb n number && eqb p place
+isRefused {A} r number place = sameAnswer {B = A} anyValue r (refuse number place)
 
-abbrev pub isOk : {A : Type 0} → Res A → Bool
-isOk (ok a) = true
-isOk (refuse n p) = false
+abbrev pub frameRow : ℕ → ℕ → ℕ → ℕ → FrameRow
+frameRow task release deadline start = record { task = task; release = release; deadline = deadline; start = start }
+
+-- what is lent holds other numbers before: so many rows, so many bytes
+unfoldable pub lentRows : ℕ → List FrameRow
+lentRows n = replicate n (frameRow 9 9 9 9)
+
+unfoldable pub lentBytes : ℕ → List ℕ
+lentBytes n = replicate n 255
+
+unfoldable pub zeroRows : ℕ → List FrameRow
+zeroRows n = replicate n zeroRow
+
+abbrev pub comesTo : Made → Res ℕ → List FrameRow → List ℕ → Bool
+comesTo m answer rows buffer =
+    sameAnswer eqb (m .answer) answer && (sameLists sameFrameRow (m .rows) rows && sameLists eqb (m .buffer) buffer)
+
+abbrev pub checksTo : Checked → Res (Unit {0}) → List FrameRow → Bool
+checksTo c answer rows = sameAnswer anyValue (c .answer) answer && sameLists sameFrameRow (c .rows) rows
+
+abbrev pub countsMessages : Res Plan → ℕ → Bool
+countsMessages (ok p) n = eqb (length (messages (busPeriod p) (busRuns p))) n
+countsMessages (refuse m q) n = false
 
 abbrev pub holds : Entry → Bool
-holds (made plan room table) = isMade (tableFor plan room) table
-holds (notMade plan room number place) = isRefused (tableFor plan room) number place
-holds (passes plan table) = isOk (checkFiles plan table)
-holds (fails plan table number place) = isRefused (checkFiles plan table) number place
-holds (rowsLent rows number place) = isRefused (make [] (replicate rows zeroRow) [] .answer) number place
+holds (hasMessages plan number) = countsMessages (readPlan plan) number
+holds (reads plan says) = sameAnswer anyValue (readPlan plan) says
+holds (made plan room table rows) =
+    comesTo (make plan (lentRows 256) (lentBytes room)) (ok (length table)) (rows ++ zeroRows (256 - length rows))
+    (table ++ lentBytes (room - length table))
+holds (notMade plan room number place) =
+    comesTo (make plan (lentRows 256) (lentBytes room)) (refuse number place) (zeroRows 256) (lentBytes room)
+holds (passes plan table rows) = checksTo (check plan table (lentRows 256)) (ok tt) (rows ++ zeroRows (256 - length rows))
+holds (fails plan table number place) = checksTo (check plan table (lentRows 256)) (refuse number place) (zeroRows 256)
+holds (rowsLent rows number place after) =
+    comesTo (make [] (lentRows rows) (lentBytes 9)) (refuse number place) after (lentBytes 9)
+    && checksTo (check [] [] (lentRows rows)) (refuse number place) after
 
 -- a record by its kind and its numbers, and a file of records with the end record
 abbrev pub rec : ℕ → List ℕ → Rec
@@ -54,17 +97,23 @@ bytesOf r = recordBytes (r .kind) (r .numbers)
 unfoldable pub file : List Rec → List ℕ
 file rs = joined (map bytesOf rs) ++ (0 ∷ [])
 
--- Job A, with the first task's worst time and the resolution left open.
-unfoldable pub recordsA : ℕ → ℕ → List Rec
-recordsA worst resolution =
-    rec 1 (1000 ∷ 8 ∷ 0 ∷ 254 ∷ 10 ∷ resolution ∷ [])
+-- records with another value for the k-th number of record r
+unfoldable pub changed : List Rec → ℕ → ℕ → ℕ → List Rec
+changed rs r k value =
+    let old = getD rs r (rec 0 []) in
+    set rs r (rec (old .kind) (set (old .numbers) k value))
+
+-- Job A.
+unfoldable pub recordsA : List Rec
+recordsA =
+    rec 1 (1000 ∷ 8 ∷ 0 ∷ 254 ∷ 10 ∷ 1 ∷ [])
     ∷ rec 2 (2 ∷ [])
     ∷ rec 3 (0 ∷ [])
     ∷ rec 3 (1 ∷ [])
     ∷ rec 4 (0 ∷ 60000 ∷ 60000 ∷ [])
     ∷ rec 4 (0 ∷ 60000 ∷ 60000 ∷ [])
     ∷ rec 4 (1 ∷ 60000 ∷ 60000 ∷ [])
-    ∷ rec 5 (0 ∷ 4 ∷ worst ∷ [])
+    ∷ rec 5 (0 ∷ 4 ∷ 1000 ∷ [])
     ∷ rec 5 (1 ∷ 4 ∷ 1000 ∷ [])
     ∷ rec 6 (0 ∷ 0 ∷ 2 ∷ [])
     ∷ rec 6 (1 ∷ 0 ∷ 3 ∷ [])
@@ -73,9 +122,21 @@ recordsA worst resolution =
     ∷ []
 
 unfoldable pub planA : List ℕ
-planA = file (recordsA 1000 1)
+planA = file recordsA
 
--- "Whole table, 75 bytes, in hex"
+unfoldable pub planAWith : ℕ → ℕ → ℕ → List ℕ
+planAWith r k value = file (changed recordsA r k value)
+
+-- its four frames, by their windows from release to deadline, with these starts
+unfoldable pub framesA : ℕ → ℕ → ℕ → ℕ → List FrameRow
+framesA first second third fourth =
+    frameRow 0 1000 20000 first
+    ∷ frameRow 0 1000 30000 second
+    ∷ frameRow 0 21000 40000 third
+    ∷ frameRow 0 41000 60000 fourth
+    ∷ []
+
+-- its table, 75 bytes
 unfoldable pub tableA : List ℕ
 tableA =
     0x10 ∷ 0x60 ∷ 0xEA ∷ 0x00 ∷ 0x00 ∷ 0x01 ∷ 0x04 ∷ 0x00
@@ -100,8 +161,14 @@ rowsA =
 unfoldable pub tableAWith : ℕ → Rec → List ℕ
 tableAWith k r = file (set rowsA k r)
 
-unfoldable pub planAWith : ℕ → Rec → List ℕ
-planAWith k r = file (set (recordsA 1000 1) k r)
+-- Job B: the same frames where the first task needs 19,904 ticks at worst.
+unfoldable pub framesB : List FrameRow
+framesB =
+    frameRow 0 19904 20000 19904
+    ∷ frameRow 0 19904 30000 29904
+    ∷ frameRow 0 39904 40000 39904
+    ∷ frameRow 0 59904 60000 59904
+    ∷ []
 
 -- Job J: X, Y, Z and what consumes them (reading 36), and the table that passes though the rule refuses.
 unfoldable pub recordsJ : List Rec
@@ -142,6 +209,9 @@ tableJ =
     ∷ rec 18 (1 ∷ 20 ∷ 18 ∷ 20 ∷ [])
     ∷ [])
 
+unfoldable pub framesJ : List FrameRow
+framesJ = frameRow 1 8 10 8 ∷ frameRow 0 1 20 3 ∷ frameRow 1 18 20 18 ∷ frameRow 2 11 20 11 ∷ []
+
 -- A small line of ours: one tick for a byte; gap bits and resolution left open; node 0 has two sending modules, with task 0 (one
 -- byte, once in a cycle of 60) and task 1 (`size` bytes, `rate` times); node 1 consumes.
 unfoldable pub recordsS : ℕ → ℕ → ℕ → ℕ → List Rec
@@ -181,26 +251,69 @@ recordsMany n =
     ∷ rec 7 (1 ∷ 0 ∷ [])
     ∷ []
 
--- enough room for any table
+-- So many nodes, modules, modes, tasks, invocations and connections, each of the first thing that it can be of.
+unfoldable pub recordsCounted : List ℕ → List Rec
+recordsCounted counts =
+    rec 1 (8000 ∷ 0 ∷ 0 ∷ 254 ∷ 0 ∷ 1 ∷ [])
+    ∷ rec 2 (getD counts 0 0 ∷ [])
+    ∷ replicate (getD counts 1 0) (rec 3 (0 ∷ []))
+    ++ (replicate (getD counts 2 0) (rec 4 (0 ∷ 60 ∷ 60 ∷ []))
+    ++ (replicate (getD counts 3 0) (rec 5 (0 ∷ 1 ∷ 1 ∷ []))
+    ++ (replicate (getD counts 4 0) (rec 6 (0 ∷ 0 ∷ 1 ∷ [])) ++ replicate (getD counts 5 0) (rec 7 (0 ∷ 0 ∷ [])))))
+
+-- enough room for each table below
 unfoldable pub plenty : ℕ
-plenty = 3600
+plenty = 120
 
 -- The jobs marked *.
 unfoldable pub documentJobs : List Entry
 documentJobs =
-    made planA 75 tableA  -- A
-    ∷ made (file (recordsA 19904 1)) 75 tableA  -- B
-    ∷ notMade (file (recordsA 19905 1)) 75 12 3
+    hasMessages planA 5  -- A
+    ∷ made planA 75 tableA (framesA 19904 29904 39904 59904)
+    ∷ made (planAWith 7 2 19904) 75 tableA framesB  -- B
+    ∷ notMade (planAWith 7 2 19905) 75 12 3
     ∷ notMade planA 74 13 75  -- C
     ∷ notMade [] plenty 1 0  -- D
-    ∷ notMade (file (recordsA 1000 7)) plenty 8 0  -- E
-    ∷ passes planA (tableAWith 2 (rec 18 (0 ∷ 20000 ∷ 1000 ∷ 1096 ∷ [])))  -- G
+    ∷ notMade (planAWith 0 5 7) plenty 8 0  -- E
+    ∷ passes planA (tableAWith 2 (rec 18 (0 ∷ 20000 ∷ 1000 ∷ 1096 ∷ []))) (framesA 1000 29904 39904 59904)  -- G
     ∷ fails planA (tableAWith 2 (rec 18 (0 ∷ 20000 ∷ 999 ∷ 1095 ∷ []))) 25 2
-    ∷ passes planA (tableAWith 3 (rec 18 (0 ∷ 30000 ∷ 20010 ∷ 20106 ∷ [])))  -- H
+    ∷ passes planA (tableAWith 3 (rec 18 (0 ∷ 30000 ∷ 20010 ∷ 20106 ∷ []))) (framesA 19904 20010 39904 59904)  -- H
     ∷ fails planA (tableAWith 3 (rec 18 (0 ∷ 30000 ∷ 20005 ∷ 20101 ∷ []))) 27 3
     ∷ fails planA (tableAWith 4 (rec 18 (0 ∷ 40000 ∷ 39905 ∷ 40001 ∷ []))) 26 4  -- I
     ∷ notMade (file recordsJ) plenty 12 0  -- J
-    ∷ passes (file recordsJ) tableJ
+    ∷ passes (file recordsJ) tableJ framesJ
+    ∷ []
+
+-- Both sides of each limit: what 1 to 5 say of job A's plan with one number changed (record, place in it, value), and of a plan with
+-- the fewest things but for one kind.
+abbrev pub fine : Res (Unit {0})
+fine = ok tt
+
+abbrev pub withValue : ℕ → ℕ → ℕ → Res (Unit {0}) → Entry
+withValue r k value says = reads (planAWith r k value) says
+
+abbrev pub withCount : ℕ → ℕ → Res (Unit {0}) → Entry
+withCount kind n says = reads (file (recordsCounted (set (1 ∷ 1 ∷ 1 ∷ 1 ∷ 1 ∷ 0 ∷ []) kind n))) says
+
+unfoldable pub limits : List Entry
+limits =
+    withCount 0 0 (refuse 2 2) ∷ withCount 0 1 fine ∷ withCount 0 8 fine ∷ withCount 0 9 (refuse 2 2)  -- nodes
+    ∷ withCount 1 0 (refuse 2 3) ∷ withCount 1 16 (refuse 5 3) ∷ withCount 1 17 (refuse 2 3)  -- modules; all but the first have no mode
+    ∷ withCount 2 0 (refuse 2 4) ∷ withCount 2 32 fine ∷ withCount 2 33 (refuse 2 4)  -- modes
+    ∷ withCount 3 0 (refuse 2 5) ∷ withCount 3 32 fine ∷ withCount 3 33 (refuse 2 5)  -- tasks
+    ∷ withCount 4 0 (refuse 2 6) ∷ withCount 4 64 (refuse 5 6) ∷ withCount 4 65 (refuse 2 6)  -- invocations; the second repeats the first
+    ∷ withCount 5 64 fine ∷ withCount 5 65 (refuse 2 7)  -- connections
+    ∷ withValue 0 0 0 (refuse 4 0) ∷ withValue 0 0 1 fine ∷ withValue 0 0 100000 fine ∷ withValue 0 0 100001 (refuse 4 0)  -- kbit/s
+    ∷ withValue 0 1 0 fine ∷ withValue 0 1 64 fine ∷ withValue 0 1 65 (refuse 4 0)  -- overhead
+    ∷ withValue 0 2 254 fine ∷ withValue 0 2 255 (refuse 4 0)  -- least payload; job A has 0
+    ∷ withValue 0 3 0 (refuse 4 0) ∷ withValue 0 3 1 fine ∷ withValue 0 3 255 (refuse 4 0)  -- largest payload; job A has 254
+    ∷ withValue 0 4 0 fine ∷ withValue 0 4 1000 fine ∷ withValue 0 4 1001 (refuse 4 0)  -- gap
+    ∷ withValue 0 5 0 (refuse 4 0) ∷ withValue 0 5 1000 fine ∷ withValue 0 5 1001 (refuse 4 0)  -- resolution; job A has 1
+    ∷ withValue 4 1 0 (refuse 4 4) ∷ withValue 4 1 1 (refuse 5 4) ∷ withValue 4 1 1000000 (refuse 5 4) ∷ withValue 4 1 1000001 (refuse 4 4)  -- mode period
+    ∷ withValue 4 2 0 (refuse 4 4) ∷ withValue 4 2 1 (refuse 5 9) ∷ withValue 4 2 1000000 (refuse 5 4) ∷ withValue 4 2 1000001 (refuse 4 4)  -- switch period
+    ∷ withValue 7 1 0 (refuse 4 7) ∷ withValue 7 1 1 fine ∷ withValue 7 1 8 fine ∷ withValue 7 1 9 (refuse 4 7)  -- size
+    ∷ withValue 7 2 0 (refuse 4 7) ∷ withValue 7 2 1 fine ∷ withValue 7 2 1000000 (refuse 5 9) ∷ withValue 7 2 1000001 (refuse 4 7)  -- worst time
+    ∷ withValue 9 2 0 (refuse 4 9) ∷ withValue 9 2 1 fine ∷ withValue 9 2 65535 (refuse 5 9)  -- rate; two bytes hold no more
     ∷ []
 
 -- The tables that the rule gives for our own plans.
@@ -330,49 +443,61 @@ tableOff =
     ∷ rec 18 (1 ∷ 60 ∷ 56 ∷ 60 ∷ [])
     ∷ [])
 
+-- the frames of the small line where task 1 runs four times, with these starts
+unfoldable pub framesOfFour : ℕ → ℕ → ℕ → ℕ → ℕ → List FrameRow
+framesOfFour first second third fourth fifth =
+    frameRow 1 1 15 first ∷ frameRow 1 16 30 second ∷ frameRow 1 31 45 third ∷ frameRow 0 1 60 fourth ∷ frameRow 1 46 60 fifth ∷ []
+
+unfoldable pub framesAtC : List FrameRow
+framesAtC =
+    frameRow 1 1 10 2
+    ∷ frameRow 1 11 20 12
+    ∷ frameRow 1 21 30 22
+    ∷ frameRow 1 31 40 32
+    ∷ frameRow 1 41 50 42
+    ∷ frameRow 0 1 60 51
+    ∷ frameRow 1 51 60 52
+    ∷ []
+
 -- Our own entries.
 unfoldable pub ownEntries : List Entry
 ownEntries =
-    made (file (recordsS 0 1 8 6)) plenty tableAtC  -- C binds
+    made (file (recordsS 0 1 8 6)) plenty tableAtC framesAtC  -- C binds
     ∷ notMade (file (recordsS 8 1 8 6)) plenty 12 0
-    ∷ made (file (recordsS 0 4 2 4)) plenty tableCoarse
-    ∷ made (file (recordsS 8 1 2 4)) plenty tableGap
-    ∷ made (file (recordsS 0 1 2 1)) plenty tableEqual
-    ∷ made (planAWith 0 (rec 1 (7000 ∷ 8 ∷ 0 ∷ 254 ∷ 10 ∷ 1 ∷ []))) plenty tableRounded
-    ∷ made (planAWith 0 (rec 1 (1000 ∷ 8 ∷ 10 ∷ 254 ∷ 10 ∷ 1 ∷ []))) plenty tableLeast
+    ∷ made (file (recordsS 0 4 2 4)) plenty tableCoarse (framesOfFour 8 24 40 52 56)
+    ∷ made (file (recordsS 8 1 2 4)) plenty tableGap (framesOfFour 13 28 43 56 58)
+    ∷ made (file (recordsS 0 1 2 1)) plenty tableEqual (frameRow 0 1 60 57 ∷ frameRow 1 1 60 58 ∷ [])
+    ∷ made (planAWith 0 0 7000) plenty tableRounded (framesA 19986 29986 39986 59986)
+    ∷ made (planAWith 0 2 10) plenty tableLeast (framesA 19856 29856 39856 59856)
     ∷ notMade (planA ++ (0 ∷ [])) plenty 1 86  -- 1: behind the end record
     ∷ notMade (take 40 planA) plenty 1 40  -- 1: the file ends inside a body
     ∷ notMade (take 85 planA) plenty 1 85  -- 1: no end record
     ∷ notMade (8 ∷ []) plenty 1 0  -- 1: an unknown kind
-    ∷ notMade (bytesOf (rec 1 (1000 ∷ 8 ∷ 0 ∷ 254 ∷ 10 ∷ 1 ∷ [])) ++ (3 ∷ [])) plenty 1 17  -- 1: a wrong kind goes before a cut body
-    ∷ notMade (file (rec 1 (1000 ∷ 8 ∷ 0 ∷ 254 ∷ 10 ∷ 1 ∷ []) ∷ [])) plenty 1 17  -- 1: 0 straight after the bus
-    ∷ notMade (file (rec 1 (1000 ∷ 8 ∷ 0 ∷ 254 ∷ 10 ∷ 1 ∷ []) ∷ rec 2 (2 ∷ []) ∷ [])) plenty 2 3  -- 2: bus, nodes, end is well formed and has no module
-    ∷ notMade (planAWith 1 (rec 2 (0 ∷ []))) plenty 2 2
-    ∷ notMade (planAWith 1 (rec 2 (9 ∷ []))) plenty 2 2
-    ∷ notMade (planAWith 3 (rec 3 (2 ∷ []))) plenty 3 3  -- 3
-    ∷ notMade (planAWith 12 (rec 7 (0 ∷ 2 ∷ []))) plenty 3 12
-    ∷ notMade (file (set (set (recordsA 1000 1) 0 (rec 1 (0 ∷ 8 ∷ 0 ∷ 254 ∷ 10 ∷ 1 ∷ []))) 12 (rec 7 (0 ∷ 2 ∷ [])))) plenty 3 12  -- 3 goes before 4
-    ∷ notMade (planAWith 0 (rec 1 (0 ∷ 8 ∷ 0 ∷ 254 ∷ 10 ∷ 1 ∷ []))) plenty 4 0  -- 4
-    ∷ notMade (planAWith 0 (rec 1 (1000 ∷ 8 ∷ 100 ∷ 50 ∷ 10 ∷ 1 ∷ []))) plenty 4 0  -- 4: largest payload below the least
-    ∷ notMade (planAWith 8 (rec 5 (1 ∷ 9 ∷ 1000 ∷ []))) plenty 4 8
-    ∷ notMade (planAWith 6 (rec 4 (0 ∷ 60000 ∷ 60000 ∷ []))) plenty 5 3  -- 5: a module without a mode
-    ∷ notMade (planAWith 4 (rec 4 (0 ∷ 60000 ∷ 7 ∷ []))) plenty 5 4  -- 5: switch period
+    ∷ notMade (take 17 planA ++ (3 ∷ [])) plenty 1 17  -- 1: a wrong kind goes before a cut body
+    ∷ notMade (take 17 planA ++ (0 ∷ [])) plenty 1 17  -- 1: 0 straight after the bus
+    ∷ notMade (take 19 planA ++ (0 ∷ [])) plenty 2 3  -- 2: bus, nodes, end is well formed and has no module
+    ∷ notMade (planAWith 3 0 2) plenty 3 3  -- 3
+    ∷ notMade (planAWith 12 1 2) plenty 3 12
+    ∷ notMade (file (changed (changed recordsA 0 0 0) 12 1 2)) plenty 3 12  -- 3 goes before 4
+    ∷ notMade (file (changed (changed recordsA 0 2 100) 0 3 50)) plenty 4 0  -- 4: largest payload below the least
+    ∷ notMade (planAWith 6 0 0) plenty 5 3  -- 5: a module without a mode
+    ∷ notMade (planAWith 4 2 7) plenty 5 4  -- 5: switch period
     ∷ notMade (file (recordsS 0 1 1 40)) plenty 5 12  -- 5: rate, though 60 / 40, rounded down, would fit
-    ∷ notMade (planAWith 4 (rec 4 (0 ∷ 60000 ∷ 20000 ∷ []))) plenty 5 9  -- 5: invocation period and switch period
-    ∷ notMade (file (recordsA 30001 1)) plenty 5 9  -- 5: worst time
-    ∷ notMade (planAWith 11 (rec 6 (2 ∷ 0 ∷ 1 ∷ []))) plenty 5 11  -- 5: task and mode of different modules
-    ∷ notMade (planAWith 10 (rec 6 (0 ∷ 0 ∷ 3 ∷ []))) plenty 5 10  -- 5: a task twice in one mode, the later
-    ∷ notMade (planAWith 12 (rec 7 (0 ∷ 0 ∷ []))) plenty 6 0  -- 6
-    ∷ notMade (planAWith 5 (rec 4 (0 ∷ 60000 ∷ 20000 ∷ []))) plenty 7 0  -- 7
+    ∷ notMade (planAWith 4 2 20000) plenty 5 9  -- 5: invocation period and switch period
+    ∷ notMade (planAWith 7 2 30001) plenty 5 9  -- 5: worst time
+    ∷ notMade (planAWith 11 1 0) plenty 5 11  -- 5: task and mode of different modules
+    ∷ notMade (planAWith 10 0 0) plenty 5 10  -- 5: a task twice in one mode, the later
+    ∷ notMade (planAWith 12 1 0) plenty 6 0  -- 6
+    ∷ notMade (planAWith 5 2 20000) plenty 7 0  -- 7
     ∷ notMade (file (recordsMany 256)) plenty 9 0  -- 9
     ∷ notMade (file (recordsMany 255)) plenty 12 254  -- 256 frames are allowed
-    ∷ notMade (planAWith 0 (rec 1 (1000 ∷ 8 ∷ 0 ∷ 3 ∷ 10 ∷ 1 ∷ []))) plenty 10 0  -- 10: a message
-    ∷ notMade (file (set (recordsS 0 1 1 4) 0 (rec 1 (8000 ∷ 0 ∷ 0 ∷ 1 ∷ 0 ∷ 1 ∷ [])))) plenty 10 0  -- 10: a control payload, of two sending modules
-    ∷ notMade (file (set (recordsMany 5) 0 (rec 1 (8000 ∷ 5 ∷ 0 ∷ 254 ∷ 0 ∷ 1 ∷ [])))) plenty 11 0  -- 11
-    ∷ rowsLent 255 19 256  -- 19
-    ∷ rowsLent 256 1 0
-    ∷ passes planA tableEarly  -- rows that stop long before their deadlines
-    ∷ passes (file (recordsS 0 4 2 4)) tableCoarse
+    ∷ notMade (planAWith 0 3 3) plenty 10 0  -- 10: a message
+    ∷ notMade (file (changed (recordsS 0 1 1 4) 0 3 1)) plenty 10 0  -- 10: a control payload, of two sending modules
+    ∷ notMade (file (changed (recordsMany 5) 0 1 5)) plenty 11 0  -- 11
+    ∷ rowsLent 255 19 256 (lentRows 255)  -- 19
+    ∷ rowsLent 257 1 0 (zeroRows 257)
+    ∷ passes planA tableEarly (framesA 1000 1106 21000 41000)  -- rows that stop long before their deadlines
+    ∷ passes (file (recordsS 0 4 2 4)) tableCoarse (framesOfFour 8 24 40 52 56)
     ∷ fails planA [] 20 0  -- 20
     ∷ fails planA (take 74 tableA) 20 74
     ∷ fails planA (tableA ++ (0 ∷ [])) 20 75
@@ -387,13 +512,12 @@ ownEntries =
     ∷ fails planA (tableAWith 2 (rec 18 (0 ∷ 20000 ∷ 19904 ∷ 19999 ∷ []))) 24 2  -- 24: sending time
     ∷ fails (file (recordsS 0 4 2 4)) tableOff 24 2  -- 24: resolution
     ∷ fails planA (tableAWith 5 (rec 18 (0 ∷ 60000 ∷ 40999 ∷ 41095 ∷ []))) 25 5  -- 25: a frame shared by two modes has the greater release
-    ∷ passes planA (tableAWith 5 (rec 18 (0 ∷ 60000 ∷ 41000 ∷ 41096 ∷ [])))
-    ∷ fails (file (set (set (recordsA 1000 1) 9 (rec 6 (0 ∷ 0 ∷ 3 ∷ []))) 10 (rec 6 (1 ∷ 0 ∷ 2 ∷ []))))
-    (tableAWith 5 (rec 18 (0 ∷ 60000 ∷ 40999 ∷ 41095 ∷ []))) 25 5  -- the modes the other way round
+    ∷ passes planA (tableAWith 5 (rec 18 (0 ∷ 60000 ∷ 41000 ∷ 41096 ∷ []))) (framesA 19904 29904 39904 41000)
+    ∷ fails (file (changed (changed recordsA 9 2 3) 10 2 2)) (tableAWith 5 (rec 18 (0 ∷ 60000 ∷ 40999 ∷ 41095 ∷ []))) 25 5  -- the modes the other way round
     ∷ fails planA tableTwoFaults 25 5  -- a lower number goes before a lower record
     ∷ fails (file (recordsS 8 1 2 4)) tableInGap 27 2  -- 27: the last control row counts
     ∷ fails (file recordsJ) tableA 21 0
     ∷ []
 
 unfoldable pub entries : List Entry
-entries = documentJobs ++ ownEntries
+entries = documentJobs ++ (limits ++ ownEntries)
