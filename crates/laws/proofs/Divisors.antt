@@ -3,8 +3,8 @@
 use mathlib.Core.Path.{_≡_, refl, sym, ap, _∙_}
 use mathlib.Core.Bool.{true, _&&_}
 use mathlib.Core.Logic.{_⊎_, inl, inr}
-use native.Mathlib.Nat.{not-suc-le-zero, le-of-suc-le-suc, zero-lt-suc, mul-zero, zero-mul, mul-comm, mul-assoc, mul-sub, suc-mul, mul-pos}
-use native.Mathlib.Nat.{mod-lt, mod-def, div-mul-le-self, div-lt-iff-lt-mul, lt-div-mul-add, mul-div-mul-left, eq-zero-or-pos, div-zero}
+use native.Mathlib.Nat.{not-suc-le-zero, le-of-suc-le-suc, zero-lt-suc, mul-zero, zero-mul, mul-comm, mul-assoc, mul-sub, suc-mul, mul-pos, mul-le-mul-right}
+use native.Mathlib.Nat.{mod-lt, mod-def, div-mul-le-self, div-lt-iff-lt-mul, le-div-iff-mul-le, lt-div-mul-add, mul-div-mul-left, eq-zero-or-pos, div-zero}
 use native.Mathlib.Nat.{dvd-refl, dvd-zero, dvd-mul-left, dvd-mul-right, dvd-trans, dvd-mod-iff, dvd-antisymm, eq-zero-of-zero-dvd, mul-div-cancel', div-mul-cancel, mul-dvd-mul-left, mul-dvd-mul-right, dvd-of-mul-dvd-mul-right}
 use native.Mathlib.Omega.{arith}
 use Prim.Native.Nat.{ℕ, zero, suc, _+_, _*_, _-_, _/_, _%_, _≤_, _<_, _∣_}
@@ -194,3 +194,17 @@ down-multiple r x = dvd-mul-left r (x / r)
 pub down-below : (r x : ℕ) → down r x ≤ x
 unfolding down
 down-below r x = div-mul-le-self x r
+
+pub down-greatest : (r x m : ℕ) → r ∣ m → m ≤ x → m ≤ down r x
+unfolding down
+down-greatest r x m d h = by-case (eq-zero-or-pos r)
+  where
+    by-case : (r ≡ 0) ⊎ (0 < r) → m ≤ x / r * r
+    by-case (inl z) =
+        let m₀ : m ≡ 0 = eq-zero-of-zero-dvd (rw z at d) in
+        omega arith
+    by-case (inr w) =
+        let e : m / r * r ≡ m = div-mul-cancel r d in
+        let q : m / r ≤ x / r = le-div-iff-mul-le w .1 (omega arith) in
+        let l : m / r * r ≤ x / r * r = mul-le-mul-right r q in
+        omega arith

@@ -26,7 +26,7 @@ use Rattle.line.proofs.Drawn.{Drawn, frameOf, controlOf, frame-drawn, frames-dr
 latestOf-all : {P : Numbered → Type 0} (x : Numbered) {ys : List Numbered} → P x → All P ys → P (latestOf x ys)
 unfolding latestOf
 latestOf-all x p empty = p
-latestOf-all {P} x p (also {x = y} q r) = latestOf-all (cond (isLater x y) y x) (go (isLater x y)) r
+latestOf-all {P} x p (also {x = y} q r) = latestOf-all (cond (isLater y x) y x) (go (isLater y x)) r
   where
     go : (b : Bool) → P (cond b y x)
     go true = q

@@ -13,7 +13,7 @@ use Rattle.laws.proofs.Lists.{length-tab, length-padTo}
 use Rattle.rules.specs.Frames.{Layout}
 use Rattle.rules.specs.LatestRelease.{Placed, numberedFrom, place, latestRelease}
 use Rattle.rules.specs.Table.{MadeTable, madeTable, tableBytes}
-use Rattle.rules.proofs.Room.{rule-refuses}
+use Rattle.rules.proofs.RuleSteps.{rule-twelve}
 use Rattle.answers.specs.declared.Refusal.{Refusal}
 use Rattle.answers.specs.declared.Refusal.the-variants.{BufferTooShort}
 use Rattle.answers.specs.Refusals.{said}
@@ -68,7 +68,7 @@ module _ (l : Layout) where
   twelve k (ok placed) e q = let z : _≡_ {A = ℕ} 0 1 = cc in absurd (omega arith)
   twelve k (refuse n f) e q =
       let same : f ≡ k = cc in
-      let number : n ≡ 12 = rule-refuses l n f .0 e .0 in
+      let number : n ≡ 12 = rule-twelve l n f e in
       e ∙ ap₂ refuse number same
 
   pub record Placing-of (placing : Placing) : Type 0 where

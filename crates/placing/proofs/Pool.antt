@@ -22,8 +22,8 @@ use Rattle.rules.specs.LatestRelease.{Numbered, Placed, isCandidate, isLater, i
 
 -- y is x, or x is later than y
 data Below (x : Numbered) : Numbered → Type 0 where
-  same : {y : Numbered} → y ≡ x → isLater x y ≡ false → Below x y
-  under : {y : Numbered} → isLater y x ≡ true → isLater x y ≡ false → Below x y
+  same : {y : Numbered} → y ≡ x → isLater y x ≡ false → Below x y
+  under : {y : Numbered} → isLater x y ≡ true → isLater y x ≡ false → Below x y
 
 module _ (x : Numbered) where
   below-pick : (b : Bool) (y c : Numbered) → Below x y → Below x c → Below x (cond b y c)
@@ -34,12 +34,12 @@ module _ (x : Numbered) where
   either-x true y c p q = p
   either-x false y c p q = q
 
-  pick-x : (y : Numbered) {c : Numbered} → Below x c → y ≡ x → cond (isLater c y) y c ≡ x
-  pick-x y {c} (same e n) q = either-x (isLater c y) y c q e
+  pick-x : (y : Numbered) {c : Numbered} → Below x c → y ≡ x → cond (isLater y c) y c ≡ x
+  pick-x y {c} (same e n) q = either-x (isLater y c) y c q e
   pick-x y {c} (under e n) q = rw (q, e)
 
-  keep-x : {y : Numbered} (c : Numbered) → Below x y → c ≡ x → cond (isLater c y) y c ≡ x
-  keep-x {y} c (same e n) q = either-x (isLater c y) y c e q
+  keep-x : {y : Numbered} (c : Numbered) → Below x y → c ≡ x → cond (isLater y c) y c ≡ x
+  keep-x {y} c (same e n) q = either-x (isLater y c) y c e q
   keep-x {y} c (under e n) q = rw (q, n)
 
   latestOf-top : (c : Numbered) {l : List Numbered} → Below x c → All (Below x) l → (c ≡ x) ⊎ List·Memᴰ x l → latestOf c l ≡ x
@@ -47,11 +47,11 @@ module _ (x : Numbered) where
   latestOf-top c p empty (inl e) = e
   latestOf-top c p empty (inr m) = elim m [ ]
   latestOf-top c p (also {x = y} q r) (inl e) =
-      latestOf-top (cond (isLater c y) y c) (below-pick (isLater c y) y c q p) r (inl (keep-x c q e))
+      latestOf-top (cond (isLater y c) y c) (below-pick (isLater y c) y c q p) r (inl (keep-x c q e))
   latestOf-top c p (also {x = y} q r) (inr (List·Memᴰ·head e)) =
-      latestOf-top (cond (isLater c y) y c) (below-pick (isLater c y) y c q p) r (inl (pick-x y p (sym e)))
+      latestOf-top (cond (isLater y c) y c) (below-pick (isLater y c) y c q p) r (inl (pick-x y p (sym e)))
   latestOf-top c p (also {x = y} q r) (inr (List·Memᴰ·tail m)) =
-      latestOf-top (cond (isLater c y) y c) (below-pick (isLater c y) y c q p) r (inr m)
+      latestOf-top (cond (isLater y c) y c) (below-pick (isLater y c) y c q p) r (inr m)
 
   latest-top : {l : List Numbered} → All (Below x) l → List·Memᴰ x l → latest l ≡ x
   latest-top (also {x = y} q r) (List·Memᴰ·head e) = latestOf-top y q r (inl (sym e))
@@ -108,7 +108,7 @@ module _ (F : ℕ → Frame) where
 
   -- ---- keys and isLater
 
-  later-if : (i j : ℕ) → i < 65536 → j < 65536 → keyOf i < keyOf j → isLater (numbered i) (numbered j) ≡ true
+  later-if : (i j : ℕ) → i < 65536 → j < 65536 → keyOf i < keyOf j → isLater (numbered j) (numbered i) ≡ true
   unfolding isLater
   later-if i j hi hj h = by (ltb (F i .release) (F j .release)) refl
     where
@@ -121,7 +121,7 @@ module _ (F : ℕ → Frame) where
           let r : i < j = omega arith in
           rw (e, eq-eqb _ _ q, lt-ltb _ _ r)
 
-  not-later : (i j : ℕ) → i < 65536 → j < 65536 → keyOf j ≤ keyOf i → isLater (numbered i) (numbered j) ≡ false
+  not-later : (i j : ℕ) → i < 65536 → j < 65536 → keyOf j ≤ keyOf i → isLater (numbered j) (numbered i) ≡ false
   unfolding isLater
   not-later i j hi hj h =
       let l : F j .release ≤ F i .release = omega arith in

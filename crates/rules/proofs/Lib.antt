@@ -3,6 +3,7 @@ pub mod StationJobs
 pub mod Period
 pub mod FramesOf
 pub mod PlanKept
+pub mod RuleSteps
 pub mod Placing
 pub mod TableBytes
 pub mod LaidOut

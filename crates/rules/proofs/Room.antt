@@ -1,7 +1,7 @@
 -- Room: `make` gives 12 exactly where the latest-release rule refuses, at the frame that it had taken, and a table exactly where the rule
 -- places every frame and the room suffices.
 use mathlib.Core.Path.{_≡_, refl, sym, ap, _∙_}
-use mathlib.Core.List.{List, []}
+use mathlib.Core.List.{List}
 use mathlib.Core.Logic.{_⊎_, inl, inr, _↔_}
 use native.Mathlib.Omega.{arith}
 use borrow.Author.Tests.{leb-true, leb-false, le-leb, lt-leb}
@@ -25,48 +25,13 @@ use Rattle.laws.proofs.Faults.{unless-refused}
 use Rattle.rules.specs.Limits.{mostFrames}
 use Rattle.rules.specs.Plan.{Plan, readPlan}
 use Rattle.rules.specs.Frames.{Layout, layout}
-use Rattle.rules.specs.LatestRelease.{Placed, numberedFrom, firstEnd, frameTime, latestRelease}
+use Rattle.rules.specs.LatestRelease.{Placed, latestRelease}
 use Rattle.rules.specs.Table.{FrameRow, tableBytes, MadeTable, madeTable, tableFor, outcome, make}
+use Rattle.rules.specs.RuleSteps.{RuleGives}
 use Rattle.rules.specs.Obeys.{MakesTable, MakeFault, inPlan, inLayout, inRule, inRoom, RuleRefuses}
-use Rattle.rules.proofs.Placing.{Run, run-of, run-is, Stuck, refused-of, stuck-is, gapOf, resolutionOf}
+use Rattle.rules.proofs.RuleSteps.{rule-exact}
 use Rattle.rules.proofs.RefusalNumbers.{plan-gives, layout-gives}
 use Rattle.rules.proofs.MadePasses.{make-enough, make-short, make-gave, table-made}
-
--- ---- the rule's runs
-
-module _ (l : Layout) where
-  -- the rule, from P on and with every frame left, places them so
-  abbrev pub Places : List Placed → Type 0
-  Places placed =
-      Run (resolutionOf l) (gapOf l) (l .afterControl) (frameTime l) (length (l .frames)) (firstEnd l) (numberedFrom 0 (l .frames)) [] placed
-
-  -- the rule, from P on and with every frame left, comes to take the frame of this number, which does not fit
-  abbrev pub SticksAt : ℕ → Type 0
-  SticksAt frame =
-      Stuck (resolutionOf l) (gapOf l) (l .afterControl) (frameTime l) (length (l .frames)) (firstEnd l) (numberedFrom 0 (l .frames)) frame
-
-  pub rule-places : (placed : List Placed) → (latestRelease l ≡ ok placed) ↔ Places placed
-  unfolding latestRelease
-  rule-places placed = (
-    run-of (resolutionOf l) (gapOf l) (l .afterControl) (frameTime l) (length (l .frames)) (firstEnd l) (numberedFrom 0 (l .frames)) [] placed,
-    run-is (resolutionOf l) (gapOf l) (l .afterControl) (frameTime l),
-  )
-
-  rule-number : (n frame : ℕ) → latestRelease l ≡ refuse n frame → (n ≡ 12) × SticksAt frame
-  unfolding latestRelease
-  rule-number n frame e =
-      let r =
-      refused-of (resolutionOf l) (gapOf l) (l .afterControl) (frameTime l) (length (l .frames)) (firstEnd l)
-      (numberedFrom 0 (l .frames)) [] n frame e in
-      (r .twelve, r .stuck)
-
-  rule-stuck : (n frame : ℕ) → (n ≡ 12) × SticksAt frame → latestRelease l ≡ refuse n frame
-  unfolding latestRelease
-  rule-stuck n frame h =
-      stuck-is (resolutionOf l) (gapOf l) (l .afterControl) (frameTime l) [] (h .1) ∙ ap (λ (m : ℕ). refuse m frame) (sym (h .0))
-
-  pub rule-refuses : (n frame : ℕ) → (latestRelease l ≡ refuse n frame) ↔ ((n ≡ 12) × SticksAt frame)
-  rule-refuses n frame = (rule-number n frame, rule-stuck n frame)
 
 -- ---- tableFor
 
@@ -114,22 +79,22 @@ module _ (plan : List ℕ) (room : ℕ) {p : Plan} {l : Layout} (isRead : readPl
       (λ _ _ f. refuse≢ok (sym f))
 
   -- 12 is the rule's own refusal, at the frame that it had taken
-  pub room-twelve : (frame : ℕ) → (tableFor plan room ≡ refuse 12 frame) ↔ SticksAt l frame
+  pub room-twelve : (frame : ℕ) → (tableFor plan room ≡ refuse 12 frame) ↔ RuleGives l (refuse 12 frame)
   room-twelve frame = (
-    λ e. rule-refuses l 12 frame .0 (twelve-says frame e) .1,
-    λ s. fault-table plan room 12 frame (inRule isRead isLaid (rule-refuses l 12 frame .1 (refl, s))),
+    λ e. rule-exact l (refuse 12 frame) .0 (twelve-says frame e),
+    λ s. fault-table plan room 12 frame (inRule isRead isLaid (rule-exact l (refuse 12 frame) .1 s)),
   )
 
   made-says : (t : MadeTable) → tableFor plan room ≡ ok t
-      → (placed : List Placed) × Places l placed × (length (tableBytes l placed) ≤ room) × (madeTable l placed ≡ t)
+      → (placed : List Placed) × RuleGives l (ok placed) × (length (tableBytes l placed) ≤ room) × (madeTable l placed ≡ t)
   unfolding madeTable
   made-says t e =
       bind-case (latestRelease l) _ (sym on ∙ e) λ placed rule e₁.
       let long = length (tableBytes l placed) in
       then-case (unless 13 long (leb long room)) _ e₁ λ _ fits e₂.
-      (placed, rule-places l placed .0 rule, leb-true long room (unless-ok 13 long (leb long room) fits), ok-injective e₂)
+      (placed, rule-exact l (ok placed) .0 rule, leb-true long room (unless-ok 13 long (leb long room) fits), ok-injective e₂)
 
-  made-is : (t : MadeTable) → (placed : List Placed) × Places l placed × (length (tableBytes l placed) ≤ room) × (madeTable l placed ≡ t)
+  made-is : (t : MadeTable) → (placed : List Placed) × RuleGives l (ok placed) × (length (tableBytes l placed) ≤ room) × (madeTable l placed ≡ t)
       → tableFor plan room ≡ ok t
   made-is t h =
       table-makes plan room (length (tableBytes l (h .0)))
@@ -139,7 +104,7 @@ module _ (plan : List ℕ) (room : ℕ) {p : Plan} {l : Layout} (isRead : readPl
         laid = l;
         isLaid = isLaid;
         placed = h .0;
-        rule = rule-places l (h .0) .1 (h .1);
+        rule = rule-exact l (ok (h .0)) .1 (h .1);
         fits = h .2;
         long = refl;
       })
@@ -147,7 +112,7 @@ module _ (plan : List ℕ) (room : ℕ) {p : Plan} {l : Layout} (isRead : readPl
 
   -- a table is made exactly where the rule places every frame and the room suffices
   pub room-made : (t : MadeTable)
-      → (tableFor plan room ≡ ok t) ↔ ((placed : List Placed) × Places l placed × (length (tableBytes l placed) ≤ room) × (madeTable l placed ≡ t))
+      → (tableFor plan room ≡ ok t) ↔ ((placed : List Placed) × RuleGives l (ok placed) × (length (tableBytes l placed) ≤ room) × (madeTable l placed ≡ t))
   room-made t = (made-says t, made-is t)
 
 -- ---- make

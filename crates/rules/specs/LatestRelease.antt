@@ -41,15 +41,15 @@ greatestDeadline xs = foldr withDeadline 0 xs
 unfoldable pub isCandidate : ℕ → Numbered → Bool
 isCandidate e x = leb e (x .frame .deadline)
 
--- "the latest release; among equals, the larger number"
+-- x is later than y: a later release; among equals, the larger number
 unfoldable pub isLater : Numbered → Numbered → Bool
 isLater x y =
-    ltb (x .frame .release) (y .frame .release)
-    || (eqb (x .frame .release) (y .frame .release) && ltb (x .number) (y .number))
+    ltb (y .frame .release) (x .frame .release)
+    || (eqb (y .frame .release) (x .frame .release) && ltb (y .number) (x .number))
 
 unfoldable pub latestOf : Numbered → List Numbered → Numbered
 latestOf x [] = x
-latestOf x (y ∷ ys) = latestOf (cond (isLater x y) y x) ys
+latestOf x (y ∷ ys) = latestOf (cond (isLater y x) y x) ys
 
 abbrev pub latest : List Numbered → Numbered
 latest [] = noNumbered

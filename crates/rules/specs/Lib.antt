@@ -3,6 +3,7 @@ pub mod Records
 pub mod Plan
 pub mod Frames
 pub mod LatestRelease
+pub mod RuleSteps
 pub mod Table
 pub mod Checker
 pub mod Jobs
