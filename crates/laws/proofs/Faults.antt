@@ -19,6 +19,7 @@ use Rattle.laws.proofs.Loops.{
   firstBad-upTo-within,
   firstBad-upTo-fails,
   firstBad-upTo-before,
+  firstBad-places,
 }
 use Rattle.laws.proofs.Res.{
   refuse≢ok,
@@ -99,6 +100,14 @@ module _ (r : Rule) (test : ℕ → Bool) (means : (k : ℕ) → k < r .places �
         refuses = λ n p e. inl (broken-at n p (at-refused (r .number) (r .first) found n p e));
         refused = λ n p f. breaks n p (only-one r n p f);
       }
+
+-- a rule asked of each element of a list
+pub exact-list : {A : Type 0} (number first : ℕ) (asks : ℕ → Type 0) (l : List A) (d : A) (test : A → Bool)
+    → ((k : ℕ) → k < length l → Tests (test (getD l k d)) (asks k))
+    → Exact (at number first (firstBad test l)) (record { number = number; first = first; places = length l; asks = asks } ∷ [])
+exact-list number first asks l d test means =
+    rw (firstBad-places test l d)
+    (exact-rule (record { number = number; first = first; places = length l; asks = asks }) (λ k. test (getD l k d)) means)
 
 -- a rule with one place, asked by one test
 abbrev pub once : ℕ → ℕ → Type 0 → Rule

@@ -178,3 +178,13 @@ module _ (p : ℕ → Bool) where
   firstBad-upTo-before n k j e v =
       let w = firstBad-upTo-within n k e in
       rw (getD-upTo n j 0 (omega arith)) at (firstBad-bad p (upTo n) 0 k e .before j v)
+
+-- a list's first bad element is the first bad place of it
+pub firstBad-places : {A : Type 0} (p : A → Bool) (l : List A) (d : A) → firstBad p l ≡ firstBad (λ k. p (getD l k d)) (upTo (length l))
+firstBad-places p l d = go (firstBad p l) refl
+  where
+    go : (o : Option ℕ) → firstBad p l ≡ o → firstBad p l ≡ firstBad (λ k. p (getD l k d)) (upTo (length l))
+    go none e = e ∙ sym (firstBad-upTo-none (λ k. p (getD l k d)) (length l) (λ k w. firstBad-passes p l d k e w))
+    go (some k) e =
+        let b = firstBad-bad p l d k e in
+        e ∙ sym (firstBad-upTo-some (λ k. p (getD l k d)) (length l) k (b .within) (b .fails) (b .before))

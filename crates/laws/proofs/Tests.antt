@@ -11,7 +11,7 @@ use Prim.Native.Nat.{ℕ, _≤_, _<_, _%_, _∣_}
 use Rattle.laws.specs.Lists.{keep, any, all, upTo}
 use Rattle.laws.specs.Numbers.{divides}
 use Rattle.laws.specs.Res.{Res, ok}
-use Rattle.laws.proofs.Lists.{true-false, both-left, both-right, any-hit, any-true, all-each, all-true, all-upTo-each, all-upTo-true, all-keep}
+use Rattle.laws.proofs.Lists.{true-false, both-left, both-right, any-hit, any-true, all-each, all-true, all-upTo-each, all-upTo-true, any-upTo-hit, any-upTo-true, all-keep}
 
 pub record Tests (b : Bool) (P : Type 0) : Type 0 where
   pub says : b ≡ true → P
@@ -105,9 +105,21 @@ pub by-all-keep : {A : Type 0} {P Q : ℕ → Type 0} (q r : A → Bool) (l : Li
 by-all-keep q r l d s t = rw (all-keep q r l) (by-all (λ x. cond (q x) (r x) true) l d (λ k w. by-where (s k w) (t k w)))
 
 module _ {P : ℕ → Type 0} (p : ℕ → Bool) (n : ℕ) where
+  pub by-any-upTo : ((k : ℕ) → k < n → Tests (p k) (P k)) → Tests (any p (upTo n)) ((k : ℕ) × (k < n) × P k)
+  by-any-upTo t =
+      record {
+        says = λ e. let f = any-upTo-true p n e in (f .0, f .1, t (f .0) (f .1) .says (f .2));
+        passes = λ h. any-upTo-hit p n (h .0) (h .1) (t (h .0) (h .1) .passes (h .2));
+      }
+
   pub by-all-upTo : ((k : ℕ) → k < n → Tests (p k) (P k)) → Tests (all p (upTo n)) ((k : ℕ) → k < n → P k)
   by-all-upTo t =
       record { says = λ e k w. t k w .says (all-upTo-true p n k e w); passes = λ h. all-upTo-each p n (λ k w. t k w .passes (h k w)) }
+
+pub by-all-keep-upTo : {P Q : ℕ → Type 0} (q r : ℕ → Bool) (n : ℕ) → ((k : ℕ) → k < n → Tests (q k) (P k))
+    → ((k : ℕ) → k < n → Tests (r k) (Q k)) → Tests (all r (keep q (upTo n))) ((k : ℕ) → k < n → P k → Q k)
+by-all-keep-upTo q r n s t =
+    rw (all-keep q r (upTo n)) (by-all-upTo (λ k. cond (q k) (r k) true) n (λ k w. by-where (s k w) (t k w)))
 
 -- ---- accepted exactly when
 

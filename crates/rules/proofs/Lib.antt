@@ -2,6 +2,7 @@ pub mod Jobs
 pub mod StationJobs
 pub mod Period
 pub mod FramesOf
+pub mod PlanExact
 pub mod PlanKept
 pub mod RuleSteps
 pub mod Placing

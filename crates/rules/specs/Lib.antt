@@ -12,5 +12,6 @@ pub mod Station
 pub mod StationRange
 pub mod OneBoard
 pub mod Obeys
+pub mod ObeysPlan
 pub mod History
 pub mod Told
