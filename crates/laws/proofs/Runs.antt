@@ -2,7 +2,7 @@
 -- multiple of T have the same run's age.
 use mathlib.Core.Path.{_≡_, sym, ap, _∙_}
 use mathlib.Core.Logic.{_⊎_, inl, inr}
-use native.Mathlib.Nat.{mod-lt, mod-eq-of-lt, mod-self, mod-add-div, suc-mod, zero-mod, eq-or-lt-of-le, mod-eq-zero-of-dvd, dvd-of-mod-eq-zero, mul-div-cancel', add-mul-mod-self-left, lt-of-mul-lt-mul-left, mul-suc}
+use native.Mathlib.Nat.{mod-lt, mod-eq-of-lt, mod-self, mod-add-div, suc-mod, zero-mod, eq-or-lt-of-le, mod-eq-zero-of-dvd, dvd-of-mod-eq-zero, mul-div-cancel', add-mul-mod-self-left, lt-of-mul-lt-mul-left, mul-suc, dvd-mul-right}
 use native.Mathlib.Omega.{arith}
 use Prim.Native.Nat.{ℕ, suc, _+_, _*_, _-_, _/_, _%_, _≤_, _<_, _∣_}
 
@@ -86,3 +86,20 @@ run-deadline T c d pos h k l u =
     let same : e ≡ suc q = omega arith in
     let z : T * e ≡ T * suc q = ap (λ (x : ℕ). T * x) same in
     omega arith
+
+-- ---- where the run under way began
+
+-- an age r ticks behind a whole number of runs, r from 1 to T
+pub run-behind : (T q r : ℕ) → 0 < r → r ≤ T → T ∣ q → withinRun (q + r) T ≡ r
+run-behind T q r pos most d =
+    let e : q + r - 1 - (r - 1) ≡ q = omega arith in
+    let f : (q + r - 1) % T ≡ (r - 1) % T = same-remainder T (q + r - 1) (r - 1) (omega arith) (rw e d) in
+    let g : (r - 1) % T ≡ r - 1 = mod-eq-of-lt (omega arith) in
+    omega arith
+
+-- the run began a whole number of runs after the age did
+pub run-began : (T a : ℕ) → 0 < a → (withinRun a T ≤ a) × (T ∣ a - withinRun a T)
+run-began T a pos =
+    let f : (a - 1) % T + T * ((a - 1) / T) ≡ a - 1 = mod-add-div (a - 1) T in
+    let e : a - withinRun a T ≡ T * ((a - 1) / T) = omega arith in
+    (omega arith, rw e (dvd-mul-right T ((a - 1) / T)))

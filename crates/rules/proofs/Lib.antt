@@ -16,6 +16,7 @@ pub mod StationExact
 pub mod StationRanges
 pub mod StationStays
 pub mod TransparentTick
+pub mod TransparentModes
 pub mod TransparentOwn
 pub mod TransparentBus
 pub mod Room
@@ -24,7 +25,9 @@ pub mod TransparentPlan
 pub mod Transparent
 pub mod TransparentTold
 pub mod TransparentPlays
+pub mod AllowedExact
 pub mod StationPlaces
+pub mod FollowsTold
 pub mod StationKept
 pub mod BodyNumbers
 pub mod Top

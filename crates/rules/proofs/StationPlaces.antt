@@ -316,18 +316,23 @@ module _ (plan table : List ℕ) (starting : ℕ → Option ℕ) (b : Begun) (be
   task-place : (t : ℕ) → t < length (p .tasks) → t < taskPlaces
   task-place t w = omega (arith, w, kept-plan .taskCount .most)
 
-  -- on every node that consumes a task of another node
-  pub transparent-follows : (n t : ℕ) → consumes p n t ≡ true → after .shown n t ≡ boardValue p starting t history
-  transparent-follows n t c =
-      let h = follows-played same follows in
+  -- what is shown is what the rules' state shows
+  abbrev now : (s₁ : State) × ((played (b .kept) (b .state) history ≡ ok s₁) × Agree after s₁)
+  now = follows-played same follows
+
+  pub shown-there : (n t : ℕ) → consumes p n t ≡ true → after .shown n t ≡ now .0 .shown n t
+  shown-there n t c =
       let on = consumed-on p n t c in
       let node : n < nodePlaces = rw (← on .1) (task-node p kept-plan (on .0)) in
-      h .1 .1 .shown n node t (task-place t (consumed-there p n t c kept-plan))
-      ∙ transparent plan table starting b begins p reads history (h .0) (h .1 .0) n t c
+      now .1 .1 .shown n node t (task-place t (consumed-there p n t c kept-plan))
+
+  pub shown-there-own : (t : ℕ) → t < length (p .tasks) → after .shown (taskNode p t) t ≡ now .0 .shown (taskNode p t) t
+  shown-there-own t w = now .1 .1 .shown (taskNode p t) (task-node p kept-plan t) t (task-place t w)
+
+  -- on every node that consumes a task of another node
+  pub transparent-follows : (n t : ℕ) → consumes p n t ≡ true → after .shown n t ≡ boardValue p starting t history
+  transparent-follows n t c = shown-there n t c ∙ transparent plan table starting b begins p reads history (now .0) (now .1 .0) n t c
 
   -- on a task's own node
   pub transparent-follows-own : (t : ℕ) → t < length (p .tasks) → after .shown (taskNode p t) t ≡ boardValue p starting t history
-  transparent-follows-own t w =
-      let h = follows-played same follows in
-      h .1 .1 .shown (taskNode p t) (task-node p kept-plan t) t (task-place t w)
-      ∙ transparent-own plan table starting b begins p reads history (h .0) (h .1 .0) t w
+  transparent-follows-own t w = shown-there-own t w ∙ transparent-own plan table starting b begins p reads history (now .0) (now .1 .0) t w

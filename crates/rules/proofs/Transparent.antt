@@ -29,9 +29,10 @@ use Rattle.rules.proofs.PlanKept.{PlanKept, readable-kept}
 use Rattle.rules.proofs.LaidOut.{LaidOut, laid-out}
 use Rattle.rules.proofs.StationExact.{step-accepted}
 use Rattle.rules.proofs.TransparentTick.{ending-tests, shown-still, value-still}
-use Rattle.rules.proofs.TransparentOwn.{ModeOf, FairTask, board, Own, ends-same, own-on, own-start}
+use Rattle.rules.proofs.TransparentModes.{ModeOf, FairModule, Timed, timed-tick, timed-start}
+use Rattle.rules.proofs.TransparentOwn.{FairTask, board, Own, ends-same, own-on, own-start}
 use Rattle.rules.proofs.TransparentBus.{FairBus, Sent, sent-on, sent-start}
-use Rattle.rules.proofs.TransparentPlan.{keptFor, fair-task, fair-bus}
+use Rattle.rules.proofs.TransparentPlan.{keptFor, fair-module, fair-task, fair-bus}
 
 -- ---- what a beginning tells
 
@@ -77,18 +78,18 @@ begun plan table starting b e =
     }
 
 -- a module's starting place holds a mode of its own
-pub first-mode : (k : Kept) (starting : ℕ → Option ℕ) (t : ℕ) → k .taskHome t < k .modules → startsWell k starting (k .taskHome t) ≡ true
-    → ModeOf k t (firstIn starting (k .taskHome t))
+pub first-mode : (k : Kept) (starting : ℕ → Option ℕ) (m : ℕ) → m < k .modules → startsWell k starting m ≡ true
+    → ModeOf k m (firstIn starting m)
 unfolding startsWell firstIn isModeOf
-first-mode k starting t w = go (starting (k .taskHome t))
+first-mode k starting m w = go (starting m)
   where
-    go : (o : Option ℕ) → holdsModeOf k (k .taskHome t) o ≡ true → ModeOf k t (Option·getD o 0)
-    go none e = true-false (sym (lt-ltb (k .taskHome t) (k .modules) w) ∙ not-true (ltb (k .taskHome t) (k .modules)) e)
+    go : (o : Option ℕ) → holdsModeOf k m o ≡ true → ModeOf k m (Option·getD o 0)
+    go none e = true-false (sym (lt-ltb m (k .modules) w) ∙ not-true (ltb m (k .modules)) e)
     go (some μ) e =
-        let rest = both-right (ltb (k .taskHome t) (k .modules)) (ltb μ (k .modes) && eqb (k .modeHome μ) (k .taskHome t)) e in
+        let rest = both-right (ltb m (k .modules)) (ltb μ (k .modes) && eqb (k .modeHome μ) m) e in
         record {
-          there = ltb-true μ (k .modes) (both-left (ltb μ (k .modes)) (eqb (k .modeHome μ) (k .taskHome t)) rest);
-          own = eqb-true (k .modeHome μ) (k .taskHome t) (both-right (ltb μ (k .modes)) (eqb (k .modeHome μ) (k .taskHome t)) rest);
+          there = ltb-true μ (k .modes) (both-left (ltb μ (k .modes)) (eqb (k .modeHome μ) m) rest);
+          own = eqb-true (k .modeHome μ) m (both-right (ltb μ (k .modes)) (eqb (k .modeHome μ) m) rest);
         }
 
 -- ---- along a history
@@ -107,7 +108,14 @@ module _ (k : Kept) (starting : ℕ → Option ℕ) where
       subst (λ (s : State). Holds s (i ∷ past)) (sym (accepted .is) ∙ ok-injective e₂)
       (on before i past (accepted .may) (along Holds start on past before p))
 
-  module _ (t : ℕ) (fair : FairTask k t) (first : ModeOf k t (firstIn starting (k .taskHome t))) where
+  -- of one module, with tasks or without
+  pub timed-along : (m : ℕ) → FairModule k m → ModeOf k m (firstIn starting m) → (history : List Input) (s : State)
+      → played k (stateAtStart starting) history ≡ ok s → Timed k (firstIn starting) m s history
+  timed-along m fair first =
+      along (Timed k (firstIn starting) m) (timed-start k starting m first)
+      (λ s i past may h. timed-tick k (firstIn starting) m fair s i past may h)
+
+  module _ (t : ℕ) (fair : FairTask k t) (first : ModeOf k (k .taskHome t) (firstIn starting (k .taskHome t))) where
     pub own-along : (history : List Input) (s : State) → played k (stateAtStart starting) history ≡ ok s → Own k (firstIn starting) t s history
     own-along =
         along (Own k (firstIn starting) t) (own-start k starting t first)
@@ -142,7 +150,7 @@ module _ (k : Kept) (starting : ℕ → Option ℕ) where
             own = own-on k (firstIn starting) t fair s i past may (h .own);
             shows =
                 shown-still k s i t n quiet ∙ h .shows
-                ∙ sym (value-still (k .taskHome) (k .run) (firstIn starting) i past t (ends-same k (firstIn starting) t fair s i past may (h .own .timed) ∙ quiet));
+                ∙ sym (value-still (k .taskHome) (k .run) (firstIn starting) i past t (ends-same k (firstIn starting) t fair s past (h .own .timed) ∙ quiet));
           }
         where
           idle : runPeriod k s t ≡ 0
@@ -227,18 +235,26 @@ module _ (plan table : List ℕ) (starting : ℕ → Option ℕ) (b : Begun) (be
   pub plays-on : played (keptFor (facts .read) (facts .rows)) (stateAtStart starting) history ≡ ok s
   plays-on = subst (λ (b : Begun). played (b .kept) (b .state) history ≡ ok s) (facts .is) plays
 
+  -- of each module of the plan
+  pub first-of : (m : ℕ) → m < length (facts .read .modules) → ModeOf (keptFor (facts .read) (facts .rows)) m (firstIn starting m)
+  unfolding keptOf layoutOf
+  first-of m w =
+      first-mode (keptFor (facts .read) (facts .rows)) starting m w
+      (facts .starts m (fair-module (facts .read) (facts .kept) (facts .rows) m w .place))
+
+  pub timed : (m : ℕ) → m < length (facts .read .modules) → Timed (keptFor (facts .read) (facts .rows)) (firstIn starting) m s history
+  timed m w =
+      timed-along (keptFor (facts .read) (facts .rows)) starting m (fair-module (facts .read) (facts .kept) (facts .rows) m w)
+      (first-of m w) history s plays-on
+
   module _ (t : ℕ) (w : t < length (facts .read .tasks)) where
     pub fair : FairTask (keptFor (facts .read) (facts .rows)) t
     fair = fair-task (facts .read) (facts .kept) (facts .rows) t w
 
-    pub first : ModeOf (keptFor (facts .read) (facts .rows)) t (firstIn starting (keptFor (facts .read) (facts .rows) .taskHome t))
+    pub first : ModeOf (keptFor (facts .read) (facts .rows)) (keptFor (facts .read) (facts .rows) .taskHome t)
+        (firstIn starting (keptFor (facts .read) (facts .rows) .taskHome t))
     unfolding keptOf layoutOf
-    first =
-        first-mode (keptFor (facts .read) (facts .rows)) starting t (home (facts .kept))
-        (facts .starts (theTask (facts .read) t .home) (fair .modulePlace))
-      where
-        home : PlanKept (facts .read) → theTask (facts .read) t .home < length (facts .read .modules)
-        home kept = fair-home (facts .read) kept t w
+    first = first-of (theTask (facts .read) t .home) (fair-home (facts .read) (facts .kept) t w)
 
     shows-own : s .shown (taskNode (facts .read) t) t ≡ boardValue (facts .read) starting t history
     unfolding keptOf layoutOf homeNode taskNode boardValue homeIn

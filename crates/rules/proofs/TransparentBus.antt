@@ -49,7 +49,8 @@ use Rattle.rules.proofs.TransparentTick.{
   value-ends,
   value-still,
 }
-use Rattle.rules.proofs.TransparentOwn.{ModeOf, FairTask, board, boardResult, Own, on-case, period-is, ends-same, result-at-end, quiet-given, born}
+use Rattle.rules.proofs.TransparentModes.{ModeOf, on-case}
+use Rattle.rules.proofs.TransparentOwn.{FairTask, board, boardResult, Own, period-is, ends-same, result-at-end, quiet-given, born}
 
 -- a data row of the task with this deadline
 pub record RowOf (k : Kept) (t deadline : ℕ) : Type 0 where
@@ -63,9 +64,9 @@ pub record RowOf (k : Kept) (t deadline : ℕ) : Type 0 where
 -- Every message has its row, which does not start before the message's release.
 pub record FairBus (k : Kept) (t : ℕ) : Type 0 where
   pub cycle : 0 < k .period
-  pub switches : (μ : ℕ) → ModeOf k t μ → k .period ∣ k .modeSwitch μ
-  pub modes : (μ : ℕ) → ModeOf k t μ → k .period ∣ k .modePeriod μ
-  pub runs : (μ : ℕ) → ModeOf k t μ → 0 < k .run μ t → k .run μ t ∣ k .period
+  pub switches : (μ : ℕ) → ModeOf k (k .taskHome t) μ → k .period ∣ k .modeSwitch μ
+  pub modes : (μ : ℕ) → ModeOf k (k .taskHome t) μ → k .period ∣ k .modePeriod μ
+  pub runs : (μ : ℕ) → ModeOf k (k .taskHome t) μ → 0 < k .run μ t → k .run μ t ∣ k .period
   pub bus : k .isBus t ≡ true
   pub sends : k .sends (k .taskHome t) ≡ true
   pub control : ℕ
@@ -77,9 +78,9 @@ pub record FairBus (k : Kept) (t : ℕ) : Type 0 where
   pub apart : (j r : ℕ) → j < r → r < k .datas → k .dataStop j ≤ k .dataStart r
   pub behind : (r : ℕ) → r < k .datas → k .controlStop control ≤ k .dataStart r
   pub inTime : (r : ℕ) → r < k .datas → k .dataStop r ≤ k .dataDeadline r
-  pub released : (r μ : ℕ) → r < k .datas → k .dataTask r ≡ t → ModeOf k t μ → 0 < k .run μ t → k .run μ t ∣ k .dataDeadline r
+  pub released : (r μ : ℕ) → r < k .datas → k .dataTask r ≡ t → ModeOf k (k .taskHome t) μ → 0 < k .run μ t → k .run μ t ∣ k .dataDeadline r
       → k .dataDeadline r + k .taskWorst t ≤ k .dataStart r + k .run μ t
-  pub rowFor : (μ deadline : ℕ) → ModeOf k t μ → 0 < k .run μ t → k .run μ t ∣ deadline → 0 < deadline → deadline ≤ k .period
+  pub rowFor : (μ deadline : ℕ) → ModeOf k (k .taskHome t) μ → 0 < k .run μ t → k .run μ t ∣ deadline → 0 < deadline → deadline ≤ k .period
       → RowOf k t deadline
 
 -- ---- rows one behind the other
@@ -137,7 +138,7 @@ module _ (k : Kept) (first : ℕ → ℕ) (t n : ℕ) where
 
     -- ---- bus time and age
 
-    known : ModeOf k t (s .mode (k .taskHome t))
+    known : ModeOf k (k .taskHome t) (s .mode (k .taskHome t))
     known = own .timed .known
 
     whole-cycles : k .period ∣ taskAge k s t → k .period ∣ s .clock
@@ -276,11 +277,11 @@ module _ (k : Kept) (first : ℕ → ℕ) (t n : ℕ) where
         which : (endsNow k s t ≡ true) ⊎ (endsNow k s t ≡ false) → tick k s i .shown n t ≡ board k first t (i ∷ past)
         which (inl q) =
             shown-ending q ∙ result-at-end k first t fair s i past may own (ending-tests k s t .says q)
-            ∙ ap (λ (x : ℕ). boardResult k first t x (i ∷ past)) (sym (period-is k first t fair s i past may (own .timed)))
-            ∙ sym (value-ends (k .taskHome) (k .run) first i past t (ends-same k first t fair s i past may (own .timed) ∙ q))
+            ∙ ap (λ (x : ℕ). boardResult k first t x (i ∷ past)) (sym (period-is k first t fair s past (own .timed)))
+            ∙ sym (value-ends (k .taskHome) (k .run) first i past t (ends-same k first t fair s past (own .timed) ∙ q))
         which (inr q) =
             shown-still k s i t n q ∙ h .shows
-            ∙ sym (value-still (k .taskHome) (k .run) first i past t (ends-same k first t fair s i past may (own .timed) ∙ q))
+            ∙ sym (value-still (k .taskHome) (k .run) first i past t (ends-same k first t fair s past (own .timed) ∙ q))
 
     -- ---- within a cycle
 
@@ -290,9 +291,10 @@ module _ (k : Kept) (first : ℕ → ℕ) (t n : ℕ) where
       still =
           given-case (i .change m) (λ e. e)
           (λ μ e. absurd (not-whole low high
-          (dvd-trans (k .period) (bus .switches (s .mode m) known) (may .allowed m μ (fair .modulePlace) e .instant))))
+          (dvd-trans (k .period) (bus .switches (s .mode m) known) (may .allowed m μ (fair .home .place) e .instant))))
 
       age-within : taskAge k (tick k s i) t ≡ taskAge k s t + 1
+      unfolding taskAge
       age-within = which (eq-or-lt-of-le (own .timed .young))
         where
           which : (taskAge k s t ≡ k .modePeriod (s .mode m)) ⊎ (taskAge k s t < k .modePeriod (s .mode m))
@@ -394,8 +396,9 @@ module _ (k : Kept) (first : ℕ → ℕ) (t n : ℕ) where
 
     module _ (turn : s .clock % k .period ≡ 0) (one : tick k s i .clock ≡ 1) (whole : k .period ∣ taskAge k s t) where
       aligned-anew : k .period ∣ taskAge k (tick k s i) t - tick k s i .clock
+      unfolding taskAge
       aligned-anew =
-          on-case k first t fair s i past may (own .timed)
+          on-case k first m (fair .home) s i past may (own .timed)
           (λ μ e known. rw (taskAge-new k s i t e, one) (dvd-zero (k .period)))
           (λ e l. let d : taskAge k s t + 1 - 1 ≡ taskAge k s t = omega arith in rw (taskAge-on k s i t e l, one, d) whole)
           (λ e q. rw (taskAge-turns k s i t e (omega arith), one) (dvd-zero (k .period)))

@@ -58,6 +58,7 @@ use Rattle.rules.proofs.Period.{period, switch-grid}
 use Rattle.rules.proofs.FramesOf.{release-greatest, plan-frames}
 use Rattle.rules.proofs.PlanKept.{PlanKept, BusKept, ModeKept, TaskKept}
 use Rattle.rules.proofs.LaidOut.{LaidOut, sender, period-kept, FrameKept, frames-kept, control-kept}
+use Rattle.rules.proofs.TransparentModes.{FairModule}
 use Rattle.rules.proofs.TransparentOwn.{FairTask}
 use Rattle.rules.proofs.TransparentBus.{RowOf, FairBus}
 
@@ -109,15 +110,23 @@ module _ (p : Plan) (kept : PlanKept p) (tr : TableRead) where
   unfolding theTask
   task-of t w = all-getD noTask (kept .tasks) t w
 
+  pub fair-module : (m : ℕ) → m < length (p .modules) → FairModule (keptFor p tr) m
+  unfolding keptOf layoutOf
+  fair-module m w =
+      record {
+        place = omega (arith, kept .moduleCount .most);
+        modePeriod = λ μ h. mode-of μ (h .there) .period .least;
+        wholeSwitches = λ μ h. mode-of μ (h .there) .divides;
+      }
+
   pub fair-task : (t : ℕ) → t < length (p .tasks) → FairTask (keptFor p tr) t
   unfolding keptOf layoutOf periodIn
   fair-task t w =
       record {
         inPlan = w;
         place = omega (arith, kept .taskCount .most);
-        modulePlace = omega (arith, task-of t w .home, kept .moduleCount .most);
+        home = fair-module (theTask p t .home) (task-of t w .home);
         worst = task-of t w .worst .least;
-        modePeriod = λ μ h. mode-of μ (h .there) .period .least;
         inRun = λ μ h pos. worst μ (run-in p μ t pos);
         wholeRuns = λ μ h pos. whole μ (h .there) (run-in p μ t pos);
       }

@@ -12,14 +12,14 @@ use Rattle.laws.proofs.Lists.{true-false, tested}
 use Rattle.laws.proofs.Runs.{withinRun, run-first, run-ends}
 use Rattle.laws.proofs.Tests.{Tests, by-iff, by-lt, by-divides, by-and}
 use Rattle.laws.specs.Res.{ok}
-use Rattle.rules.specs.Playing.{Input, isGiven, periodIn}
+use Rattle.rules.specs.Playing.{Input, isGiven}
 use Rattle.rules.specs.Plan.{Plan, readPlan}
 use Rattle.rules.specs.Frames.{taskNode, layoutOf}
 use Rattle.rules.specs.Station.{Kept, State, Begun, keptOf, stateAtStart, runPeriod, taskAge, runAge, endsNow, tick, begin}
 use Rattle.rules.specs.Obeys.{MayTick}
 use Rattle.rules.specs.History.{played, homeIn, firstIn, boardValue, consumes}
 use Rattle.rules.specs.OneBoard.{modeNow, sinceMode, periodNow, runEnds, resultWithin, value}
-use Rattle.rules.specs.Told.{At, newest, older, Enters, fromStart, byChange, InMode, EndedRun, OneResult, ValueIs, ofNone, ofLast}
+use Rattle.rules.specs.Told.{At, newest, older, Enters, fromStart, byChange, InMode, EndedRun, OneResult, ValueIs, ofNone, ofLast, Tells, ShowsTold}
 use Rattle.rules.proofs.PlanKept.{readable-kept}
 use Rattle.rules.proofs.StationExact.{none-some, some-same, given-case}
 use Rattle.rules.proofs.TransparentTick.{
@@ -39,7 +39,8 @@ use Rattle.rules.proofs.TransparentTick.{
   value-ends,
   value-still,
 }
-use Rattle.rules.proofs.TransparentOwn.{ModeOf, FairTask, Own, own-on, own-start, goes-case, had-at-end, result-at-end, period-is, ends-same}
+use Rattle.rules.proofs.TransparentModes.{ModeOf}
+use Rattle.rules.proofs.TransparentOwn.{FairTask, Own, own-on, own-start, goes-case, had-at-end, result-at-end, period-is, ends-same}
 use Rattle.rules.proofs.TransparentPlan.{keptFor}
 use Rattle.rules.proofs.Transparent.{Beginning, along, consumed-there, facts, same-plan, plays-on, fair, first, transparent, transparent-own}
 
@@ -354,6 +355,7 @@ module _ (k : Kept) (first : ℕ → ℕ) (t : ℕ) where
 
   module _ (fair : FairTask k t) (s : State) (i : Input) (past : List Input) (may : MayTick k s i) (h : Words s past) where
     some-ticks : 0 < taskAge k s t → 0 < length past
+    unfolding taskAge
     some-ticks a =
         omega (arith, h .own .timed .behind, since-below (k .taskHome) (k .run) first (k .taskHome t) past)
 
@@ -461,8 +463,8 @@ module _ (k : Kept) (first : ℕ → ℕ) (t : ℕ) where
             → ValueIs (k .taskHome) (k .run) first t (i ∷ past) (value (k .taskHome) (k .run) first t (i ∷ past))
         which (inl q) =
             let e : Ending k s t = ending-tests k s t .says q in
-            let same = period-is k first t fair s i past may (h .own .timed) in
-            let ends = ends-same k first t fair s i past may (h .own .timed) ∙ q in
+            let same = period-is k first t fair s past (h .own .timed) in
+            let ends = ends-same k first t fair s past (h .own .timed) ∙ q in
             let whole : runAge k s t ≡ periodNow (k .taskHome) (k .run) first t past =
             run-age k s t ∙ run-ends (runPeriod k s t) (taskAge k s t) (e .invoked) (e .released) (e .whole) ∙ sym same in
             let is : tick k s i .out t ≡ value (k .taskHome) (k .run) first t (i ∷ past) =
@@ -474,7 +476,7 @@ module _ (k : Kept) (first : ℕ → ℕ) (t : ℕ) where
             (subst (λ (v : ℕ). Result (i ∷ past) (length past - periodNow (k .taskHome) (k .run) first t past) (length past) v) is
             (subst (λ (r : ℕ). Result (i ∷ past) (length past - r) (length past) (tick k s i .out t)) whole one))
         which (inr q) =
-            let ends = ends-same k first t fair s i past may (h .own .timed) ∙ q in
+            let ends = ends-same k first t fair s past (h .own .timed) ∙ q in
             subst (ValueIs (k .taskHome) (k .run) first t (i ∷ past)) (sym (value-still (k .taskHome) (k .run) first i past t ends))
             (value-told-still (k .taskHome) (k .run) first t past i ends (h .value))
 
@@ -487,7 +489,7 @@ module _ (k : Kept) (first : ℕ → ℕ) (t : ℕ) where
           value = value-on;
         }
 
-words-start : (k : Kept) (starting : ℕ → Option ℕ) (t : ℕ) → ModeOf k t (firstIn starting (k .taskHome t))
+words-start : (k : Kept) (starting : ℕ → Option ℕ) (t : ℕ) → ModeOf k (k .taskHome t) (firstIn starting (k .taskHome t))
     → Words k (firstIn starting) t (stateAtStart starting) []
 unfolding stateAtStart taskAge value
 words-start k starting t known =
@@ -500,39 +502,41 @@ words-start k starting t known =
 
 -- ---- demand 3 in plain words
 
--- v is the one result of the last run of the task that has ended in the history, or zero if none has
-abbrev pub Tells : Plan → (ℕ → Option ℕ) → ℕ → List Input → ℕ → Type 0
-Tells p starting t history v = ValueIs (homeIn p) (periodIn p) (firstIn starting) t history v
-
 module _ (plan table : List ℕ) (starting : ℕ → Option ℕ) (b : Begun) (begins : begin plan table starting ≡ ok b)
     (p : Plan) (reads : readPlan plan ≡ ok p) (history : List Input) (s : State) (plays : played (b .kept) (b .state) history ≡ ok s) where
   abbrev told : Beginning plan table starting b
   told = facts plan table starting b begins p reads history s plays
 
-  board-told : (t : ℕ) → t < length (told .read .tasks) → Tells (told .read) starting t history (boardValue (told .read) starting t history)
-  unfolding keptOf layoutOf boardValue homeIn
-  board-told t w =
+  pub words : (t : ℕ) → t < length (told .read .tasks) → Words (keptFor (told .read) (told .rows)) (firstIn starting) t s history
+  words t w =
       along (keptFor (told .read) (told .rows)) starting (Words (keptFor (told .read) (told .rows)) (firstIn starting) t)
       (words-start (keptFor (told .read) (told .rows)) starting t (first plan table starting b begins p reads history s plays t w))
       (λ s′ i past may h.
       words-on (keptFor (told .read) (told .rows)) (firstIn starting) t (fair plan table starting b begins p reads history s plays t w) s′ i past may h)
       history s (plays-on plan table starting b begins p reads history s plays)
-      .value
+
+  board-told : (t : ℕ) → t < length (told .read .tasks) → Tells (told .read) starting t history (boardValue (told .read) starting t history)
+  unfolding keptOf layoutOf boardValue homeIn
+  board-told t w = words t w .value
 
   pub value-told : (t : ℕ) → t < length (p .tasks) → Tells p starting t history (boardValue p starting t history)
   value-told t =
       subst (λ (p : Plan). t < length (p .tasks) → Tells p starting t history (boardValue p starting t history))
       (same-plan plan table starting b begins p reads history s plays) (board-told t)
 
-  -- on every node that consumes a task of another node, and on a task's own
+  -- on every node that consumes a task of another node
   pub shown-told : (n t : ℕ) → consumes p n t ≡ true → Tells p starting t history (s .shown n t)
   shown-told n t c =
       subst (Tells p starting t history) (sym (transparent plan table starting b begins p reads history s plays n t c))
       (value-told t (consumed-there p n t c (readable-kept plan p reads)))
 
+  -- and on a task's own
   pub shown-told-own : (t : ℕ) → t < length (p .tasks) → Tells p starting t history (s .shown (taskNode p t) t)
   shown-told-own t w =
       subst (Tells p starting t history) (sym (transparent-own plan table starting b begins p reads history s plays t w)) (value-told t w)
+
+  pub shows-told : ShowsTold p starting history (s .shown)
+  shows-told = record { consumed = shown-told; own = shown-told-own }
 
 -- ---- no second value is told
 

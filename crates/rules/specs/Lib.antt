@@ -15,3 +15,4 @@ pub mod Obeys
 pub mod ObeysPlan
 pub mod History
 pub mod Told
+pub mod Allowed

@@ -1,11 +1,15 @@
 -- One board in plain words, over the history itself: its ticks by their number from 0 on, the runs that ended in it, the one result
 -- of a run, and the value of a task.
 use mathlib.Core.Path.{_≡_}
+use mathlib.Core.Bool.{true}
 use mathlib.Core.List.{List, _∷_}
-use mathlib.Core.Option.{none, some}
+use mathlib.Core.Option.{Option, none, some}
 use lib.ListN.{length}
 use Prim.Native.Nat.{ℕ, _+_, _-_, _≤_, _<_, _∣_}
-use Rattle.rules.specs.Playing.{Input}
+use Rattle.rules.specs.Plan.{Plan}
+use Rattle.rules.specs.Frames.{taskNode}
+use Rattle.rules.specs.Playing.{Input, periodIn}
+use Rattle.rules.specs.History.{homeIn, firstIn, consumes}
 
 -- Tick x of the history (the first is tick 0, the newest stands in front) was given i.
 pub data At : List Input → ℕ → Input → Type 0 where
@@ -57,3 +61,13 @@ module _ (home : ℕ → ℕ) (run : ℕ → ℕ → ℕ) (first : ℕ → ℕ) 
   pub data ValueIs (t : ℕ) (history : List Input) (v : ℕ) : Type 0 where
     ofNone : ((release T : ℕ) → EndedRun t history release T → ⊥) → v ≡ 0 → ValueIs t history v
     ofLast : (release T : ℕ) → LastRun t history release T → OneResult t history release (release + T) v → ValueIs t history v
+
+-- v is the one result of the last run of the plan's task that has ended in the history, or zero if none has
+abbrev pub Tells : Plan → (ℕ → Option ℕ) → ℕ → List Input → ℕ → Type 0
+Tells p starting t history v = ValueIs (homeIn p) (periodIn p) (firstIn starting) t history v
+
+-- Demand 3: behind the history, what is shown by node and task is told by it, on every node that consumes a task of another node and
+-- on a task's own.
+pub record ShowsTold (p : Plan) (starting : ℕ → Option ℕ) (history : List Input) (shown : ℕ → ℕ → ℕ) : Type 0 where
+  pub consumed : (n t : ℕ) → consumes p n t ≡ true → Tells p starting t history (shown n t)
+  pub own : (t : ℕ) → t < length (p .tasks) → Tells p starting t history (shown (taskNode p t) t)

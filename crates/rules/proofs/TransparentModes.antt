@@ -1,0 +1,118 @@
+-- Demand 3, the modes: for one module, with tasks or without, the mode is the one board's, and the age is the board's but for whole
+-- periods of the mode.
+use mathlib.Core.Path.{_≡_, refl, sym, _∙_}
+use mathlib.Core.List.{List, [], _∷_}
+use mathlib.Core.Logic.{_⊎_, inl, inr}
+use mathlib.Core.Option.{Option, none, some}
+use native.Mathlib.Nat.{dvd-refl, dvd-zero, dvd-add, eq-or-lt-of-le}
+use native.Mathlib.Omega.{arith}
+use Prim.Native.Nat.{ℕ, _+_, _-_, _≤_, _<_, _∣_, zero-le}
+use Rattle.rules.specs.Playing.{modulePlaces, Input}
+use Rattle.rules.specs.History.{firstIn}
+use Rattle.rules.specs.Station.{Kept, State, stateAtStart, tick}
+use Rattle.rules.specs.OneBoard.{modeNow, sinceMode}
+use Rattle.rules.specs.Obeys.{MayTick}
+use Rattle.rules.proofs.StationExact.{given-case}
+use Rattle.rules.proofs.TransparentTick.{mode-kept, mode-new, age-new, age-on, age-turns, modeNow-kept, modeNow-new, since-on, since-new}
+
+-- a mode of the module
+pub record ModeOf (k : Kept) (m μ : ℕ) : Type 0 where
+  pub there : μ < k .modes
+  pub own : k .modeHome μ ≡ m
+
+-- what a plan keeps for a module: it has its place, and each of its modes has a period, a whole number of its switch periods
+pub record FairModule (k : Kept) (m : ℕ) : Type 0 where
+  pub place : m < modulePlaces
+  pub modePeriod : (μ : ℕ) → ModeOf k m μ → 0 < k .modePeriod μ
+  pub wholeSwitches : (μ : ℕ) → ModeOf k m μ → k .modeSwitch μ ∣ k .modePeriod μ
+
+module _ (k : Kept) (first : ℕ → ℕ) (m : ℕ) where
+  abbrev pub boardSince : List Input → ℕ
+  boardSince past = sinceMode (k .taskHome) (k .run) first m past
+
+  -- the invariant
+  pub record Timed (s : State) (past : List Input) : Type 0 where
+    pub mode : s .mode m ≡ modeNow (k .taskHome) (k .run) first m past
+    pub known : ModeOf k m (s .mode m)
+    pub behind : s .age m ≤ boardSince past
+    pub turns : k .modePeriod (s .mode m) ∣ boardSince past - s .age m
+    pub unborn : s .age m ≡ 0 → boardSince past ≡ 0
+    pub young : s .age m ≤ k .modePeriod (s .mode m)
+
+  module _ (fair : FairModule k m) (s : State) (i : Input) (past : List Input) (may : MayTick k s i) (h : Timed s past) where
+    abbrev period : ℕ
+    period = k .modePeriod (s .mode m)
+
+    -- the three ways on: a change, a tick within the mode's period, its last tick
+    pub on-case : {C : Type 0}
+        → ((μ : ℕ) → i .change m ≡ some μ → ModeOf k m μ → C)
+        → (i .change m ≡ none → s .age m < period → C)
+        → (i .change m ≡ none → s .age m ≡ period → C) → C
+    on-case {C} changed on turns =
+        given-case (i .change m) (λ e. within e (eq-or-lt-of-le (h .young)))
+        (λ μ e. let c = may .allowed m μ (fair .place) e in changed μ e (record { there = c .isMode; own = c .own }))
+      where
+        within : i .change m ≡ none → (s .age m ≡ period) ⊎ (s .age m < period) → C
+        within e (inl q) = turns e q
+        within e (inr l) = on e l
+
+    timed-changed : (μ : ℕ) → i .change m ≡ some μ → ModeOf k m μ → Timed (tick k s i) (i ∷ past)
+    timed-changed μ e known =
+        let q : tick k s i .mode m ≡ μ = mode-new k s i m e in
+        let a : tick k s i .age m ≡ 1 = age-new k s i m e in
+        let b : boardSince (i ∷ past) ≡ 1 = since-new (k .taskHome) (k .run) first i past m e in
+        record {
+          mode = q ∙ sym (modeNow-new (k .taskHome) (k .run) first i past m e);
+          known = rw q known;
+          behind = omega arith;
+          turns = rw (a, b) (dvd-zero (k .modePeriod (tick k s i .mode m)));
+          unborn = λ z. absurd (omega arith);
+          young = rw (a, q) (fair .modePeriod μ known);
+        }
+
+    timed-on : i .change m ≡ none → s .age m < period → Timed (tick k s i) (i ∷ past)
+    timed-on e l =
+        let q : tick k s i .mode m ≡ s .mode m = mode-kept k s i m e in
+        let a : tick k s i .age m ≡ s .age m + 1 = age-on k s i m e l in
+        let b : boardSince (i ∷ past) ≡ boardSince past + 1 = since-on (k .taskHome) (k .run) first i past m e in
+        let d : boardSince past + 1 - (s .age m + 1) ≡ boardSince past - s .age m = omega arith in
+        record {
+          mode = q ∙ h .mode ∙ sym (modeNow-kept (k .taskHome) (k .run) first i past m e);
+          known = rw q (h .known);
+          behind = omega (arith, h .behind);
+          turns = rw (a, b, q, d) (h .turns);
+          unborn = λ z. absurd (omega arith);
+          young = rw (a, q) (omega arith);
+        }
+
+    timed-turns : i .change m ≡ none → s .age m ≡ period → Timed (tick k s i) (i ∷ past)
+    timed-turns e z =
+        let q : tick k s i .mode m ≡ s .mode m = mode-kept k s i m e in
+        let a : tick k s i .age m ≡ 1 = age-turns k s i m e (omega arith) in
+        let b : boardSince (i ∷ past) ≡ boardSince past + 1 = since-on (k .taskHome) (k .run) first i past m e in
+        let d : boardSince past + 1 - 1 ≡ boardSince past - s .age m + period = omega (arith, h .behind) in
+        record {
+          mode = q ∙ h .mode ∙ sym (modeNow-kept (k .taskHome) (k .run) first i past m e);
+          known = rw q (h .known);
+          behind = omega arith;
+          turns = rw (a, b, q, d) (dvd-add period (h .turns) (dvd-refl period));
+          unborn = λ z. absurd (omega arith);
+          young = rw (a, q) (fair .modePeriod (s .mode m) (h .known));
+        }
+
+    pub timed-tick : Timed (tick k s i) (i ∷ past)
+    timed-tick = on-case timed-changed timed-on timed-turns
+
+-- at the beginning
+pub timed-start : (k : Kept) (starting : ℕ → Option ℕ) (m : ℕ) → ModeOf k m (firstIn starting m)
+    → Timed k (firstIn starting) m (stateAtStart starting) []
+unfolding stateAtStart modeNow sinceMode firstIn
+timed-start k starting m known =
+    record {
+      mode = refl;
+      known = known;
+      behind = zero-le;
+      turns = dvd-zero (k .modePeriod (firstIn starting m));
+      unborn = λ z. refl;
+      young = zero-le;
+    }
