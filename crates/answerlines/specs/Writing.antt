@@ -26,7 +26,7 @@ marked mark x = mark ++ decimal x
 abbrev pub placeText : ℕ → ℕ → ℕ → List ℕ
 placeText n t v = marked (32 ∷ []) n ++ (marked (47 ∷ []) t ++ marked (61 ∷ []) v)
 
--- "all places that are not zero"
+-- a place that is zero is left out
 abbrev pub unlessZero : Bool → List ℕ → List ℕ
 unlessZero true text = []
 unlessZero false text = text

@@ -8,7 +8,7 @@ use Rattle.laws.specs.Res.{Res, ok, refuse}
 use Rattle.rules.specs.Table.{MadeTable, tableFor}
 use Rattle.text.specs.Text.{refusedLine, tooLongLine}
 
--- "writes the table's bytes, or one line `refused N at P`"
+-- Rule 1.5: the table's bytes, or the line of the refusal.
 abbrev pub written : Res MadeTable → List ℕ
 written (ok t) = t .table
 written (refuse n p) = refusedLine n p
@@ -17,6 +17,6 @@ abbrev pub unlessLong : Bool → List ℕ → List ℕ
 unlessLong true answer = answer
 unlessLong false answer = tooLongLine
 
--- "for input above 65,536 bytes the line `too long`"; `room` bytes are lent for the table.
+-- Rule 1.5: at most 65,536 bytes are read; `room` bytes are lent for the table.
 unfoldable pub answerFor : ℕ → List ℕ → List ℕ
 answerFor room input = unlessLong (leb (length input) 65536) (written (tableFor input room))

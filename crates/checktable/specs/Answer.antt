@@ -8,7 +8,7 @@ use Rattle.laws.specs.Res.{Res, ok, refuse}
 use Rattle.rules.specs.Checker.{Passed, checkFiles}
 use Rattle.text.specs.Text.{passedLine, refusedLine, tooLongLine}
 
--- the line `passed`, or "one line `refused N at P`"
+-- the line `passed`, or that of the refusal
 abbrev pub lineFor : Res Passed → List ℕ
 lineFor (ok c) = passedLine
 lineFor (refuse n p) = refusedLine n p
@@ -17,7 +17,7 @@ abbrev pub unlessLong : Bool → List ℕ → List ℕ
 unlessLong true line = line
 unlessLong false line = tooLongLine
 
--- "for input above 65,536 bytes the line `too long`"
+-- Rule 1.5, of each of the two files: at most 65,536 bytes are read.
 unfoldable pub isShort : List ℕ → Bool
 isShort file = leb (length file) 65536
 

@@ -1,5 +1,5 @@
--- A test and what it means, both ways at once; and a step that is accepted exactly when something holds. "The checker is exact" is
--- then one line for each rule.
+-- A test and what it means, both ways at once; and a step that is accepted exactly when something holds. With these the checker is
+-- shown exact in one line for each rule.
 use mathlib.Core.Path.{_≡_, refl, sym}
 use mathlib.Core.Bool.{Bool, true, false, cond, not, _&&_, _||_}
 use mathlib.Core.List.{List}

@@ -1,8 +1,8 @@
--- Lists: what document 01's definitions are made of. Each says in a line what it gives.
+-- Lists: what the definitions of the rules are made of. Each says in a line what it gives.
 use mathlib.Core.Bool.{Bool, true, false, _&&_, _||_}
 use mathlib.Core.List.{List, [], _∷_, _++_}
 use mathlib.Core.Option.{Option, none, some}
-use Prim.Native.Nat.{ℕ, zero, suc, _+_}
+use Prim.Native.Nat.{ℕ, zero, suc}
 
 -- one place further on
 abbrev pub next : Option ℕ → Option ℕ

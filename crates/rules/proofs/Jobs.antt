@@ -1,4 +1,4 @@
--- The jobs of document 01 and our own entries, as one list under one claim, by computation.
+-- The jobs of docs/RULES.md, section 10, and our own entries, as one list under one claim, by computation.
 use lib.Dec.{T}
 use Rattle.laws.specs.Lists.{all}
 use Rattle.laws.specs.Numbers.{euclid, gcd, lcm, ceil, up, down}

@@ -1,4 +1,5 @@
--- PlanKept: what refusals 1 to 5 leave of a plan that is read. Each count, name and range of document 01, by name, and rule 5's sentences.
+-- PlanKept: what refusals 1 to 5 leave of a plan that is read: each count, name and range of docs/RULES.md, section 3, by name, and what
+-- rules 6.5.1 to 6.5.7 ask.
 use mathlib.Core.Path.{_≡_, refl, sym, subst}
 use mathlib.Core.Bool.{Bool, true}
 use mathlib.Core.List.{List, [], _∷_}

@@ -411,7 +411,7 @@ unfolding everything plan row rows earlyTable numbers truths boards at grid plac
     inRange ticked
 opened = tt
 
--- Every entry is answered as document 01 says.
+-- Every entry is answered as it says.
 pub stationJobs : T (all isTrue jobs)
 unfolding opened
 stationJobs = tt

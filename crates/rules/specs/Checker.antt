@@ -1,4 +1,4 @@
--- Document 01: the checker, refusals 20 to 27, and `check` with the lent rows, on every outcome (readings 17 to 21).
+-- docs/RULES.md, section 7: the checker, refusals 20 to 27, and `check` with the lent rows, on every outcome (readings 17 to 21).
 use mathlib.Core.Bool.{Bool, true, false, cond, not, _&&_}
 use mathlib.Core.List.{List, [], _∷_, map}
 use lib.Dec.{eqb, leb}
@@ -14,7 +14,7 @@ use Rattle.rules.specs.Frames.{Frame, ControlRow, noControlRow, Layout, 
 use Rattle.rules.specs.LatestRelease.{noFrame, frameTime}
 use Rattle.rules.specs.Table.{DataRow, FrameRow, zeroRow, rowsThenZero}
 
--- A table as it was read: what the header says, the control rows and the data rows in file order.
+-- A table as it was read: what the head says, the control rows and the data rows in file order.
 pub record TableRead : Type 0 where
   pub period : ℕ
   pub controls : ℕ
@@ -38,7 +38,7 @@ tableOf rs =
       rows = map dataRowOf (things 18 rs);
     }
 
--- Refusal 21: "P, a header count, or the number of rows of a kind isn't what the plan gives" (reading 18).
+-- Refusal 21 (rule 7.21): the head's period is P, and its counts and the rows present are as many as the plan gives (reading 18).
 unfoldable pub headerRight : Layout → TableRead → Bool
 headerRight l t =
     eqb (t .period) (l .period)
@@ -54,14 +54,15 @@ noDataRow = record { task = 0; deadline = 0; start = 0; stop = 0 }
 unfoldable pub rowAt : TableRead → ℕ → DataRow
 rowAt t k = getD (t .rows) k noDataRow
 
--- Refusal 22: "a control row isn't the fixed one".
+-- Refusal 22 (rule 7.22): a control row has node, start and stop of the one that the plan fixes.
 unfoldable pub sameControl : ControlRow → ControlRow → Bool
 sameControl a b = eqb (a .node) (b .node) && (eqb (a .start) (b .start) && eqb (a .stop) (b .stop))
 
 unfoldable pub controlKept : Layout → TableRead → ℕ → Bool
 controlKept l t k = sameControl (controlAt (t .control) k) (controlAt (l .control) k)
 
--- Refusal 23: "a data row names no frame, or one already named", at the later row (reading 19).
+-- Refusal 23 (rule 7.23): a data row has task and deadline of a frame, and no row before it has both; so the later row of two is at
+-- fault (reading 19).
 unfoldable pub isFrameOf : DataRow → Frame → Bool
 isFrameOf r f = eqb (r .task) (f .task) && eqb (r .deadline) (f .deadline)
 
@@ -80,21 +81,22 @@ namedIn (f ∷ fs) r = cond (isFrameOf r f) f (namedIn fs r)
 unfoldable pub frameOfRow : Layout → TableRead → ℕ → Frame
 frameOfRow l t k = namedIn (l .frames) (rowAt t k)
 
--- Refusal 24: "stop isn't start plus sending time, or start is off the resolution".
+-- Refusal 24 (rule 7.24): a data row stops its sending time behind its start, and starts on the resolution (reading 20).
 unfoldable pub timeKept : Layout → TableRead → ℕ → Bool
 timeKept l t k =
     eqb (rowAt t k .stop) (rowAt t k .start + frameTime l (frameOfRow l t k))
     && divides (l .plan .bus .resolution) (rowAt t k .start)
 
--- Refusal 25: "start before release".
+-- Refusal 25 (rule 7.25): a data row starts when its frame is released, or later.
 unfoldable pub releaseKept : Layout → TableRead → ℕ → Bool
 releaseKept l t k = leb (frameOfRow l t k .release) (rowAt t k .start)
 
--- Refusal 26: "stop after deadline".
+-- Refusal 26 (rule 7.26): a data row stops by its deadline.
 unfoldable pub deadlineKept : TableRead → ℕ → Bool
 deadlineKept t k = leb (rowAt t k .stop) (rowAt t k .deadline)
 
--- Refusal 27: "a data row starts before the stop plus gap of the row before it, control rows included" (reading 21).
+-- Refusal 27 (rule 7.27): a data row starts a gap or more behind the stop of the row before it in the file; before the first stands the
+-- last control row (reading 21).
 abbrev pub stopBefore : TableRead → ℕ → ℕ
 stopBefore t zero = lastD (t .control) noControlRow .stop
 stopBefore t (suc k) = rowAt t k .stop
@@ -102,7 +104,7 @@ stopBefore t (suc k) = rowAt t k .stop
 unfoldable pub gapKept : Layout → TableRead → ℕ → Bool
 gapKept l t k = leb (stopBefore t k + gapTime (l .plan .bus)) (rowAt t k .start)
 
--- the record of the first data row: the header is record 0, the control rows follow it (reading 6)
+-- the record of the first data row: the head is record 0, the control rows follow it (reading 6)
 unfoldable pub firstRow : TableRead → ℕ
 firstRow t = 1 + length (t .control)
 
@@ -110,7 +112,7 @@ firstRow t = 1 + length (t .control)
 unfoldable pub rowsKeep : ℕ → TableRead → (ℕ → Bool) → Res (Unit {0})
 rowsKeep n t test = at n (firstRow t) (firstBad test (upTo (length (t .rows))))
 
--- Refusals 21 to 27 "rule by rule, the lowest record at fault".
+-- Refusals 21 to 27 by rule 7.2: each over all its rows before the next, and at the lowest record that breaks it.
 unfoldable pub judged : Layout → TableRead → Res (Unit {0})
 judged l t = do
   unless 21 0 (headerRight l t)
@@ -149,13 +151,13 @@ pub record Checked : Type 0 where
   pub answer : Res (Unit {0})
   pub rows : List FrameRow
 
--- "pass: frames by number with the start of the table that was checked, then zero rows"; a refusal leaves zero rows.
+-- Rule 7.4: where the table passes the frames' rows have its starts, and zero rows follow; a refusal leaves zero rows.
 abbrev pub checkOutcome : Res Passed → List FrameRow → Checked
 checkOutcome (ok c) rows =
     record { answer = ok tt; rows = rowsThenZero (map (checkedRow (c .table)) (c .layout .frames)) (length rows) }
 checkOutcome (refuse n p) rows = record { answer = refuse n p; rows = replicate (length rows) zeroRow }
 
--- 19 before all, rows unchanged.
+-- Refusal 19 before all (rule 7.1): the rows stay as they were.
 unfoldable pub check : List ℕ → List ℕ → List FrameRow → Checked
 check plan table rows =
     elim (leb mostFrames (length rows)) [

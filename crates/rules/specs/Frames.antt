@@ -1,10 +1,10 @@
--- Document 01, "From plan to frames", and refusals 6 to 11.
+-- docs/RULES.md, section 4, and refusals 6 to 11 (rules 6.6 to 6.11).
 use mathlib.Core.Bool.{Bool, not, _&&_}
 use mathlib.Core.List.{List, [], _∷_, map, foldr}
 use lib.Dec.{eqb, leb, ltb}
 use lib.ListN.{getD, length}
 use Prim.Native.Nat.{ℕ, _+_, _*_, _-_, _/_, max, compare, Ordering, Ordering·lt, Ordering·eq, Ordering·gt}
-use Rattle.laws.specs.Res.{Res, ok, _>>=_, _>>_, unless}
+use Rattle.laws.specs.Res.{Res, ok, _>>_, unless}
 use Rattle.laws.specs.Lists.{keep, any, all, joined, lastD, tab, upTo}
 use Rattle.laws.specs.Numbers.{divides, gcd, lcm, ceil, up}
 use Rattle.rules.specs.Limits.{mostFrames}
@@ -17,7 +17,7 @@ moduleNode p m = getD (p .modules) m 0
 unfoldable pub taskNode : Plan → ℕ → ℕ
 taskNode p t = moduleNode p (theTask p t .home)
 
--- "A task is a bus task if it has an invocation and some connection from it goes to a task whose module is on another node."
+-- Rule 4.2: a bus task is invoked, and a connection leads from it to a task on another node (reading 11).
 unfoldable pub invokes : ℕ → Invocation → Bool
 invokes t i = eqb (i .task) t
 
@@ -30,7 +30,7 @@ isBusTask p t = any (invokes t) (p .invocations) && any (leaves p t) (p .connect
 unfoldable pub busTasks : Plan → List ℕ
 busTasks p = keep (isBusTask p) (upTo (length (p .tasks)))
 
--- "Modules and nodes with a bus task are sending."
+-- Rule 4.3: a module with a bus task is sending, and so is its node.
 unfoldable pub livesIn : Plan → ℕ → ℕ → Bool
 livesIn p m t = eqb (theTask p t .home) m
 
@@ -44,7 +44,7 @@ standsOn p n m = eqb (moduleNode p m) n && isSending p m
 unfoldable pub sendersOn : Plan → ℕ → List ℕ
 sendersOn p n = keep (standsOn p n) (upTo (length (p .modules)))
 
--- "One control frame for each sending node, one byte for each sending module on it."
+-- Rule 4.12: a node's control frame has a byte for each of its sending modules, and a node without any has no control frame.
 unfoldable pub controlPayload : Plan → ℕ → ℕ
 controlPayload p n = length (sendersOn p n)
 
@@ -69,7 +69,7 @@ ofBusTask p i = isBusTask p (i .task)
 unfoldable pub busRuns : Plan → List Run
 busRuns p = map (runOf p) (keep (ofBusTask p) (p .invocations))
 
--- "Bus period P = least common multiple of the periods of all invocations of bus tasks."
+-- Rule 4.4: the bus period P is the least common multiple of the bus runs' periods.
 unfoldable pub withRun : Run → ℕ → ℕ
 withRun r m = lcm (r .period) m
 
@@ -79,7 +79,7 @@ periodOfRuns rs = foldr withRun 1 rs
 unfoldable pub busPeriod : Plan → ℕ
 busPeriod p = periodOfRuns (busRuns p)
 
--- "G = greatest common divisor of the mode and switch periods of all modes of sending modules."
+-- Rule 4.5: the grid G is the greatest common divisor of periods and switch periods, over the modes of sending modules (reading 11).
 unfoldable pub withMode : Mode → ℕ → ℕ
 withMode μ g = gcd (μ .period) (gcd (μ .switch) g)
 
@@ -95,7 +95,7 @@ pub record Frame : Type 0 where
   pub release : ℕ
   pub deadline : ℕ
 
--- "messages i = 1 to P/T, release (i-1)T + w, deadline iT"
+-- Rule 4.6: message i of a run, i from 1 on to the last of the bus period; released w behind the end of the one before, due at its own end.
 unfoldable pub message : Run → ℕ → Frame
 message r i = record { task = r .task; release = (i - 1) * r .period + r .worst; deadline = i * r .period }
 
@@ -105,7 +105,7 @@ messagesOf period r = tab (message r) 1 (period / r .period)
 unfoldable pub messages : ℕ → List Run → List Frame
 messages period rs = joined (map (messagesOf period) rs)
 
--- "Frames are numbered by deadline, then by task."
+-- Rule 4.9: frames stand by deadline, and by task within a deadline.
 abbrev pub thenBy : Ordering → Ordering → Ordering
 thenBy Ordering·lt o = Ordering·lt
 thenBy Ordering·eq o = o
@@ -114,7 +114,7 @@ thenBy Ordering·gt o = Ordering·gt
 unfoldable pub frameOrder : Frame → Frame → Ordering
 frameOrder a b = thenBy (compare (a .deadline) (b .deadline)) (compare (a .task) (b .task))
 
--- "its release is the greatest of its messages' releases"
+-- Rule 4.7: a message goes into the frame of its task and deadline, which is released with the last of its messages.
 unfoldable pub merged : Frame → Frame → Frame
 merged m f = record { task = f .task; release = max (m .release) (f .release); deadline = f .deadline }
 
@@ -123,7 +123,7 @@ byOrder Ordering·lt m f fs inRest = m ∷ f ∷ fs
 byOrder Ordering·eq m f fs inRest = merged m f ∷ fs
 byOrder Ordering·gt m f fs inRest = f ∷ inRest
 
--- "One frame for each pair of bus task and deadline."
+-- Rule 4.7: as many frames as pairs of task and deadline.
 unfoldable pub withMessage : Frame → List Frame → List Frame
 withMessage m [] = m ∷ []
 withMessage m (f ∷ fs) = byOrder (frameOrder m f) m f fs (withMessage m fs)
@@ -134,19 +134,19 @@ framesOf ms = foldr withMessage [] ms
 unfoldable pub frames : Plan → List Frame
 frames p = framesOf (messages (busPeriod p) (busRuns p))
 
--- "its size that of one message"
+-- Rule 4.8: a frame has the size of one message.
 unfoldable pub payload : Plan → Frame → ℕ
 payload p f = theTask p (f .task) .size
 
--- Bits on the bus take bits × 1000 / kbit/s ticks, "rounded up to a whole tick, then up to a multiple of the resolution".
+-- Bits on the bus in ticks: bits × 1000 / kbit/s, up to a whole tick, then up to the resolution (reading 14).
 unfoldable pub ticksOfBits : Bus → ℕ → ℕ
 ticksOfBits b bits = up (b .resolution) (ceil (bits * 1000) (b .rate))
 
--- "Sending time of a payload of s bytes: 8 × (overhead + max(s, least payload)) × 1000 / kbit/s"
+-- Rule 4.10: the sending time of s bytes, which are filled up to the least payload and have the overhead before them.
 unfoldable pub sendingTime : Bus → ℕ → ℕ
 sendingTime b s = ticksOfBits b (8 * (b .overhead + max s (b .least)))
 
--- "Gap time: gap bits × 1000 / kbit/s, rounded up in the same two steps"
+-- Rule 4.11: the gap time.
 unfoldable pub gapTime : Bus → ℕ
 gapTime b = ticksOfBits b (b .gap)
 
@@ -155,7 +155,7 @@ pub record ControlRow : Type 0 where
   pub start : ℕ
   pub stop : ℕ
 
--- "The first starts at 0, the next at the previous stop plus the gap, in node order."
+-- Rule 4.13: control rows in order of their nodes, the first from 0 on, each other one a gap behind the stop of the one before.
 unfoldable pub controlFrom : Plan → ℕ → List ℕ → List ControlRow
 controlFrom p start [] = []
 controlFrom p start (n ∷ ns) =
@@ -168,15 +168,16 @@ controlRows p = controlFrom p 0 (sendingNodes p)
 abbrev pub noControlRow : ControlRow
 noControlRow = record { node = 0; start = 0; stop = 0 }
 
--- "C = last control stop plus gap."
+-- Rule 4.14: C, a gap behind the last control row's stop.
 unfoldable pub controlEnd : Plan → ℕ
 controlEnd p = lastD (controlRows p) noControlRow .stop + gapTime (p .bus)
 
--- Refusal 6: no bus task.
+-- Refusal 6 (rule 6.6): some task is a bus task.
 unfoldable pub someBusTask : Plan → Bool
 someBusTask p = any (isBusTask p) (upTo (length (p .tasks)))
 
--- Refusal 10: "a bus message or control payload above the largest payload" (the bare sizes, reading 13).
+-- Refusal 10 (rule 6.10): no message of a bus task and no control frame has more bytes than the largest payload; the bare sizes are
+-- compared (reading 13).
 unfoldable pub messageFits : Plan → ℕ → Bool
 messageFits p t = leb (theTask p t .size) (p .bus .most)
 
@@ -198,8 +199,8 @@ unfoldable pub layoutOf : Plan → Layout
 layoutOf p =
     record { plan = p; period = busPeriod p; control = controlRows p; afterControl = controlEnd p; frames = frames p }
 
--- Refusals 6 to 11, each at 0: no bus task; P doesn't divide G; P isn't a multiple of the resolution; too many data frames;
--- a payload too large; C above P.
+-- Refusals 6 to 11, each at 0: there is a bus task; P divides G; the resolution divides P; not too many frames; no payload too
+-- large; the control rows with their gap end within P.
 unfoldable pub layout : Plan → Res Layout
 layout p = do
   unless 6 0 (someBusTask p)

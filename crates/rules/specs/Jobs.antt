@@ -1,4 +1,4 @@
--- Document 01, "Jobs to run": the entries marked *, and our own for what those let through. Each says what is given and what is left
+-- docs/RULES.md, section 10: the jobs marked *, and our own entries for what those let through. Each says what is given and what is left
 -- of what was lent; `holds` computes it from the definitions.
 use mathlib.Core.Bool.{Bool, true, false, _&&_}
 use mathlib.Core.List.{List, [], _∷_, _++_, map}
@@ -136,7 +136,7 @@ framesA first second third fourth =
     ∷ frameRow 0 41000 60000 fourth
     ∷ []
 
--- its table, 75 bytes
+-- its whole table (rule 10.A), of 75 bytes
 unfoldable pub tableA : List ℕ
 tableA =
     0x10 ∷ 0x60 ∷ 0xEA ∷ 0x00 ∷ 0x00 ∷ 0x01 ∷ 0x04 ∷ 0x00

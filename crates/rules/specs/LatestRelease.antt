@@ -1,10 +1,10 @@
--- Document 01, "The latest-release rule", and refusal 12.
+-- docs/RULES.md, section 5: the latest-release rule, and refusal 12.
 use mathlib.Core.Bool.{Bool, true, false, cond, not, _&&_, _||_}
 use mathlib.Core.List.{List, [], _∷_, foldr}
 use lib.Dec.{eqb, leb, ltb}
 use lib.ListN.{length}
 use Prim.Native.Nat.{ℕ, zero, suc, _-_, min, max}
-use Rattle.laws.specs.Res.{Res, ok, refuse, _>>=_}
+use Rattle.laws.specs.Res.{Res, ok, refuse}
 use Rattle.laws.specs.Lists.{keep}
 use Rattle.laws.specs.Numbers.{down}
 use Rattle.rules.specs.Frames.{Frame, Layout, payload, sendingTime, gapTime}
@@ -30,18 +30,18 @@ noFrame = record { task = 0; release = 0; deadline = 0 }
 abbrev pub noNumbered : Numbered
 noNumbered = record { number = 0; frame = noFrame }
 
--- "the greatest deadline left"
+-- the greatest deadline of the frames left (rule 5.2)
 unfoldable pub withDeadline : Numbered → ℕ → ℕ
 withDeadline x d = max (x .frame .deadline) d
 
 unfoldable pub greatestDeadline : List Numbered → ℕ
 greatestDeadline xs = foldr withDeadline 0 xs
 
--- "Of the frames left with deadline at least e"
+-- Rule 5.3: candidates are the frames left whose deadline is not below e.
 unfoldable pub isCandidate : ℕ → Numbered → Bool
 isCandidate e x = leb e (x .frame .deadline)
 
--- x is later than y: a later release; among equals, the larger number
+-- Rule 5.4: x goes before y: released later, or at the same time with a higher number.
 unfoldable pub isLater : Numbered → Numbered → Bool
 isLater x y =
     ltb (y .frame .release) (x .frame .release)
@@ -59,24 +59,24 @@ unfoldable pub isOther : ℕ → Numbered → Bool
 isOther k x = not (eqb (x .number) k)
 
 module _ (resolution gap floor : ℕ) (sending : Frame → ℕ) where
-  -- "set e to the smaller of e and the greatest deadline left"
+  -- Rule 5.2: the end, lowered to the greatest deadline left.
   unfoldable pub lowered : ℕ → List Numbered → ℕ
   lowered e left = min e (greatestDeadline left)
 
-  -- "take the one with the latest release"
+  -- Rule 5.4: the candidate that is taken.
   unfoldable pub taken : ℕ → List Numbered → Numbered
   taken e left = latest (keep (isCandidate e) left)
 
-  -- "Its start is the greatest multiple of the resolution not above e minus its sending time."
+  -- Rule 5.5: the highest start on the resolution from which the frame is sent by e.
   unfoldable pub startOf : ℕ → Frame → ℕ
   startOf e f = down resolution (e - sending f)
 
-  -- "If there is none, or it lies before the release or before C, refuse."
+  -- Rule 5.6: there is such a start, and it lies neither before the release nor before C, which is `floor` here.
   unfoldable pub fits : ℕ → Frame → Bool
   fits e f = leb (sending f) e && (leb (f .release) (startOf e f) && leb floor (startOf e f))
 
   -- The rule over n frames left, from the end e down. `done` are the frames placed so far, the last placed in front, so they stand
-  -- by start. "Else set e to start minus gap."
+  -- by start. Rule 5.7: the next end is a gap before the start.
   unfoldable pub place : ℕ → ℕ → List Numbered → List Placed → Res (List Placed)
   place zero e left done = ok done
   place (suc n) e left done =
@@ -88,7 +88,7 @@ module _ (resolution gap floor : ℕ) (sending : Frame → ℕ) where
         | false ↦ refuse 12 (x .number)
       ]
 
--- "Let e = P."
+-- Rule 5.1: the first end is P.
 unfoldable pub firstEnd : Layout → ℕ
 firstEnd l = l .period
 

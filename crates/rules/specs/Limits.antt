@@ -1,8 +1,8 @@
--- The limits of document 01: how many things of each kind there may be, and how large each number may become. Each stands here
--- once; the code has each as an associated constant of the type that it limits.
+-- docs/RULES.md, section 3: how many things of each kind there may be, and how large each number may become. Each limit stands here
+-- once; the code has each as an associated constant of the type that it limits (rule 3.5).
 use Prim.Native.Nat.{ℕ}
 
--- nodes, modules, modes, tasks, invocations, connections of a plan
+-- Rule 3.1: nodes, modules, modes, tasks, invocations, connections of a plan.
 abbrev pub mostNodes : ℕ
 mostNodes = 8
 
@@ -21,11 +21,11 @@ mostInvocations = 64
 abbrev pub mostConnections : ℕ
 mostConnections = 64
 
--- data frames (9), and the frame rows that are to be lent (19)
+-- Rule 3.4: data frames (9), and the frame rows that are to be lent (19).
 abbrev pub mostFrames : ℕ
 mostFrames = 256
 
--- the bus: kbit/s, overhead and payload in bytes, gap in bits, resolution in ticks
+-- Rule 3.2, of the bus: kbit/s, overhead and payload in bytes, gap in bits, resolution in ticks.
 abbrev pub fastestBus : ℕ
 fastestBus = 100000
 

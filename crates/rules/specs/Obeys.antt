@@ -1,11 +1,10 @@
--- What it means that document 01's rules are kept: records of propositions, one field for each rule.
+-- What it means that the rules of docs/RULES.md are kept: records of propositions, one field for each rule.
 use mathlib.Core.Path.{_≡_}
 use mathlib.Core.Bool.{Bool, true, false}
 use mathlib.Core.List.{List, [], _∷_, _++_}
-use mathlib.Core.Logic.{_⊎_}
 use mathlib.Core.Option.{Option, none, some}
 use lib.ListN.{length, getD, take}
-use Prim.Native.Nat.{ℕ, suc, _+_, _-_, _%_, _^_, _≤_, _<_, _∣_}
+use Prim.Native.Nat.{ℕ, suc, _+_, _^_, _≤_, _<_, _∣_}
 use Rattle.laws.specs.Res.{ok, refuse}
 use Rattle.laws.specs.Faults.{Rule, BreaksAt, AllKept, FirstFault}
 use Rattle.rules.specs.Records.{Rec, known, bodyLength, recordOf, tableFollows}
@@ -17,7 +16,7 @@ use Rattle.rules.specs.Checker.{TableRead, tableOf, controlAt, rowAt, st
 use Rattle.rules.specs.Playing.{modulePlaces, taskPlaces, Input}
 use Rattle.rules.specs.Station.{Kept, keptOf, State, stateAtStart, runPeriod, taskAge, runAge, Begun}
 
--- ---- files (1 and 20)
+-- ---- files (rules 6.1 and 7.20)
 
 -- A record of this kind may stand behind one of the kind `previous` (0: at the front).
 pub record MayStand (follows : ℕ → ℕ → Bool) (previous kind : ℕ) : Type 0 where
@@ -63,7 +62,7 @@ pub record NamesFrame (l : Layout) (t : TableRead) (k f : ℕ) : Type 0 where
   pub task : rowAt t k .task ≡ frameAt l f .task
   pub deadline : rowAt t k .deadline ≡ frameAt l f .deadline
 
--- 21: P, the header's counts and the numbers of rows are what the plan gives.
+-- 21: the head's period is P; its counts, and the rows present, are as many as the plan gives.
 pub record HeaderIsRight (l : Layout) (t : TableRead) : Type 0 where
   pub period : t .period ≡ l .period
   pub controls : t .controls ≡ length (l .control)
@@ -71,7 +70,7 @@ pub record HeaderIsRight (l : Layout) (t : TableRead) : Type 0 where
   pub controlRows : length (t .control) ≡ length (l .control)
   pub dataRows : length (t .rows) ≡ length (l .frames)
 
--- 22: the control row is the fixed one.
+-- 22: the control row is the one that the plan fixes.
 abbrev pub IsFixed : Layout → TableRead → ℕ → Type 0
 IsFixed l t k = controlAt (t .control) k ≡ controlAt (l .control) k
 
@@ -208,7 +207,7 @@ pub record IsRunning (k : Kept) (s : State) (t : ℕ) : Type 0 where
   pub invoked : 0 < runPeriod k s t
   pub released : 0 < taskAge k s t
 
--- "An invocation takes one result, 1 to w ticks after its release."
+-- A result may be given (rule 8.8): a run is under way, has had none, and is not older than its worst time.
 pub record IsAwaited (k : Kept) (s : State) (t : ℕ) : Type 0 where
   pub running : IsRunning k s t
   pub first : s .given t ≡ false
@@ -253,7 +252,7 @@ pub record TickBrokenAt (k : Kept) (s : State) (i : Input) (j p : ℕ) : Type 0 
 
 -- ---- beginnings
 
--- What a starting place must hold: "one mode for each module", one of its own; "a later one" nothing.
+-- What a starting place must hold (rule 8.40): a module's a mode of its own; one behind the modules nothing.
 pub record StartsRight (k : Kept) (starting : ℕ → Option ℕ) (m : ℕ) : Type 0 where
   pub own : m < k .modules → (μ : ℕ) × (starting m ≡ some μ) × (μ < k .modes) × (k .modeHome μ ≡ m)
   pub later : k .modules ≤ m → starting m ≡ none

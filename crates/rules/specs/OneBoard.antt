@@ -1,4 +1,4 @@
--- Demand 3's right side: the same history with all tasks on one board and no bus. A history is the list of ticks so far, the newest
+-- docs/RULES.md, rule 9.3: the same history on one board, where no bus is needed. A history is the list of ticks so far, the newest
 -- first; what is said of a module before a tick is said of the history behind it.
 use mathlib.Core.Bool.{Bool, cond, _&&_}
 use mathlib.Core.List.{List, [], _∷_}

@@ -1,9 +1,9 @@
--- Document 01, "Records" (a plan's things, their ranges) and refusals 2 to 5.
+-- docs/RULES.md, sections 2 and 3 (a plan's things and their limits), and refusals 2 to 5 (rules 6.2 to 6.5).
 use mathlib.Core.Bool.{Bool, true, cond, not, _&&_}
 use mathlib.Core.List.{List, [], _∷_, map}
 use lib.Dec.{eqb, leb, ltb}
 use lib.ListN.{getD, length, take}
-use Prim.Native.Nat.{ℕ, _+_, _*_, _/_}
+use Prim.Native.Nat.{ℕ, _+_, _/_}
 use Rattle.laws.specs.Res.{Res, ok, _>>=_, _>>_, at}
 use Rattle.laws.specs.Lists.{keep, any, firstBad, upTo}
 use Rattle.laws.specs.Numbers.{divides}
@@ -37,8 +37,8 @@ pub record Connection : Type 0 where
   pub producer : ℕ
   pub consumer : ℕ
 
--- A plan: the bus, the number of nodes, of each module its node, and the modes, tasks, invocations and connections, "numbered
--- from 0 in file order".
+-- A plan: the bus, the number of nodes, of each module its node, and the modes, tasks, invocations and connections. A thing's
+-- number is its place in its list (rule 2.8).
 pub record Plan : Type 0 where
   pub bus : Bus
   pub nodes : ℕ
@@ -101,24 +101,24 @@ planOf rs =
 unfoldable pub count : List Rec → ℕ → ℕ
 count rs k = cond (eqb k 2) (nth (only 2 rs) 0) (length (things k rs))
 
--- "Ranges: nodes 1 to 8, modules 1 to 16, modes 1 to 32, tasks 1 to 32, invocations 1 to 64, connections 0 to 64", by kind from 2 on
+-- Rule 3.1: the least and the greatest number of things, by kind from 2 on.
 unfoldable pub leastCounts : List ℕ
 leastCounts = 1 ∷ 1 ∷ 1 ∷ 1 ∷ 1 ∷ 0 ∷ []
 
 unfoldable pub mostCounts : List ℕ
 mostCounts = mostNodes ∷ mostModules ∷ mostModes ∷ mostTasks ∷ mostInvocations ∷ mostConnections ∷ []
 
--- Refusal 2: "a count of things, the number of nodes included, is outside its range" (k counts kinds from 2 on).
+-- Refusal 2 (rule 6.2): there are as many things of a kind as there may be; k counts kinds from 2 on.
 unfoldable pub countFits : List Rec → ℕ → Bool
 countFits rs k = leb (nth leastCounts k) (count rs (2 + k)) && leb (count rs (2 + k)) (nth mostCounts k)
 
--- every number of a body eachNumber the test of its field
+-- every number of a body passes the test of its field
 abbrev pub eachNumber : (Field → ℕ → Bool) → List Field → List ℕ → Bool
 eachNumber test [] numbers = true
 eachNumber test (f ∷ fs) [] = true
 eachNumber test (f ∷ fs) (x ∷ xs) = test f x && eachNumber test fs xs
 
--- Refusal 3: "a number names a node, module, mode or task not there".
+-- Refusal 3 (rule 6.3): a number that is a name is below the number of things of the kind that it names.
 abbrev pub isThere : (ℕ → ℕ) → Field → ℕ → Bool
 isThere counts (names k) x = ltb x (counts k)
 isThere counts (ranges w low high) x = true
@@ -127,7 +127,7 @@ isThere counts (free w) x = true
 unfoldable pub namesAreThere : (ℕ → ℕ) → Rec → Bool
 namesAreThere counts r = eachNumber (isThere counts) (fields (r .kind)) (r .numbers)
 
--- Refusal 4: "another number is outside its range"; "largest payload .. not below the least" (reading 7).
+-- Refusal 4 (rule 6.4): a number that is no name is within its range, and the bus's payloads are in order (rule 3.3, reading 7).
 abbrev pub isWithin : Field → ℕ → Bool
 isWithin (names k) x = true
 isWithin (ranges w low high) x = leb low x && leb x high
@@ -158,23 +158,23 @@ theTask p t = getD (p .tasks) t noTask
 unfoldable pub theInvocation : Plan → ℕ → Invocation
 theInvocation p k = getD (p .invocations) k noInvocation
 
--- "Period of an invocation = mode period / rate."
+-- Rule 4.1: an invocation's period is its mode's, divided by its rate.
 unfoldable pub periodOf : Plan → Invocation → ℕ
 periodOf p i = theMode p (i .mode) .period / i .rate
 
--- Refusal 5, of a module: "a module without a mode".
+-- Refusal 5, of a module (rule 6.5.1): it has a mode.
 unfoldable pub isHome : ℕ → Mode → Bool
 isHome m μ = eqb (μ .home) m
 
 unfoldable pub hasMode : Plan → ℕ → Bool
 hasMode p m = any (isHome m) (p .modes)
 
--- Refusal 5, of a mode: "switch period doesn't divide mode period".
+-- Refusal 5, of a mode (rule 6.5.2): its switch period divides its period.
 unfoldable pub switchDivides : Mode → Bool
 switchDivides μ = divides (μ .switch) (μ .period)
 
--- Refusal 5, of an invocation: "rate doesn't divide mode period; invocation period doesn't divide switch period; worst time above
--- invocation period; task and mode of different modules".
+-- Refusal 5, of an invocation, in this order: its rate divides its mode's period (rule 6.5.3), its own period the switch period
+-- (6.5.4); its task needs no longer than that period (6.5.5), and belongs to the mode's module (6.5.6).
 unfoldable pub fitsItsMode : Plan → Invocation → Bool
 fitsItsMode p i =
     (divides (i .rate) (theMode p (i .mode) .period)
@@ -182,7 +182,7 @@ fitsItsMode p i =
     && (leb (theTask p (i .task) .worst) (periodOf p i)
     && eqb (theTask p (i .task) .home) (theMode p (i .mode) .home))
 
--- Refusal 5, of an invocation: "a task twice in one mode", at the later (reading 8).
+-- Refusal 5, of an invocation (rule 6.5.7): no earlier one has its mode and its task. So of two the later is at fault (reading 8).
 unfoldable pub sameRun : Invocation → Invocation → Bool
 sameRun i j = eqb (i .mode) (j .mode) && eqb (i .task) (j .task)
 
@@ -206,7 +206,7 @@ rule5 p = do
   at 5 (firstMode p) (firstBad switchDivides (p .modes))
   at 5 (firstInvocation p) (firstBad (invocationKeeps p) (upTo (length (p .invocations))))
 
--- Refusals 1 to 5 "in order of number over the whole plan, the first that applies, at its lowest place".
+-- Refusals 1 to 5 by rule 6.31: each over the whole plan before the next, and at the lowest place where it applies.
 unfoldable pub readPlan : List ℕ → Res Plan
 readPlan file = do
   rs ← records planFollows 1 file

@@ -1,5 +1,5 @@
--- Document 01, "The played station": the places, what a tick is given, and the runs of a mode. The station and the one board share
--- these, and nothing else.
+-- docs/RULES.md, section 8: the places, what a tick is given, and the runs of a mode. The station and the one board share these, and
+-- nothing else.
 use mathlib.Core.Bool.{Bool, true, false, cond, _&&_}
 use mathlib.Core.List.{List, [], _∷_}
 use mathlib.Core.Option.{Option, none, some}
@@ -8,7 +8,7 @@ use Prim.Native.Nat.{ℕ}
 use Rattle.rules.specs.Limits.{mostNodes, mostModules, mostModes, mostTasks}
 use Rattle.rules.specs.Plan.{Invocation, Plan, periodOf}
 
--- "Each of the eight nodes has its own thirty-two places"; "16 starting places"; "nothing or one result for each of 32 task places".
+-- How many places there are for nodes, modules, modes and tasks: as many as a plan may have of them (rules 8.1, 8.4, 8.5).
 abbrev pub nodePlaces : ℕ
 nodePlaces = mostNodes
 
@@ -21,8 +21,7 @@ modePlaces = mostModes
 abbrev pub taskPlaces : ℕ
 taskPlaces = mostTasks
 
--- "A tick is given, for each of 32 task places, nothing or one 64-bit unsigned result, and for each of 16 module places, nothing or
--- a mode number."
+-- Rule 8.5: what a tick is given, by task place a result or nothing, by module place a mode or nothing.
 pub record Input : Type 0 where
   pub result : ℕ → Option ℕ
   pub change : ℕ → Option ℕ

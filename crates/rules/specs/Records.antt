@@ -1,11 +1,11 @@
--- Document 01, "Records": kinds, the lengths of their bodies, the order in which they stand, and a file read as records.
+-- docs/RULES.md, section 2: kinds, the lengths of their bodies, the order in which they stand, and a file read as records.
 use mathlib.Core.Bool.{Bool, true, false, cond, _&&_, _||_}
 use mathlib.Core.List.{List, [], _∷_}
 use mathlib.Core.Option.{Option, none, some}
 use lib.Dec.{eqb, leb}
 use lib.ListN.{getD, take, drop}
 use Prim.Native.Nat.{ℕ, zero, suc, _+_}
-use Rattle.laws.specs.Res.{Res, ok, refuse, _>>=_}
+use Rattle.laws.specs.Res.{Res, ok, refuse}
 use Rattle.laws.specs.Numbers.{number}
 use Rattle.rules.specs.Limits.{fastestBus, mostOverhead, mostPayload, mostGap, coarsest, longestTime, largestMessage, mostRate}
 
@@ -21,8 +21,8 @@ width (names kind) = 1
 width (ranges wide low high) = wide
 width (free wide) = wide
 
--- "Kind, Body, Length": for each kind 0 to 18 its numbers, or that the kind is unknown. The ranges are those of "Ranges";
--- the number of nodes has none here, since its range is refusal 2's (reading 7).
+-- Rule 2.4: for each kind 0 to 18 the numbers of its body, or that the kind is unknown. Ranges are those of rule 3.2; the number
+-- of nodes has none here, since its range is refusal 2's (reading 7).
 unfoldable pub kinds : List (Option (List Field))
 kinds =
     some []  -- 0 end
@@ -46,7 +46,7 @@ kinds =
     ∷ some (free 1 ∷ free 4 ∷ free 4 ∷ free 4 ∷ [])  -- 18 data row
     ∷ []
 
--- "Known": the table has an entry for it.
+-- a kind is known if the table has an entry for it
 abbrev pub isKnown : Option (List Field) → Bool
 isKnown none = false
 isKnown (some fs) = true
@@ -62,7 +62,7 @@ orNone (some fs) = fs
 unfoldable pub fields : ℕ → List Field
 fields kind = orNone (getD kinds kind none)
 
--- "The kind alone fixes the length of the body."
+-- Rule 2.2: how long a body is follows from its kind.
 abbrev pub widths : List Field → ℕ
 widths [] = 0
 widths (f ∷ fs) = width f + widths fs
@@ -70,14 +70,14 @@ widths (f ∷ fs) = width f + widths fs
 unfoldable pub bodyLength : ℕ → ℕ
 bodyLength kind = widths (fields kind)
 
--- "A plan is kind 1, kind 2, then kinds 3 to 7 never descending, then 0": whether a kind may stand behind another. Behind
--- nothing, which is written 0 here, only 1 may stand.
+-- Rule 2.5: whether a kind may stand behind another in a plan. At the front, which is written 0 here, only the bus may stand;
+-- behind the bus the nodes; then kinds from 3 to 7, none below the one before; the end behind any of these and the nodes.
 unfoldable pub planFollows : ℕ → ℕ → Bool
 planFollows previous kind =
     cond (eqb previous 0) (eqb kind 1)
     (cond (eqb previous 1) (eqb kind 2) (eqb kind 0 || (leb 3 kind && (leb previous kind && leb kind 7))))
 
--- "A table is 16, then all 17, then all 18, then 0."
+-- Rule 2.6: the same in a table: its head, control rows, data rows, the end.
 unfoldable pub tableFollows : ℕ → ℕ → Bool
 tableFollows previous kind =
     cond (eqb previous 0) (eqb kind 16) (eqb kind 0 || (leb 17 kind && (leb previous kind && leb kind 18)))
@@ -87,7 +87,7 @@ pub record Rec : Type 0 where
   pub kind : ℕ
   pub numbers : List ℕ
 
--- "Numbers are little-endian": the numbers that a body's bytes stand for.
+-- Rule 2.3: the numbers that a body's bytes stand for, the least significant byte of each first.
 abbrev pub decoded : List Field → List ℕ → List ℕ
 decoded [] body = []
 decoded (f ∷ fs) body = number (take (width f) body) ∷ decoded fs (drop (width f) body)
@@ -96,7 +96,7 @@ unfoldable pub recordOf : ℕ → List ℕ → Rec
 recordOf kind behind = record { kind = kind; numbers = decoded (fields kind) behind }
 
 module _ (follows : ℕ → ℕ → Bool) (refusal : ℕ) where
-  -- "and the file ends": behind the end record nothing stands (reading 1: the place is just behind it).
+  -- Rule 2.7: behind the end record the file has no byte more; otherwise the place is just behind it (reading 1).
   abbrev pub ended : ℕ → List ℕ → Res (List Rec)
   ended at [] = ok []
   ended at (b ∷ bs) = refuse refusal at
@@ -105,9 +105,9 @@ module _ (follows : ℕ → ℕ → Bool) (refusal : ℕ) where
   before r (ok rs) = ok (r ∷ rs)
   before r (refuse n p) = refuse n p
 
-  -- The records from the place `at` on, of which `inside` bytes still belong to the body of the record before. "Offset of the
-  -- first wrong record, or file length if it ends too early, also inside a body; a wrong kind goes before a cut body"
-  -- (readings 2 and 3). The end record is not listed.
+  -- The records from the place `at` on, of which `inside` bytes still belong to the body of the record before. Rules 6.1 and 7.20:
+  -- the place of a refusal is a wrong record's offset, or the file's length where it is cut; a wrong kind is seen before its body
+  -- is (readings 2 and 3). The end record is not listed.
   unfoldable pub walk : ℕ → ℕ → ℕ → List ℕ → Res (List Rec)
   walk previous inside at [] = refuse refusal at
   walk previous (suc inside) at (b ∷ bs) = walk previous inside (suc at) bs
@@ -120,6 +120,6 @@ module _ (follows : ℕ → ℕ → Bool) (refusal : ℕ) where
         | false ↦ refuse refusal at
       ]
 
-  -- "A file is a row of records", numbered from 0 in file order.
+  -- Rules 2.1 and 2.8: a whole file as its records; a record's number is its place in this list.
   unfoldable pub records : List ℕ → Res (List Rec)
   records file = walk 0 0 0 file

@@ -1,7 +1,7 @@
--- Document 01, "The played station": what it keeps, its state, refusals 41 to 44, the six steps (a) to (f) of a tick, `begin`
--- (readings 22 to 34). All are numbers, or functions of the place of a node, module, mode, task or row; a period of 0 means none.
+-- docs/RULES.md, section 8: what a station keeps, its state, refusals 41 to 44, the six steps (a) to (f) of a tick, `begin` (readings
+-- 22 to 34). All are numbers, or functions of the place of a node, module, mode, task or row; a period of 0 means none.
 use mathlib.Core.Bool.{Bool, true, false, cond, not, _&&_, _||_}
-use mathlib.Core.List.{List, _∷_}
+use mathlib.Core.List.{List}
 use mathlib.Core.Option.{Option, none, some, Option·getD}
 use lib.Dec.{eqb, leb, ltb}
 use lib.ListN.{length}
@@ -15,8 +15,8 @@ use Rattle.rules.specs.Table.{DataRow}
 use Rattle.rules.specs.Checker.{controlAt, rowAt, Passed, checkFiles}
 use Rattle.rules.specs.Playing.{modulePlaces, taskPlaces, Input, isGiven, periodIn}
 
--- "It keeps its own copy of what it needs": of the plan the modules, modes and tasks, the runs (`run mode task` is the invocation's
--- period, or 0), which tasks are bus tasks and which modules are sending; of the table P and the rows.
+-- Rule 8.2, what it copies: of the plan the modules, modes and tasks, the runs (`run mode task` is the invocation's period, or 0),
+-- which tasks are bus tasks and which modules are sending; of the table P and the rows.
 pub record Kept : Type 0 where
   pub modules : ℕ
   pub modes : ℕ
@@ -72,10 +72,10 @@ keptOf c =
       dataStop = λ r. rowAt rows r .stop;
     }
 
--- The state before a tick. "Time is kept within the bus and mode periods": `clock` is the bus time of the tick to come, 0 before the
--- first and then 1 to P; `age` by module the time since its mode began, 0 at the first tick and then 1 to the mode's period. `given`
--- by task: the run has had its result. `landed` and `shown` by node and task; `held` by node and module, the mode byte that the node
--- holds. On the bus: `full` and `load`, whether the data frame has a value and which; `modeByte`, the control frame's by module.
+-- The state before a tick. Time by rule 8.6: `clock` is the bus time of the tick to come, 0 before the first and then 1 to P; `age`
+-- by module the time since its mode began, 0 at the first tick and then 1 to the mode's period. `given` by task: the run has had its
+-- result. `landed` and `shown` by node and task; `held` by node and module, the mode byte that the node holds. On the bus: `full` and
+-- `load`, whether the data frame has a value and which; `modeByte`, the control frame's by module.
 pub record State : Type 0 where
   pub clock : ℕ
   pub mode : ℕ → ℕ
@@ -89,7 +89,7 @@ pub record State : Type 0 where
   pub load : ℕ
   pub modeByte : ℕ → ℕ
 
--- "landed and shown, all zero; each task has an out-box, zero"
+-- Rule 8.4: before the first tick every place, out-box and mode byte is zero.
 unfoldable pub stateAtStart : (ℕ → Option ℕ) → State
 stateAtStart starting =
     record {
@@ -125,16 +125,16 @@ runAge k s t = (taskAge k s t - 1) % runPeriod k s t + 1
 unfoldable pub isRunning : Kept → State → ℕ → Bool
 isRunning k s t = ltb 0 (runPeriod k s t) && ltb 0 (taskAge k s t)
 
--- "An invocation takes one result, 1 to w ticks after its release."
+-- Rule 8.8: a run takes one result, at an age of 1 to its worst time.
 unfoldable pub isAwaited : Kept → State → ℕ → Bool
 isAwaited k s t =
     (ltb t (k .tasks) && isRunning k s t) && (not (s .given t) && leb (runAge k s t) (k .taskWorst t))
 
--- Refusal 41: "a result where none is awaited, or for a task not in the plan".
+-- Refusal 41 (rule 8.41): a result comes only where one is awaited.
 unfoldable pub resultAwaited : Kept → State → Input → ℕ → Bool
 resultAwaited k s i t = not (isGiven (i .result t)) || isAwaited k s t
 
--- Refusal 42: "a result that needs more bytes than the message size".
+-- Refusal 42 (rule 8.42): a result fits into the bytes of its task's message.
 abbrev pub fitsIn : ℕ → Option ℕ → Bool
 fitsIn size none = true
 fitsIn size (some v) = ltb v (256 ^ size)
@@ -142,15 +142,15 @@ fitsIn size (some v) = ltb v (256 ^ size)
 unfoldable pub resultFits : Kept → Input → ℕ → Bool
 resultFits k i t = fitsIn (k .taskSize t) (i .result t)
 
--- Refusal 43: "w ticks gone without a result", at age exactly w (reading 24).
+-- Refusal 43 (rule 8.43): at age w, neither before nor later, the run has had its result or gets it now (reading 24).
 unfoldable pub isLastChance : Kept → State → ℕ → Bool
 isLastChance k s t = (ltb t (k .tasks) && isRunning k s t) && eqb (runAge k s t) (k .taskWorst t)
 
 unfoldable pub resultInTime : Kept → State → Input → ℕ → Bool
 resultInTime k s i t = not (isLastChance k s t) || (s .given t || isGiven (i .result t))
 
--- Refusal 44: "a mode that isn't one of that module's, or a change when the time since the mode to be left began isn't a multiple of
--- that mode's switch period (naming the present mode is a change too)".
+-- Refusal 44 (rule 8.44): a mode that is given is one of the module's own, and the present mode is a whole number of its switch periods
+-- old. This is asked also where the present mode is named (reading 33).
 unfoldable pub isModeOf : Kept → ℕ → ℕ → Bool
 isModeOf k m μ = ltb m (k .modules) && (ltb μ (k .modes) && eqb (k .modeHome μ) m)
 
@@ -164,7 +164,7 @@ mayTake k s m (some μ) = isModeOf k m μ && maySwitch k s m
 unfoldable pub changeAllowed : Kept → State → Input → ℕ → Bool
 changeAllowed k s i m = mayTake k s m (i .change m)
 
--- "Refusals, in order, lowest task or module first as place", all by the state before the tick (reading 26).
+-- Rule 8.9: each number over all places before the next, at the lowest, all by the state before the tick (reading 26).
 unfoldable pub judgedTick : Kept → State → Input → Res (Unit {0})
 judgedTick k s i = do
   at 41 0 (firstBad (resultAwaited k s i) (upTo taskPlaces))
@@ -172,7 +172,7 @@ judgedTick k s i = do
   at 43 0 (firstBad (resultInTime k s i) (upTo taskPlaces))
   at 44 0 (firstBad (changeAllowed k s i) (upTo modulePlaces))
 
--- (a) "results given now enter out-boxes"
+-- (a), rule 8.11: a result goes into the out-box.
 unfoldable pub outAfter : State → Input → ℕ → ℕ
 outAfter s i t = Option·getD (i .result t) (s .out t)
 
@@ -183,7 +183,7 @@ hasOther times now r = not (eqb (times r) now)
 unfoldable pub rowWith : (ℕ → ℕ) → ℕ → ℕ → Option ℕ
 rowWith times count now = firstBad (hasOther times now) (upTo count)
 
--- (b) "a frame stopping now lands on the other nodes, an empty one landing nothing": a data frame
+-- (b), rule 8.12, of a data frame: a value lands on every node but the sender's; an empty frame changes nothing.
 unfoldable pub landsOn : Kept → State → ℕ → ℕ → ℕ → Bool
 landsOn k s n t r = s .full && (eqb (k .dataTask r) t && not (eqb (homeNode k t) n))
 
@@ -194,7 +194,7 @@ landedBy k s n t (some r) = cond (landsOn k s n t r) (s .load) (s .landed n t)
 unfoldable pub landedAfter : Kept → State → ℕ → ℕ → ℕ
 landedAfter k s n t = landedBy k s n t (rowWith (k .dataStop) (k .datas) (s .clock))
 
--- (b) and a control frame: "one byte for each sending module on it"
+-- (b), of a control frame: the bytes of its node's sending modules land on every other node.
 unfoldable pub isByteOf : Kept → ℕ → ℕ → Bool
 isByteOf k m r = k .sends m && eqb (k .moduleNode m) (k .controlNode r)
 
@@ -205,16 +205,16 @@ heldBy k s n m (some r) = cond (isByteOf k m r && not (eqb (k .moduleNode m) n))
 unfoldable pub heldAfter : Kept → State → ℕ → ℕ → ℕ
 heldAfter k s n m = heldBy k s n m (rowWith (k .controlStop) (k .controls) (s .clock))
 
--- (c) "for each invocation ending now": of the running modes (reading 30)
+-- (c), rule 8.13: a run of the task ends at this tick, in the mode that runs (reading 30).
 unfoldable pub endsNow : Kept → State → ℕ → Bool
 endsNow k s t = isRunning k s t && divides (runPeriod k s t) (taskAge k s t)
 
--- A message of the bus task in this mode has this deadline (reading 30).
+-- Rule 8.17: a message of the bus task in this mode has this deadline (reading 30).
 unfoldable pub hasMessage : Kept → ℕ → ℕ → ℕ → Bool
 hasMessage k t μ deadline = k .isBus t && (ltb 0 (k .run μ t) && divides (k .run μ t) deadline)
 
--- (c) "its own node shows the out-box, and each other node shows the landed value if the mode bytes it holds say that such a message
--- exists"
+-- (c): where a run ends, its own node shows the out-box; every other node shows the landed value if by the mode byte that it holds there
+-- is a message with this deadline.
 unfoldable pub ownShows : Kept → State → ℕ → ℕ → Bool
 ownShows k s n t = endsNow k s t && eqb (homeNode k t) n
 
@@ -226,7 +226,7 @@ shownAfter k s i n t =
     cond (ownShows k s n t) (outAfter s i t)
     (cond (otherShows k s n t) (landedAfter k s n t) (s .shown n t))
 
--- (d) "modes change"
+-- (d), rule 8.14: a mode that was given runs from now on.
 unfoldable pub modeAfter : State → Input → ℕ → ℕ
 modeAfter s i m = Option·getD (i .change m) (s .mode m)
 
@@ -242,9 +242,9 @@ unfoldable pub givenAfter : Kept → State → Input → ℕ → Bool
 givenAfter k s i t =
     not (endsNow k s t || isGiven (i .change (k .taskHome t))) && (s .given t || isGiven (i .result t))
 
--- (e) "consumers read": the values that `shownAfter` gives. Nothing changes.
+-- (e), rule 8.15: what is read are the values that `shownAfter` gives. Nothing changes.
 
--- (f) "frames starting now take the mode bytes": of the modes after (d). P is time 0 of the next cycle.
+-- (f), rule 8.16: the rows that start at this tick; P is time 0 of the next cycle. A control frame takes the modes after (d).
 unfoldable pub startingControl : Kept → State → Option ℕ
 startingControl k s = rowWith (k .controlStart) (k .controls) (s .clock % k .period)
 
@@ -258,7 +258,7 @@ modeByteBy k s i m (some r) = cond (isByteOf k m r) (modeAfter s i m) (s .modeBy
 unfoldable pub modeByteAfter : Kept → State → Input → ℕ → ℕ
 modeByteAfter k s i m = modeByteBy k s i m (startingControl k s)
 
--- (f) "or the out-box if the sender's mode has that message, else go empty"
+-- (f): a data frame takes the out-box if its sender's mode after (d) has the row's message; otherwise it is empty.
 abbrev pub fullBy : Kept → State → Input → Option ℕ → Bool
 fullBy k s i none = s .full
 fullBy k s i (some r) =
@@ -274,7 +274,7 @@ loadBy k s i (some r) = outAfter s i (k .dataTask r)
 unfoldable pub loadAfter : Kept → State → Input → ℕ
 loadAfter k s i = loadBy k s i (startingData k s)
 
--- "Order within a tick, time 0 included": (a) to (f).
+-- The steps (a) to (f), at every tick, time 0 included.
 unfoldable pub tick : Kept → State → Input → State
 tick k s i =
     record {
@@ -291,7 +291,7 @@ tick k s i =
       modeByte = modeByteAfter k s i;
     }
 
--- What an accepted tick answers: the row that starts at it, or that none does (reading 34); "beside the state".
+-- Rule 8.18, what an accepted tick answers: the row that starts at it, or that none does (reading 34); `Ticked` has the state beside it.
 pub data Started : Type 0 where
   control : ControlRow → Started
   message : DataRow → Started
@@ -321,7 +321,7 @@ step k s i = do
   judgedTick k s i
   ok (record { row = started k s; state = tick k s i })
 
--- Refusal 40 of a beginning: "of 16 starting places, a module's holds no mode of its own, or a later one holds anything".
+-- Refusal 40 of a beginning (rule 8.40): a module's place holds a mode of its own, and a place behind the modules holds nothing.
 abbrev pub holdsModeOf : Kept → ℕ → Option ℕ → Bool
 holdsModeOf k m none = not (ltb m (k .modules))
 holdsModeOf k m (some μ) = isModeOf k m μ
@@ -333,7 +333,7 @@ pub record Begun : Type 0 where
   pub kept : Kept
   pub state : State
 
--- "It begins only with a passed table (else the checker's number) and one mode for each module."
+-- Rule 8.1: the checker's answer first, then the starting places.
 unfoldable pub begin : List ℕ → List ℕ → (ℕ → Option ℕ) → Res Begun
 begin plan table starting = do
   c ← checkFiles plan table

@@ -1,21 +1,19 @@
--- Document 01, "The played station": refusal 40 of a tick on any station value (reading 35).
+-- docs/RULES.md, rule 8.19: refusal 40 of a tick on any station value (reading 35).
 use mathlib.Core.Bool.{Bool, not, _&&_, _||_}
-use mathlib.Core.List.{_∷_}
 use lib.Dec.{eqb, leb, ltb}
 use Prim.Native.Nat.{ℕ, _^_}
-use Rattle.laws.specs.Res.{Res, _>>=_, _>>_, unless}
+use Rattle.laws.specs.Res.{Res, _>>_, unless}
 use Rattle.laws.specs.Lists.{all, upTo}
 use Rattle.rules.specs.Limits.{mostFrames, longestTime, largestMessage}
 use Rattle.rules.specs.Playing.{nodePlaces, modulePlaces, modePlaces, taskPlaces, Input}
 use Rattle.rules.specs.Station.{Kept, State, Ticked, step}
 
--- Refusal 40 of a tick: "a number outside its range" (reading 35). Every number that a station holds, at every place; what the
--- places behind a count hold from the beginning on, zero, is within.
+-- Every number that a station holds has its range, at every place; what the places behind a count hold from the beginning on, zero,
+-- is within.
 unfoldable pub isBetween : ℕ → ℕ → ℕ → Bool
 isBetween low high x = leb low x && leb x high
 
--- counts and times as in a plan: "modules 1 to 16, modes 1 to 32, tasks 1 to 32"; P, "mode and switch periods and worst time 1 to
--- 1,000,000"; a row for each node at most, and 256 data rows
+-- counts as in a plan (rule 3.1); P as any period; a control row for each node at most, and as many data rows as frames
 unfoldable pub countsInRange : Kept → Bool
 countsInRange k =
     (isBetween 1 modulePlaces (k .modules) && (isBetween 1 modePlaces (k .modes) && isBetween 1 taskPlaces (k .tasks)))
@@ -89,7 +87,7 @@ stateInRange k s =
 unfoldable pub inRange : Kept → State → Bool
 inRange k s = keptInRange k && stateInRange k s
 
--- A tick on any station value: "one holding a number outside its range gives 40 at 0".
+-- A tick on any station value: 40 at 0 where a number is outside its range, otherwise the tick of section 8.
 unfoldable pub ticked : Kept → State → Input → Res Ticked
 ticked k s i = do
   unless 40 0 (inRange k s)

@@ -1,4 +1,4 @@
--- Document 01: the table's bytes, refusals 13 and 19, and `make` with what was lent, on every outcome (readings 16 and 17).
+-- docs/RULES.md, section 6: the table's bytes, refusals 13 and 19, and `make` with what was lent, on every outcome (readings 16 and 17).
 use mathlib.Core.Bool.{true, false, cond}
 use mathlib.Core.List.{List, [], _∷_, _++_, map}
 use lib.Dec.{eqb, leb}
@@ -47,13 +47,13 @@ controlBytes r = recordBytes 17 (r .node ∷ r .start ∷ r .stop ∷ [])
 unfoldable pub dataBytes : DataRow → List ℕ
 dataBytes r = recordBytes 18 (r .task ∷ r .deadline ∷ r .start ∷ r .stop ∷ [])
 
--- "A table is 16, then all 17, then all 18, then 0": bus period, control rows, data rows; "data rows by start".
+-- Rules 2.6 and 6.34: the head with P and the numbers of rows, the control rows, the data rows by start, the end.
 unfoldable pub tableBytes : Layout → List Placed → List ℕ
 tableBytes l placed =
     headerBytes (l .period) (length (l .control)) (length placed)
     ++ (joined (map controlBytes (l .control)) ++ (joined (map dataBytes (map (dataRow l) placed)) ++ (0 ∷ [])))
 
--- A frame row: task, release, deadline, the table's start.
+-- A frame row (rule 4.15): task, release, deadline, and the start that the table gives.
 pub record FrameRow : Type 0 where
   pub task : ℕ
   pub release : ℕ
@@ -74,7 +74,7 @@ rowsFrom placed k (f ∷ fs) =
     record { task = f .task; release = f .release; deadline = f .deadline; start = startFor placed k }
     ∷ rowsFrom placed (suc k) fs
 
--- "the frames by number (task, release, deadline, the table's start), then zero rows"
+-- Rule 4.15: the frames' rows by number, then zero rows to the end of what was lent.
 unfoldable pub rowsThenZero : List FrameRow → ℕ → List FrameRow
 rowsThenZero rows lent = rows ++ replicate (lent - length rows) zeroRow
 
@@ -86,7 +86,7 @@ pub record MadeTable : Type 0 where
 unfoldable pub madeTable : Layout → List Placed → MadeTable
 madeTable l placed = record { table = tableBytes l placed; rows = rowsFrom placed 0 (l .frames) }
 
--- Refusals 1 to 13 in order; 13 is "lent table buffer too short", at the bytes needed.
+-- Refusals 1 to 13 in order; 13 where the table is longer than the room, at the table's length (rule 6.13).
 unfoldable pub tableFor : List ℕ → ℕ → Res MadeTable
 tableFor plan room = do
   p ← readPlan plan
@@ -102,8 +102,8 @@ pub record Made : Type 0 where
   pub rows : List FrameRow
   pub buffer : List ℕ
 
--- "On success the table stands at the front of the lent buffer, and the bytes behind it are unchanged." "A refusal leaves the
--- table buffer unchanged and every frame row zero."
+-- What is left in lent memory: the table before the old bytes, and the frames' rows (rule 6.34); where it is refused the buffer as it
+-- was, and zero rows (rules 6.32 and 6.33).
 abbrev pub outcome : Res MadeTable → List FrameRow → List ℕ → Made
 outcome (ok t) rows buffer =
     record {
@@ -114,7 +114,7 @@ outcome (ok t) rows buffer =
 outcome (refuse n p) rows buffer =
     record { answer = refuse n p; rows = replicate (length rows) zeroRow; buffer = buffer }
 
--- "19 leaves the rows unchanged too": fewer than 256 frame rows lent, before all else.
+-- Refusal 19 (rule 6.19) before all else: too few frame rows are lent. Rows and buffer stay as they were (rules 6.31 to 6.33).
 unfoldable pub make : List ℕ → List FrameRow → List ℕ → Made
 make plan rows buffer =
     elim (leb mostFrames (length rows)) [

@@ -1,5 +1,5 @@
--- One board in plain words, over the history itself: its ticks by their number from 0 on, the runs that ended in it, the one result
--- of a run, and the value of a task.
+-- One board in plain words (docs/RULES.md, section 9), over the history itself: its ticks by their number from 0 on, the runs that
+-- ended in it, the one result of a run, and the value of a task.
 use mathlib.Core.Path.{_≡_}
 use mathlib.Core.Bool.{true}
 use mathlib.Core.List.{List, _∷_}

@@ -1,1 +1,1 @@
-// Document 01 as definitions (specs/) and what follows from them alone (proofs/); there is no code.
+// The rules of docs/RULES.md as definitions (specs/) and what follows from them alone (proofs/); there is no code.

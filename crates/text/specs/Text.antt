@@ -33,15 +33,15 @@ atWord = 32 ∷ 97 ∷ 116 ∷ 32 ∷ []
 abbrev pub lineFeed : List ℕ
 lineFeed = 10 ∷ []
 
--- "one line `refused N at P`"; each line ends with one line feed (reading 5).
+-- Rule 1.5: the line `refused N at P`; each line ends with one line feed (reading 5).
 unfoldable pub refusedLine : ℕ → ℕ → List ℕ
 refusedLine number place = refusedWord ++ (decimal number ++ (atWord ++ (decimal place ++ lineFeed)))
 
--- "for input above 65,536 bytes the line `too long`"
+-- Rule 1.5: the line `too long`.
 unfoldable pub tooLongLine : List ℕ
 tooLongLine = 116 ∷ 111 ∷ 111 ∷ 32 ∷ 108 ∷ 111 ∷ 110 ∷ 103 ∷ lineFeed
 
--- "Else it passes": the line `passed`.
+-- the line `passed`, of a table that passes (rule 7.3)
 unfoldable pub passedLine : List ℕ
 passedLine = 112 ∷ 97 ∷ 115 ∷ 115 ∷ 101 ∷ 100 ∷ lineFeed
 
