@@ -5,7 +5,7 @@
  * same time. What a caller owes is C's own: each pointer leads to as much memory as its parameter says (a pointer with a length of
  * 0 is not followed, but is not null), and memory that a function writes to is lent to nothing else during the call.
  *
- * Times are in ticks of one microsecond. Files (plans, tables) are rows of records as document 01 has them.
+ * Times are in ticks of one microsecond. Files (plans, tables) are rows of records as section 2 of docs/RULES.md has them.
  */
 #ifndef OLBIOTHAR_H
 #define OLBIOTHAR_H
@@ -88,8 +88,10 @@ typedef struct olbiothar_frame {
 olbiothar_answer olbiothar_make(const uint8_t *plan, size_t plan_length, olbiothar_frame *rows, size_t row_count,
                                 uint8_t *table, size_t table_length);
 
-/* Judges a table of a plan, whoever made it. A table that passes is one by which each node shows, at each tick, what it would show
- * if all tasks ran on one board and there were no bus.
+/* Judges a table of a plan, whoever made it. What is proved of a table that passes: take a station that begins with it, and any ticks
+ * that are accepted one after the other; refused ones in between change nothing. Behind each of them a task's own node, and each node
+ * that consumes the task (a connection leads from it to a task there), shows the value that the task would have if all tasks ran on
+ * one board and there were no bus. Of other nodes nothing is said here.
  *
  * number 0: it passes (`place` is 0). The rows are the frames by number, with their starts in this table, then zero rows to the end.
  * number 1 to 11 (the plan's) and 20 to 27 (the table's): every row is zero.

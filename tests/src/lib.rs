@@ -1,4 +1,4 @@
-//! Document 01 in plain Rust: unproved, independent of the proved program, written for speed.
+//! The rules of docs/RULES.md in plain Rust: unproved, independent of the proved program, written for speed.
 //! It is what the proved program is compared with, in its answers and in its time.
 #![forbid(unsafe_code)]
 

@@ -1,4 +1,4 @@
-//! What can be compared: the functions of document 01 on lent memory, whoever performs them.
+//! What can be compared: make, check, begin and tick on lent memory, whoever performs them.
 
 use crate::station::{Modes, Results};
 use crate::{FrameRow, MOST_NODES, MOST_TASKS, Refusal, Row, Station, check, make};

@@ -1,4 +1,4 @@
-//! The jobs of document 01.
+//! The jobs of docs/RULES.md.
 
 use reference::generate::{Draft, job_a, job_j};
 use reference::{FrameRow, Refusal, Row, Station, check, make};

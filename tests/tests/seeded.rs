@@ -1,5 +1,5 @@
-//! Seeded cases: every refusal is reached, and the answers agree with each other and with document
-//! 01 read word by word.
+//! Seeded cases: every refusal is reached, and the answers agree with each other and with sections 4
+//! and 5 of docs/RULES.md taken word by word.
 
 use reference::bus::{Bus, derive};
 use reference::checker::DataRow;

@@ -1,6 +1,6 @@
 //! The proved library against the Rust program: every vector, then seeded cases. The words of the
 //! command line start the driver. The run ends with an error at the first difference, and if a
-//! number of document 01 was not reached.
+//! refusal of docs/RULES.md was not reached.
 
 use reference::driver::Driver;
 use reference::generate::{

@@ -118,7 +118,7 @@ impl TableDraft {
     }
 }
 
-/// Job A of document 01.
+/// Job A (docs/RULES.md, rule 10.A).
 pub fn job_a() -> Draft {
     let mode = |module| Mode { module, period: 60_000, switch_period: 60_000 };
     let task = |module| Task { module, size: 4, worst_time: 1_000 };
@@ -144,7 +144,7 @@ pub fn job_a() -> Draft {
     }
 }
 
-/// Job J of document 01: X, Y, Z, and the task that consumes them.
+/// Job J (docs/RULES.md, rule 10.J): X, Y, Z, and the task that consumes them.
 pub fn job_j() -> Draft {
     let task = |module, size, worst_time| Task { module, size, worst_time };
     let invocation = |task, rate| Invocation { mode: task, task, rate };

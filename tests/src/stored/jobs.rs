@@ -1,4 +1,4 @@
-//! The jobs of document 01 that need no played station.
+//! The jobs of docs/RULES.md that need no played station.
 
 use super::cases::Case;
 use crate::MOST_FRAMES;
