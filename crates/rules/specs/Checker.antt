@@ -128,7 +128,7 @@ pub record Passed : Type 0 where
   pub layout : Layout
   pub table : TableRead
 
--- Refusals 1 to 11 for the plan, then 20 to 27.
+-- Rules 7.1 to 7.3: 1 to 11 of the plan, then 20 to 27 of the table; otherwise it passes.
 unfoldable pub checkFiles : List ℕ → List ℕ → Res Passed
 checkFiles plan table = do
   p ← readPlan plan

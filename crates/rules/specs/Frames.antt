@@ -138,7 +138,7 @@ frames p = framesOf (messages (busPeriod p) (busRuns p))
 unfoldable pub payload : Plan → Frame → ℕ
 payload p f = theTask p (f .task) .size
 
--- Bits on the bus in ticks: bits × 1000 / kbit/s, up to a whole tick, then up to the resolution (reading 14).
+-- Bits on the bus in ticks: bits × 1000 / kbit/s, rounded up twice, to a tick and to the resolution (reading 14).
 unfoldable pub ticksOfBits : Bus → ℕ → ℕ
 ticksOfBits b bits = up (b .resolution) (ceil (bits * 1000) (b .rate))
 

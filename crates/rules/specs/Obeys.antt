@@ -93,7 +93,7 @@ IsReleased l t k = (f : ℕ) → NamesFrame l t k f → frameAt l f .release ≤
 abbrev pub IsInTime : TableRead → ℕ → Type 0
 IsInTime t k = rowAt t k .stop ≤ rowAt t k .deadline
 
--- 27: the data row starts no earlier than the stop plus gap of the row before it, control rows included.
+-- 27: the data row starts a gap or more behind the stop of the row before it; before the first stands the last control row.
 abbrev pub IsSpaced : Layout → TableRead → ℕ → Type 0
 IsSpaced l t k = stopBefore t k + gapTime (l .plan .bus) ≤ rowAt t k .start
 

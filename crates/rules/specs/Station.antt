@@ -213,8 +213,8 @@ endsNow k s t = isRunning k s t && divides (runPeriod k s t) (taskAge k s t)
 unfoldable pub hasMessage : Kept → ℕ → ℕ → ℕ → Bool
 hasMessage k t μ deadline = k .isBus t && (ltb 0 (k .run μ t) && divides (k .run μ t) deadline)
 
--- (c): where a run ends, its own node shows the out-box; every other node shows the landed value if by the mode byte that it holds there
--- is a message with this deadline.
+-- (c): where a run ends, the out-box is shown on the task's own node; elsewhere the landed value, if by the mode byte that the node holds
+-- there is a message with this deadline.
 unfoldable pub ownShows : Kept → State → ℕ → ℕ → Bool
 ownShows k s n t = endsNow k s t && eqb (homeNode k t) n
 
