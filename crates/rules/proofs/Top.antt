@@ -8,24 +8,41 @@ use mathlib.Core.Logic.{_↔_}
 use mathlib.Core.Option.{Option}
 use lib.ListN.{length, take}
 use Prim.Native.Nat.{ℕ, _+_, _≤_, _<_}
-use Rattle.laws.specs.Res.{ok, refuse}
+use Rattle.laws.specs.Res.{Res, ok, refuse}
+use Rattle.laws.specs.Faults.{AllKept}
 use Rattle.rules.specs.Limits.{mostFrames}
 use Rattle.rules.specs.Plan.{Plan, readPlan}
-use Rattle.rules.specs.Frames.{busPeriod, switchGrid, busRuns, messages, frames, taskNode}
+use Rattle.rules.specs.Frames.{Layout, busPeriod, switchGrid, busRuns, messages, frames, taskNode, layout, layoutOf}
+use Rattle.rules.specs.LatestRelease.{Placed, latestRelease}
+use Rattle.rules.specs.RuleSteps.{RuleGives}
 use Rattle.rules.specs.Table.{FrameRow, make}
 use Rattle.rules.specs.Checker.{check}
 use Rattle.rules.specs.Obeys.{MayPass, BrokenAt, MakesTable, RuleRefuses}
+use Rattle.rules.specs.ObeysPlan.{ReadsAs, layoutRules}
 use Rattle.rules.specs.Playing.{Input}
 use Rattle.rules.specs.Station.{Begun, State, begin}
 use Rattle.rules.specs.History.{played, consumes}
+use Rattle.rules.specs.Told.{Tells}
+use Rattle.rules.specs.Allowed.{Allowed}
 use Rattle.rules.proofs.Period.{IsBusPeriod, IsSwitchGrid, period, switch-grid}
 use Rattle.rules.proofs.FramesOf.{IsFramesOf, plan-frames}
+use Rattle.rules.proofs.PlanExact.{read-exact, layout-exact}
+use Rattle.rules.proofs.RuleSteps as steps
 use Rattle.rules.proofs.CheckerExact.{checker-exact, rule-exact}
 use Rattle.rules.proofs.MadePasses.{made-checks}
 use Rattle.rules.proofs.Room.{make-exact, twelve-exact}
-use Rattle.rules.proofs.TransparentTold.{Tells, shown-told, shown-told-own}
+use Rattle.rules.proofs.AllowedExact.{history-told}
+use Rattle.rules.proofs.TransparentTold.{shown-told, shown-told-own}
 
--- ---- Demand 2: period, frames, checker, maker
+-- ---- Demand 2: plan, period, frames, rule, checker, maker
+
+-- A plan is read exactly when the file is records that keep refusals 2 to 5, sentence by sentence.
+pub it-reads-exactly : (file : List ℕ) (p : Plan) → (readPlan file ≡ ok p) ↔ ReadsAs file p
+it-reads-exactly = read-exact
+
+-- It is laid out exactly when it keeps 6 to 11.
+pub it-lays-out-exactly : (p : Plan) (l : Layout) → (layout p ≡ ok l) ↔ (AllKept (layoutRules p) × (layoutOf p ≡ l))
+it-lays-out-exactly = layout-exact
 
 -- P is a common multiple of the periods of all invocations of bus tasks, and divides every other.
 pub the-bus-period : (p : Plan) → IsBusPeriod p (busPeriod p)
@@ -39,6 +56,11 @@ the-grid = switch-grid
 -- release of its messages.
 pub the-frames : (p : Plan) → IsFramesOf (messages (busPeriod p) (busRuns p)) (frames p)
 the-frames = plan-frames
+
+-- The latest-release rule comes to an outcome, the frames placed or a refusal at a frame, exactly when a run of its steps does; each
+-- step is the one that the rule's sentences describe.
+pub the-rule-step-by-step : (l : Layout) (outcome : Res (List Placed)) → (latestRelease l ≡ outcome) ↔ RuleGives l outcome
+the-rule-step-by-step = steps.rule-exact
 
 -- The checker passes a table exactly when enough rows are lent and plan and table keep every rule.
 pub it-passes-exactly : (plan table : List ℕ) (rows : List FrameRow)
@@ -67,7 +89,14 @@ what-is-made-passes = made-checks
 
 -- ---- Demand 3: what boards show
 
--- Of a station that begins with plan and table, behind every history of accepted ticks: on every node that consumes a task of another
+-- Of a station that begins with plan and table: a history of ticks is accepted exactly when, in the words of the history alone, each
+-- result comes while its run waits for it and in its worst time, none is missing, and modes change at their instants.
+pub it-accepts-exactly : (plan table : List ℕ) (starting : ℕ → Option ℕ) (b : Begun) → begin plan table starting ≡ ok b
+    → (p : Plan) → readPlan plan ≡ ok p
+    → (history : List Input) → ((s : State) × (played (b .kept) (b .state) history ≡ ok s)) ↔ Allowed p starting history
+it-accepts-exactly = history-told
+
+-- Behind every history of accepted ticks, on every node that consumes a task of another
 -- node the value shown is the one result of the last run of the task that has ended, or zero.
 pub boards-show : (plan table : List ℕ) (starting : ℕ → Option ℕ) (b : Begun) → begin plan table starting ≡ ok b
     → (p : Plan) → readPlan plan ≡ ok p → (history : List Input) (s : State) → played (b .kept) (b .state) history ≡ ok s
