@@ -10,7 +10,7 @@ use lib.ListN.{length, getD, take}
 use Prim.Native.Nat.{ℕ, zero, suc, _+_, _<_}
 use Rattle.laws.specs.Lists.{firstBad, upTo}
 use Rattle.laws.specs.Res.{Res, ok, refuse, _>>_, unless, at}
-use Rattle.laws.specs.Faults.{Rule, IsKept, BreaksAt, AllKept, FirstFault, CountUp}
+use Rattle.laws.specs.Faults.{Rule, once, IsKept, BreaksAt, AllKept, FirstFault, CountUp}
 use Rattle.laws.proofs.Lists.{true-false}
 use Rattle.laws.proofs.Loops.{
   firstBad-upTo-none,
@@ -110,9 +110,6 @@ exact-list number first asks l d test means =
     (exact-rule (record { number = number; first = first; places = length l; asks = asks }) (λ k. test (getD l k d)) means)
 
 -- a rule with one place, asked by one test
-abbrev pub once : ℕ → ℕ → Type 0 → Rule
-once number place P = record { number = number; first = place; places = 1; asks = λ k. P }
-
 pub unless-refused : (number place : ℕ) (b : Bool) (n p : ℕ) → unless number place b ≡ refuse n p → (b ≡ false) × (number ≡ n) × (place ≡ p)
 unless-refused number place true n p e = refuse≢ok (sym e)
 unless-refused number place false n p e = (refl, refuse-number e, refuse-place e)

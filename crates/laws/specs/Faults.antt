@@ -11,6 +11,10 @@ pub record Rule : Type 1 where
   pub places : ℕ
   pub asks : ℕ → Type 0
 
+-- a rule with one place
+abbrev pub once : ℕ → ℕ → Type 0 → Rule
+once number place asked = record { number = number; first = place; places = 1; asks = λ k. asked }
+
 -- every place keeps it
 pub record IsKept (r : Rule) : Type 0 where
   pub each : (k : ℕ) → k < r .places → r .asks k

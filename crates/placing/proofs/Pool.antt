@@ -2,9 +2,9 @@
 -- falls, and the pool stands in falling order of (release, number). The machine's run is the rule's.
 use mathlib.Core.Path.{_≡_, refl, sym, ap, _∙_, subst}
 use mathlib.Core.Bool.{Bool, true, false, cond, _&&_, _||_}
-use mathlib.Core.List.{List, [], _∷_, foldr, List·Memᴰ, List·Memᴰ·head, List·Memᴰ·tail, Memᴰ·cast}
+use mathlib.Core.List.{List, [], _∷_, List·Memᴰ, List·Memᴰ·head, List·Memᴰ·tail, Memᴰ·cast}
 use mathlib.Core.Logic.{_⊎_, inl, inr}
-use native.Mathlib.Nat.{le-trans, min-eq-left, le-max-left, le-max-right, max-le, le-refl, eq-or-lt-of-le, le-of-suc-le-suc, not-suc-le-zero, min-le-left, min-le-right}
+use native.Mathlib.Nat.{le-trans, min-eq-left, max-le, le-refl, eq-or-lt-of-le, le-of-suc-le-suc, not-suc-le-zero, min-le-left, min-le-right}
 use native.Mathlib.Omega.{arith}
 use lib.Dec.{eqb, leb, ltb}
 use lib.ListN.{length}
@@ -17,6 +17,7 @@ use Rattle.laws.proofs.Divisors.{down-below}
 use Rattle.laws.proofs.Members.{All, empty, also, Pairs, alone, before, all-head, all-tail, all-member, all-of-members, all-weaker, pairs-head, pairs-tail, keep-member, keep-from, keep-passes}
 use Rattle.rules.specs.Frames.{Frame}
 use Rattle.rules.specs.LatestRelease.{Numbered, Placed, isCandidate, isLater, isOther, latestOf, latest, withDeadline, greatestDeadline, lowered, taken, startOf, fits, place}
+use Rattle.rules.proofs.RuleSteps.{greatest-above}
 
 -- ---- what `latest` and `greatestDeadline` give depends on the members alone
 
@@ -56,13 +57,6 @@ module _ (x : Numbered) where
   latest-top : {l : List Numbered} → All (Below x) l → List·Memᴰ x l → latest l ≡ x
   latest-top (also {x = y} q r) (List·Memᴰ·head e) = latestOf-top y q r (inl (sym e))
   latest-top (also {x = y} q r) (List·Memᴰ·tail m) = latestOf-top y q r (inr m)
-
-greatest-ge : {y : Numbered} {l : List Numbered} → List·Memᴰ y l → y .frame .deadline ≤ greatestDeadline l
-unfolding greatestDeadline withDeadline
-greatest-ge {y} (List·Memᴰ·head {x = z} {xs = l} e) =
-    rw e (le-max-left (z .frame .deadline) (foldr withDeadline 0 l))
-greatest-ge {y} (List·Memᴰ·tail {x = z} {xs = l} m) =
-    le-trans (greatest-ge m) (le-max-right (z .frame .deadline) (foldr withDeadline 0 l))
 
 greatest-le : (b : ℕ) {l : List Numbered} → All (λ y. y .frame .deadline ≤ b) l → greatestDeadline l ≤ b
 unfolding greatestDeadline withDeadline
@@ -277,11 +271,11 @@ module _ (F : ℕ → Frame) where
     lowered-is : {left : List Numbered} (e m : ℕ) (pool : List ℕ) → Same left m pool e → 0 < m + length pool → min e (greatestDeadline left) ≡ lowEnd e m pool
     lowered-is {left} e m (k ∷ pool) s h =
         let d : e ≤ F k .deadline = all-head (s .late) in
-        let g : F k .deadline ≤ greatestDeadline left = greatest-ge (s .ins k (List·Memᴰ·head refl)) in
+        let g : F k .deadline ≤ greatestDeadline left = greatest-above (s .ins k (List·Memᴰ·head refl)) in
         min-eq-left (le-trans d g)
     lowered-is {left} e zero [] s h = absurd (not-suc-le-zero h)
     lowered-is {left} e (suc m) [] s h =
-        let g : F m .deadline ≤ greatestDeadline left = greatest-ge (s .outs m (le-refl (suc m))) in
+        let g : F m .deadline ≤ greatestDeadline left = greatest-above (s .outs m (le-refl (suc m))) in
         let l : greatestDeadline left ≤ F m .deadline = greatest-le (F m .deadline) (all-of-members left (λ y w. at-most y (s .from y w))) in
         let q : suc m - 1 ≡ m = omega arith in
         let r : greatestDeadline left ≡ F m .deadline = omega arith in

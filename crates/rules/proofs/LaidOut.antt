@@ -5,16 +5,12 @@ use mathlib.Core.Bool.{true}
 use mathlib.Core.List.{List, [], _∷_}
 use native.Mathlib.Nat.{dvd-trans, le-of-dvd, pos-of-dvd-of-pos, div-mul-le-self, mul-le-mul-right}
 use native.Mathlib.Omega.{arith}
-use borrow.Author.Tests.{leb-true, eqb-true, eq-eqb}
-use lib.Dec.{leb}
+use borrow.Author.Tests.{eqb-true, eq-eqb}
 use lib.ListN.{length}
-use Prim.Native.Nat.{ℕ, suc, _+_, _*_, _/_, _≤_, _<_, _∣_}
-use Rattle.laws.specs.Res.{ok, unless}
+use Prim.Native.Nat.{ℕ, suc, _+_, _*_, _/_, _≤_, _<_, _∣_, zero-le, suc-le-suc}
+use Rattle.laws.specs.Res.{ok}
 use Rattle.laws.specs.Lists.{keep, any, lastD, upTo}
-use Rattle.laws.specs.Numbers.{divides}
 use Rattle.laws.proofs.Lists.{both-left, any-upTo-true, length-keep, length-upTo}
-use Rattle.laws.proofs.Res.{ok-injective, then-case, unless-ok}
-use Rattle.laws.proofs.Divisors.{divides-true}
 use Rattle.laws.proofs.Members.{
   All,
   empty,
@@ -38,6 +34,7 @@ use Rattle.rules.specs.Plan.{Plan, noMode, theMode, theTask}
 use Rattle.rules.specs.Frames.{Run, runOf, ofBusTask, busRuns, invokes, isBusTask, busTasks, livesIn, isSending, isSendingNode, sendingNodes, ofSender, switchGrid, busPeriod, Frame, message, messagesOf, messages, frames, sendingTime, gapTime, controlPayload, ControlRow, noControlRow, controlFrom, controlRows, controlEnd, someBusTask, payloadsFit, Layout, layoutOf, layout}
 use Rattle.rules.proofs.Period.{switch-grid}
 use Rattle.rules.proofs.FramesOf.{plan-frames}
+use Rattle.rules.proofs.PlanExact.{some-means, payloads-mean, layout-exact}
 use Rattle.rules.proofs.PlanKept.{Between, PlanKept}
 
 -- refusals 6 to 11 passed
@@ -51,22 +48,18 @@ pub record LaidOut (p : Plan) (l : Layout) : Type 0 where
   pub is : layoutOf p ≡ l
 
 pub laid-out : (p : Plan) (l : Layout) → layout p ≡ ok l → LaidOut p l
-unfolding layout
 laid-out p l e =
-    then-case (unless 6 0 (someBusTask p)) _ e λ _ a₆ e₆.
-    then-case (unless 7 0 (divides (busPeriod p) (switchGrid p))) _ e₆ λ _ a₇ e₇.
-    then-case (unless 8 0 (divides (p .bus .resolution) (busPeriod p))) _ e₇ λ _ a₈ e₈.
-    then-case (unless 9 0 (leb (length (frames p)) mostFrames)) _ e₈ λ _ a₉ e₉.
-    then-case (unless 10 0 (payloadsFit p)) _ e₉ λ _ a₁₀ e₁₀.
-    then-case (unless 11 0 (leb (controlEnd p) (busPeriod p))) _ e₁₀ λ _ a₁₁ e₁₁.
+    let h = layout-exact p l .0 e in
+    let k = h .0 in
+    let one : 0 < 1 = suc-le-suc zero-le in
     record {
-      someBus = unless-ok 6 0 (someBusTask p) a₆;
-      divides = divides-true (busPeriod p) (switchGrid p) (unless-ok 7 0 (divides (busPeriod p) (switchGrid p)) a₇);
-      onGrid = divides-true (p .bus .resolution) (busPeriod p) (unless-ok 8 0 (divides (p .bus .resolution) (busPeriod p)) a₈);
-      few = leb-true (length (frames p)) mostFrames (unless-ok 9 0 (leb (length (frames p)) mostFrames) a₉);
-      payloads = unless-ok 10 0 (payloadsFit p) a₁₀;
-      room = leb-true (controlEnd p) (busPeriod p) (unless-ok 11 0 (leb (controlEnd p) (busPeriod p)) a₁₁);
-      is = ok-injective e₁₁;
+      someBus = some-means p .passes (k .0 .each 0 one);
+      divides = k .1 .0 .each 0 one;
+      onGrid = k .1 .1 .0 .each 0 one;
+      few = k .1 .1 .1 .0 .each 0 one;
+      payloads = payloads-mean p .passes (k .1 .1 .1 .1 .0 .each 0 one);
+      room = k .1 .1 .1 .1 .1 .0 .each 0 one;
+      is = h .1;
     }
 
 -- ---- P is at most a mode period

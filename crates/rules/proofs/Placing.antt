@@ -6,10 +6,9 @@ use native.Mathlib.Omega.{arith}
 use lib.ListN.{length, getD, length-map}
 use borrow.Author.Tests.{eqb-false, not-true}
 use lib.Dec.{eqb}
-use Prim.Native.Nat.{ℕ, zero, suc, _+_, _≤_, _<_, _∣_, zero-le, suc-le-suc}
+use Prim.Native.Nat.{ℕ, suc, _+_, _≤_, _<_, _∣_, zero-le, suc-le-suc}
 use mathlib.Core.Bool.{true}
 use Rattle.laws.specs.Res.{Res, ok}
-use Rattle.laws.specs.Lists.{keep}
 use Rattle.laws.proofs.Res.{refuse≢ok, ok-injective}
 use Rattle.laws.proofs.Members.{
   All,

@@ -1,7 +1,7 @@
 -- PlanExact: each test of 2 to 11 means its rule (specs/ObeysPlan), so a plan is read exactly where its bytes are records that keep 2 to 5,
 -- and laid out exactly where it keeps 6 to 11; else the number given is that of the first rule that is broken, at its lowest place.
-use mathlib.Core.Path.{_≡_, refl, sym, ap, _∙_, subst}
-use mathlib.Core.Bool.{Bool, true, false}
+use mathlib.Core.Path.{_≡_, refl, sym, ap, _∙_}
+use mathlib.Core.Bool.{Bool}
 use mathlib.Core.List.{List, [], _∷_}
 use mathlib.Core.Logic.{_↔_}
 use native.Mathlib.Nat.{not-suc-le-zero, le-of-suc-le-suc, suc-inj}
@@ -9,7 +9,7 @@ use native.Mathlib.Omega.{arith}
 use lib.Dec.{leb}
 use lib.ListN.{length, getD, take}
 use lib.Seq.{length-take-le, getD-take}
-use Prim.Native.Nat.{ℕ, zero, suc, _+_, _≤_, _<_, _∣_, zero-le, suc-le-suc}
+use Prim.Native.Nat.{ℕ, zero, suc, _+_, _≤_, _<_, zero-le, suc-le-suc}
 use Rattle.laws.specs.Res.{Res, ok, refuse, _>>_, unless, at}
 use Rattle.laws.specs.Lists.{firstBad, upTo}
 use Rattle.laws.specs.Numbers.{divides}
@@ -95,7 +95,6 @@ use Rattle.rules.specs.ObeysPlan.{
   IsBusTask,
   SomeBusTask,
   PayloadsFit,
-  onceAt0,
   layoutRules,
 }
 use Rattle.rules.proofs.RecordsExact.{records-exact, records-refused}
@@ -312,7 +311,7 @@ module _ (file : List ℕ) where
 -- ---- 6 to 11
 
 module _ (p : Plan) where
-  pub bus-means : (t : ℕ) → Tests (isBusTask p t) (IsBusTask p t)
+  bus-means : (t : ℕ) → Tests (isBusTask p t) (IsBusTask p t)
   unfolding isBusTask invokes leaves theInvocation theConnection
   bus-means t =
       by-iff
@@ -331,14 +330,14 @@ module _ (p : Plan) where
       })
       (λ h. ((h .invocation, h .isInvocation, h .runs), (h .connection, h .isConnection, (h .comes, h .leaves))))
 
-  some-means : Tests (someBusTask p) (SomeBusTask p)
+  pub some-means : Tests (someBusTask p) (SomeBusTask p)
   unfolding someBusTask
   some-means =
       by-iff (by-any-upTo (isBusTask p) (length (p .tasks)) (λ t w. bus-means t))
       (λ h. record { task = h .0; there = h .1; onBus = h .2 })
       (λ h. (h .task, h .there, h .onBus))
 
-  payloads-mean : Tests (payloadsFit p) (PayloadsFit p)
+  pub payloads-mean : Tests (payloadsFit p) (PayloadsFit p)
   unfolding payloadsFit busTasks sendingNodes messageFits isSendingNode controlFits
   payloads-mean =
       by-iff

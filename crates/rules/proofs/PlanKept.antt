@@ -1,16 +1,16 @@
 -- PlanKept: what refusals 1 to 5 leave of a plan that is read: each count, name and range of docs/RULES.md, section 3, by name, and what
 -- rules 6.5.1 to 6.5.7 ask.
 use mathlib.Core.Path.{_≡_, refl, sym, subst}
-use mathlib.Core.Bool.{Bool, true}
-use mathlib.Core.List.{List, [], _∷_}
+use mathlib.Core.Bool.{true}
+use mathlib.Core.List.{List, []}
 use borrow.Author.Tests.{eqb-true, eq-eqb}
 use lib.Dec.{lit<}
-use lib.ListN.{length, getD, length-map}
+use lib.ListN.{length, length-map}
 use Prim.Native.Nat.{ℕ, _+_, _≤_, _<_, _∣_, zero-le, suc-le-suc}
 use Rattle.laws.specs.Res.{ok}
 use Rattle.laws.proofs.Lists.{true-false}
 use Rattle.laws.proofs.Members.{All, all-weaker, all-both, all-keep, all-of-places, all-getD, keep-passes, all-map}
-use Rattle.rules.specs.Records.{names, ranges, fields, kinds, Rec, recordOf, planFollows}
+use Rattle.rules.specs.Records.{ranges, fields, kinds, Rec, recordOf, planFollows}
 use Rattle.rules.specs.Obeys.{AreRecords, theEnd, oneMore}
 use Rattle.rules.specs.Plan.{
   Bus,

@@ -8,9 +8,9 @@ use native.Mathlib.Nat.{not-suc-le-zero}
 use native.Mathlib.Omega.{arith}
 use lib.Dec.{eqb, leb, ltb}
 use lib.ListN.{length}
-use borrow.Author.Tests.{leb-true, leb-false, ltb-true, ltb-false, eqb-true, eqb-false, not-true, eq-eqb, ne-eqb, le-leb, lt-leb}
-use Prim.Native.Nat.{ℕ, zero, suc, _+_, _-_, _≤_, _<_, max, zero-le, suc-le-suc}
-use Rattle.laws.specs.Res.{Res, ok, refuse}
+use borrow.Author.Tests.{leb-true, leb-false, ltb-true, ltb-false, eqb-true, eq-eqb, ne-eqb, le-leb}
+use Prim.Native.Nat.{ℕ, zero, suc, _-_, _≤_, _<_, max, zero-le, suc-le-suc}
+use Rattle.laws.specs.Res.{Res, refuse}
 use Rattle.laws.specs.Lists.{keep}
 use Rattle.laws.proofs.Lists.{tested, both-left, both-right, neither-left, neither-right, keep-yes, keep-no}
 use Rattle.laws.proofs.Res.{refuse≢ok, refuse-number}
@@ -66,7 +66,6 @@ use Rattle.rules.specs.RuleSteps.{
   Without,
   here,
   behind,
-  unplaced,
   Places,
   Sticks,
   Steps,
@@ -82,13 +81,12 @@ Other x y = x .number ≡ y .number → ⊥
 
 -- ---- the greatest deadline left
 
-greatest-above : (xs : List Numbered) (y : Numbered) → List·Memᴰ y xs → y .frame .deadline ≤ greatestDeadline xs
+pub greatest-above : {y : Numbered} {l : List Numbered} → List·Memᴰ y l → y .frame .deadline ≤ greatestDeadline l
 unfolding greatestDeadline withDeadline
-greatest-above [] y m = absurd (List·Memᴰ·not-nil m)
-greatest-above (x ∷ xs) y (List·Memᴰ·head e) =
+greatest-above {y} (List·Memᴰ·head {x = x} e) =
     let d : y .frame .deadline ≡ x .frame .deadline = ap (λ (z : Numbered). z .frame .deadline) e in
     omega arith
-greatest-above (x ∷ xs) y (List·Memᴰ·tail m) = omega (arith, greatest-above xs y m)
+greatest-above (List·Memᴰ·tail m) = omega (arith, greatest-above m)
 
 greatest-step : (x : Numbered) (xs : List Numbered) → greatestDeadline (x ∷ xs) ≡ max (x .frame .deadline) (greatestDeadline xs)
 unfolding greatestDeadline withDeadline
@@ -107,7 +105,7 @@ greater x y ys g true e =
       one = x;
       among = List·Memᴰ·head refl;
       has = omega (arith, greatest-step x (y ∷ ys));
-      greatest = greatest-above (x ∷ y ∷ ys);
+      greatest = λ z m. greatest-above m;
     }
 greater x y ys g false e =
     let below : x .frame .deadline < greatestDeadline (y ∷ ys) = leb-false (greatestDeadline (y ∷ ys)) (x .frame .deadline) e in
@@ -115,12 +113,12 @@ greater x y ys g false e =
       one = g .one;
       among = List·Memᴰ·tail (g .among);
       has = omega (arith, g .has, greatest-step x (y ∷ ys));
-      greatest = greatest-above (x ∷ y ∷ ys);
+      greatest = λ z m. greatest-above m;
     }
 
 greatest-of : (x : Numbered) (xs : List Numbered) → IsGreatestDeadline (x ∷ xs) (greatestDeadline (x ∷ xs))
 greatest-of x [] =
-    record { one = x; among = List·Memᴰ·head refl; has = omega (arith, greatest-step x [], greatest-none); greatest = greatest-above (x ∷ []) }
+    record { one = x; among = List·Memᴰ·head refl; has = omega (arith, greatest-step x [], greatest-none); greatest = λ z m. greatest-above m }
 greatest-of x (y ∷ ys) = greater x y ys (greatest-of y ys) (leb (greatestDeadline (y ∷ ys)) (x .frame .deadline)) refl
 
 greatest-unique : {left : List Numbered} {d c : ℕ} → IsGreatestDeadline left d → IsGreatestDeadline left c → d ≡ c

@@ -1,6 +1,6 @@
 -- docs/RULES.md, section 10: the jobs marked *, and our own entries for what those let through. Each says what is given and what is left
 -- of what was lent; `holds` computes it from the definitions.
-use mathlib.Core.Bool.{Bool, true, false, _&&_}
+use mathlib.Core.Bool.{Bool, true, false, not, _&&_}
 use mathlib.Core.List.{List, [], _∷_, _++_, map}
 use lib.Dec.{eqb}
 use lib.ListN.{length, getD, set, take, replicate}
@@ -8,16 +8,17 @@ use Prim.Native.Nat.{ℕ, _-_}
 use Rattle.laws.specs.Res.{Res, ok, refuse}
 use Rattle.laws.specs.Lists.{joined}
 use Rattle.rules.specs.Records.{Rec}
-use Rattle.rules.specs.Plan.{Plan, readPlan}
+use Rattle.rules.specs.Plan.{Plan, numbersAreWithin, readPlan}
 use Rattle.rules.specs.Frames.{busRuns, busPeriod, messages}
 use Rattle.rules.specs.Table.{recordBytes, FrameRow, zeroRow, Made, make}
 use Rattle.rules.specs.Checker.{Checked, check}
 
--- An entry: how many messages a plan has; what 1 to 5 say of a plan; what is made of it in a room, the table and the frame rows, or
+-- An entry: how many messages a plan has; what 1 to 5 say of a plan; a record that 4 refuses; what is made of a plan in a room, the table and the frame rows, or
 -- the refusal; a table that passes, with the frame rows, or the refusal; how many rows are lent, the refusal, and the rows left.
 pub data Entry : Type 0 where
   hasMessages : (plan : List ℕ) (number : ℕ) → Entry
   reads : (plan : List ℕ) (says : Res (Unit {0})) → Entry
+  outside : (r : Rec) → Entry
   made : (plan : List ℕ) (room : ℕ) (table : List ℕ) (rows : List FrameRow) → Entry
   notMade : (plan : List ℕ) (room number place : ℕ) → Entry
   passes : (plan table : List ℕ) (rows : List FrameRow) → Entry
@@ -76,6 +77,7 @@ countsMessages (refuse m q) n = false
 abbrev pub holds : Entry → Bool
 holds (hasMessages plan number) = countsMessages (readPlan plan) number
 holds (reads plan says) = sameAnswer anyValue (readPlan plan) says
+holds (outside r) = not (numbersAreWithin r)
 holds (made plan room table rows) =
     comesTo (make plan (lentRows 256) (lentBytes room)) (ok (length table)) (rows ++ zeroRows (256 - length rows))
     (table ++ lentBytes (room - length table))
@@ -103,7 +105,7 @@ changed rs r k value =
     let old = getD rs r (rec 0 []) in
     set rs r (rec (old .kind) (set (old .numbers) k value))
 
--- Job A.
+-- Job A (rule 10.A).
 unfoldable pub recordsA : List Rec
 recordsA =
     rec 1 (1000 ∷ 8 ∷ 0 ∷ 254 ∷ 10 ∷ 1 ∷ [])
@@ -284,25 +286,25 @@ documentJobs =
     ∷ passes (file recordsJ) tableJ framesJ
     ∷ []
 
--- Both sides of each limit: what 1 to 5 say of job A's plan with one number changed (record, place in it, value), and of a plan with
--- the fewest things but for one kind.
+-- Both sides of each limit of section 3: what 1 to 5 say of a plan with the fewest things but for one kind (rule 3.1), and of job A's
+-- plan with one number changed: record, place in it, value (rules 3.2 and 3.3).
 abbrev pub fine : Res (Unit {0})
 fine = ok tt
+
+abbrev pub withCount : ℕ → ℕ → Res (Unit {0}) → Entry
+withCount kind n says = reads (file (recordsCounted (set (1 ∷ 1 ∷ 1 ∷ 1 ∷ 1 ∷ 0 ∷ []) (kind - 2) n))) says
 
 abbrev pub withValue : ℕ → ℕ → ℕ → Res (Unit {0}) → Entry
 withValue r k value says = reads (planAWith r k value) says
 
-abbrev pub withCount : ℕ → ℕ → Res (Unit {0}) → Entry
-withCount kind n says = reads (file (recordsCounted (set (1 ∷ 1 ∷ 1 ∷ 1 ∷ 1 ∷ 0 ∷ []) kind n))) says
-
 unfoldable pub limits : List Entry
 limits =
-    withCount 0 0 (refuse 2 2) ∷ withCount 0 1 fine ∷ withCount 0 8 fine ∷ withCount 0 9 (refuse 2 2)  -- nodes
-    ∷ withCount 1 0 (refuse 2 3) ∷ withCount 1 16 (refuse 5 3) ∷ withCount 1 17 (refuse 2 3)  -- modules; all but the first have no mode
-    ∷ withCount 2 0 (refuse 2 4) ∷ withCount 2 32 fine ∷ withCount 2 33 (refuse 2 4)  -- modes
-    ∷ withCount 3 0 (refuse 2 5) ∷ withCount 3 32 fine ∷ withCount 3 33 (refuse 2 5)  -- tasks
-    ∷ withCount 4 0 (refuse 2 6) ∷ withCount 4 64 (refuse 5 6) ∷ withCount 4 65 (refuse 2 6)  -- invocations; the second repeats the first
-    ∷ withCount 5 64 fine ∷ withCount 5 65 (refuse 2 7)  -- connections
+    withCount 2 0 (refuse 2 2) ∷ withCount 2 1 fine ∷ withCount 2 8 fine ∷ withCount 2 9 (refuse 2 2)  -- nodes
+    ∷ withCount 3 0 (refuse 2 3) ∷ withCount 3 16 (refuse 5 3) ∷ withCount 3 17 (refuse 2 3)  -- modules; all but the first have no mode
+    ∷ withCount 4 0 (refuse 2 4) ∷ withCount 4 32 fine ∷ withCount 4 33 (refuse 2 4)  -- modes
+    ∷ withCount 5 0 (refuse 2 5) ∷ withCount 5 32 fine ∷ withCount 5 33 (refuse 2 5)  -- tasks
+    ∷ withCount 6 0 (refuse 2 6) ∷ withCount 6 64 (refuse 5 6) ∷ withCount 6 65 (refuse 2 6)  -- invocations; the second repeats the first
+    ∷ withCount 7 64 fine ∷ withCount 7 65 (refuse 2 7)  -- connections
     ∷ withValue 0 0 0 (refuse 4 0) ∷ withValue 0 0 1 fine ∷ withValue 0 0 100000 fine ∷ withValue 0 0 100001 (refuse 4 0)  -- kbit/s
     ∷ withValue 0 1 0 fine ∷ withValue 0 1 64 fine ∷ withValue 0 1 65 (refuse 4 0)  -- overhead
     ∷ withValue 0 2 254 fine ∷ withValue 0 2 255 (refuse 4 0)  -- least payload; job A has 0
@@ -313,7 +315,7 @@ limits =
     ∷ withValue 4 2 0 (refuse 4 4) ∷ withValue 4 2 1 (refuse 5 9) ∷ withValue 4 2 1000000 (refuse 5 4) ∷ withValue 4 2 1000001 (refuse 4 4)  -- switch period
     ∷ withValue 7 1 0 (refuse 4 7) ∷ withValue 7 1 1 fine ∷ withValue 7 1 8 fine ∷ withValue 7 1 9 (refuse 4 7)  -- size
     ∷ withValue 7 2 0 (refuse 4 7) ∷ withValue 7 2 1 fine ∷ withValue 7 2 1000000 (refuse 5 9) ∷ withValue 7 2 1000001 (refuse 4 7)  -- worst time
-    ∷ withValue 9 2 0 (refuse 4 9) ∷ withValue 9 2 1 fine ∷ withValue 9 2 65535 (refuse 5 9)  -- rate; two bytes hold no more
+    ∷ withValue 9 2 0 (refuse 4 9) ∷ withValue 9 2 1 fine ∷ withValue 9 2 65535 (refuse 5 9) ∷ outside (rec 6 (0 ∷ 0 ∷ 65536 ∷ []))  -- rate; two bytes hold no more
     ∷ []
 
 -- The tables that the rule gives for our own plans.

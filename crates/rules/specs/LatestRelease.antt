@@ -41,7 +41,7 @@ greatestDeadline xs = foldr withDeadline 0 xs
 unfoldable pub isCandidate : ℕ → Numbered → Bool
 isCandidate e x = leb e (x .frame .deadline)
 
--- Rule 5.4: x goes before y: released later, or at the same time with a higher number.
+-- Rule 5.4: x is later than y: released later, or at the same time with a higher number.
 unfoldable pub isLater : Numbered → Numbered → Bool
 isLater x y =
     ltb (y .frame .release) (x .frame .release)

@@ -1,10 +1,10 @@
--- What it means that a plan keeps refusals 2 to 11 (docs/RULES.md, 6.2 to 6.11): a proposition for each sentence, and the rules in order
+-- What it means that a plan keeps refusals 2 to 11 (docs/RULES.md, rules 6.2 to 6.11): a proposition for each sentence, and the rules in order
 -- with their numbers and their first records.
 use mathlib.Core.Path.{_≡_}
 use mathlib.Core.List.{List, [], _∷_}
 use lib.ListN.{length, getD}
 use Prim.Native.Nat.{ℕ, _+_, _≤_, _<_, _∣_}
-use Rattle.laws.specs.Faults.{Rule, AllKept, FirstFault}
+use Rattle.laws.specs.Faults.{Rule, once, AllKept, FirstFault}
 use Rattle.rules.specs.Limits.{mostFrames}
 use Rattle.rules.specs.Records.{Field, names, ranges, free, Rec, fields, planFollows}
 use Rattle.rules.specs.Plan.{
@@ -22,12 +22,12 @@ use Rattle.rules.specs.Plan.{
   firstMode,
   firstInvocation,
 }
-use Rattle.rules.specs.Frames.{Layout, taskNode, busPeriod, switchGrid, frames, controlPayload, controlEnd}
+use Rattle.rules.specs.Frames.{taskNode, busPeriod, switchGrid, frames, controlPayload, controlEnd}
 use Rattle.rules.specs.Obeys.{AreRecords, BreakRecords}
 
 -- ---- reading a plan (2 to 5)
 
--- 6.2, 3.1: the number of things of a kind, counted from kind 2 (nodes) on, is in its range.
+-- Rules 6.2, 3.1: the number of things of a kind, counted from kind 2 (nodes) on, is in its range.
 pub record CountFits (rs : List Rec) (k : ℕ) : Type 0 where
   pub enough : nth leastCounts k ≤ count rs (2 + k)
   pub few : count rs (2 + k) ≤ nth mostCounts k
@@ -36,12 +36,12 @@ pub record CountFits (rs : List Rec) (k : ℕ) : Type 0 where
 unfoldable pub fieldAt : ℕ → ℕ → Field
 fieldAt kind k = getD (fields kind) k (free 0)
 
--- 6.3: each number of a body that names a thing names one that is there.
+-- Rule 6.3: each number of a body that names a thing names one that is there.
 abbrev pub NamesThere : List Rec → Rec → Type 0
 NamesThere rs r =
     (k kind : ℕ) → k < length (fields (r .kind)) → fieldAt (r .kind) k ≡ names kind → nth (r .numbers) k < count rs kind
 
--- 6.4, 3.2, 3.3: each other number of a body is in its range, and the bus's largest payload is not below its least.
+-- Rules 6.4, 3.2, 3.3: each other number of a body is in its range, and the bus's largest payload is not below its least.
 pub record NumbersWithin (r : Rec) : Type 0 where
   pub least :
       (k wide low high : ℕ) → k < length (fields (r .kind)) → fieldAt (r .kind) k ≡ ranges wide low high → low ≤ nth (r .numbers) k
@@ -49,17 +49,17 @@ pub record NumbersWithin (r : Rec) : Type 0 where
       (k wide low high : ℕ) → k < length (fields (r .kind)) → fieldAt (r .kind) k ≡ ranges wide low high → nth (r .numbers) k ≤ high
   pub payloads : r .kind ≡ 1 → nth (r .numbers) 2 ≤ nth (r .numbers) 3
 
--- 6.5.1: the module has a mode.
+-- Rule 6.5.1: the module has a mode.
 pub record HasMode (p : Plan) (m : ℕ) : Type 0 where
   pub mode : ℕ
   pub there : mode < length (p .modes)
   pub own : theMode p mode .home ≡ m
 
--- 6.5.2: the mode's switch period divides its period.
+-- Rule 6.5.2: the mode's switch period divides its period.
 abbrev pub SwitchDivides : Plan → ℕ → Type 0
 SwitchDivides p μ = theMode p μ .switch ∣ theMode p μ .period
 
--- 6.5.3 to 6.5.7, of an invocation: its rate divides the mode's period; the invocation's period divides the switch
+-- Rules 6.5.3 to 6.5.7, of an invocation: its rate divides the mode's period; the invocation's period divides the switch
 -- period; the worst time is not above it; task and mode are of one module; no invocation before it has the same task and mode.
 pub record InvocationFits (p : Plan) (k : ℕ) : Type 0 where
   pub rate : theInvocation p k .rate ∣ theMode p (theInvocation p k .mode) .period
@@ -113,7 +113,7 @@ noConnection = record { producer = 0; consumer = 0 }
 unfoldable pub theConnection : Plan → ℕ → Connection
 theConnection p c = getD (p .connections) c noConnection
 
--- 4.2: a bus task has an invocation, and a connection from it goes to a task on another node.
+-- Rule 4.2: a bus task has an invocation, and a connection from it goes to a task on another node.
 pub record IsBusTask (p : Plan) (t : ℕ) : Type 0 where
   pub invocation : ℕ
   pub isInvocation : invocation < length (p .invocations)
@@ -123,27 +123,25 @@ pub record IsBusTask (p : Plan) (t : ℕ) : Type 0 where
   pub comes : theConnection p connection .producer ≡ t
   pub leaves : taskNode p (theConnection p connection .consumer) ≡ taskNode p t → ⊥
 
--- 6.6: there is a bus task.
+-- Rule 6.6: there is a bus task.
 pub record SomeBusTask (p : Plan) : Type 0 where
   pub task : ℕ
   pub there : task < length (p .tasks)
   pub onBus : IsBusTask p task
 
--- 6.10: no message of a bus task and no control payload is above the largest payload.
+-- Rule 6.10: no message of a bus task and no control payload is above the largest payload.
 pub record PayloadsFit (p : Plan) : Type 0 where
   pub messages : (t : ℕ) → t < length (p .tasks) → IsBusTask p t → theTask p t .size ≤ p .bus .most
   pub control : (n : ℕ) → n < p .nodes → 0 < controlPayload p n → controlPayload p n ≤ p .bus .most
 
-abbrev pub onceAt0 : ℕ → Type 0 → Rule
-onceAt0 number asked = record { number = number; first = 0; places = 1; asks = λ k. asked }
-
--- The rules in order, each at 0: 7 P divides G; 8 P is a multiple of the resolution; 9 not too many frames; 11 C is not above P.
+-- The rules in order, each at 0; 6.7: P divides G; 6.8: P is a multiple of the resolution; 6.9: no more than 256 frames; 6.11: C is not
+-- above P.
 abbrev pub layoutRules : Plan → List Rule
 layoutRules p =
-    onceAt0 6 (SomeBusTask p)
-    ∷ onceAt0 7 (busPeriod p ∣ switchGrid p)
-    ∷ onceAt0 8 (p .bus .resolution ∣ busPeriod p)
-    ∷ onceAt0 9 (length (frames p) ≤ mostFrames)
-    ∷ onceAt0 10 (PayloadsFit p)
-    ∷ onceAt0 11 (controlEnd p ≤ busPeriod p)
+    once 6 0 (SomeBusTask p)
+    ∷ once 7 0 (busPeriod p ∣ switchGrid p)
+    ∷ once 8 0 (p .bus .resolution ∣ busPeriod p)
+    ∷ once 9 0 (length (frames p) ≤ mostFrames)
+    ∷ once 10 0 (PayloadsFit p)
+    ∷ once 11 0 (controlEnd p ≤ busPeriod p)
     ∷ []

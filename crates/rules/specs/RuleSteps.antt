@@ -1,4 +1,4 @@
--- The latest-release rule (docs/RULES.md, 5) in sentences: what each of its steps must be, as propositions over the frames left and the
+-- The latest-release rule (docs/RULES.md, section 5) in sentences: what each of its steps must be, as propositions over the frames left and the
 -- end e; a run of such steps, to the frames with their starts or to the frame at which it sticks.
 use mathlib.Core.Path.{_≡_}
 use mathlib.Core.List.{List, [], _∷_, List·Memᴰ}
@@ -14,30 +14,30 @@ pub record IsGreatestDeadline (left : List Numbered) (d : ℕ) : Type 0 where
   pub has : one .frame .deadline ≡ d
   pub greatest : (x : Numbered) → List·Memᴰ x left → x .frame .deadline ≤ d
 
--- 5.2: e is lowered to the smaller of e and the greatest deadline left.
+-- Rule 5.2: e is lowered to the smaller of e and the greatest deadline left.
 pub record IsLowered (e : ℕ) (left : List Numbered) (end : ℕ) : Type 0 where
   pub deadline : ℕ
   pub isGreatest : IsGreatestDeadline left deadline
   pub smaller : end ≡ min e deadline
 
--- 5.3: a candidate is left and has a deadline at least the end.
+-- Rule 5.3: a candidate is left and has a deadline at least the end.
 pub record IsCandidate (end : ℕ) (left : List Numbered) (x : Numbered) : Type 0 where
   pub among : List·Memᴰ x left
   pub inTime : end ≤ x .frame .deadline
 
--- 5.4: the frame taken is a candidate; no candidate has a later release, and among those of equal release none has a larger number.
+-- Rule 5.4: the frame taken is a candidate; no candidate has a later release, and among those of equal release none has a larger number.
 pub record IsTaken (end : ℕ) (left : List Numbered) (x : Numbered) : Type 0 where
   pub candidate : IsCandidate end left x
   pub latest : (y : Numbered) → IsCandidate end left y → y .frame .release ≤ x .frame .release
   pub larger : (y : Numbered) → IsCandidate end left y → y .frame .release ≡ x .frame .release → y .number ≤ x .number
 
--- 5.5: the start of a frame that takes `time` ticks: a multiple of the resolution from which it stops by the end, and the greatest one.
+-- Rule 5.5: the start of a frame that takes `time` ticks: a multiple of the resolution from which it stops by the end, and the greatest one.
 pub record IsStart (resolution time end start : ℕ) : Type 0 where
   pub multiple : resolution ∣ start
   pub stops : start + time ≤ end
   pub greatest : (m : ℕ) → resolution ∣ m → m + time ≤ end → m ≤ start
 
--- 5.6: why a frame gets no place: no multiple of the resolution is early enough; or the start lies before the release, or before C.
+-- Rule 5.6: why a frame gets no place: no multiple of the resolution is early enough; or the start lies before the release, or before C.
 pub data NoPlace (resolution floor time release end : ℕ) : Type 0 where
   noStart : ((m : ℕ) → resolution ∣ m → m + time ≤ end → ⊥) → NoPlace resolution floor time release end
   beforeRelease : {start : ℕ} → IsStart resolution time end start → start < release → NoPlace resolution floor time release end
@@ -53,7 +53,7 @@ abbrev pub unplaced : Placed → Numbered
 unplaced x = record { number = x .number; frame = x .frame }
 
 module _ (resolution gap floor : ℕ) (sending : Frame → ℕ) where
-  -- 5.7: a step that places x: its start is not before its release nor before C (`floor`), and the next end is the start minus the gap. (C is
+  -- Rule 5.7: a step that places x: its start is not before its release nor before C (`floor`), and the next end is the start minus the gap. (C is
   -- at least a gap.)
   pub record Places (e : ℕ) (left : List Numbered) (x : Placed) (next : ℕ) (rest : List Numbered) : Type 0 where
     pub end : ℕ
@@ -65,7 +65,7 @@ module _ (resolution gap floor : ℕ) (sending : Frame → ℕ) where
     pub ends : next ≡ x .start - gap
     pub leaves : Without (unplaced x) left rest
 
-  -- 5.6: a step that takes the frame of this number and finds no place for it.
+  -- Rule 5.6: a step that takes the frame of this number and finds no place for it.
   pub record Sticks (e : ℕ) (left : List Numbered) (number : ℕ) : Type 0 where
     pub end : ℕ
     pub lowered : IsLowered e left end
@@ -83,7 +83,7 @@ module _ (resolution gap floor : ℕ) (sending : Frame → ℕ) where
     sticks : {e number : ℕ} {left : List Numbered} {done : List Placed} {outcome : Res (List Placed)}
         → Sticks e left number → refuse 12 number ≡ outcome → Steps e left done outcome
 
--- 5.1: the rule on what a plan asks, from P on, with every frame left.
+-- Rule 5.1: the rule on what a plan asks, from P on, with every frame left.
 abbrev pub RuleGives : Layout → Res (List Placed) → Type 0
 RuleGives l outcome =
     Steps (l .plan .bus .resolution) (gapTime (l .plan .bus)) (l .afterControl) (frameTime l) (l .period) (numberedFrom 0 (l .frames)) [] outcome
