@@ -1,4 +1,4 @@
-// Little-endian numbers, read from a lent file and stored into a lent buffer. Every place is allowed: a byte behind the end reads
+// Little-endian numbers (rule 2.3), read from a lent file and stored into a lent buffer. Every place is allowed: a byte behind the end reads
 // as 0, and is not stored.
 ghost use mathlib.Core.Path.{_≡_};
 ghost use Prim.Native.Nat.{_+_, _*_, _≤_};

@@ -14,7 +14,7 @@ use Rattle.laws.proofs.Lists.{keep-snoc-yes, keep-snoc-no, map-snoc, length-sno
 use Rattle.laws.proofs.Res.{refuse≢ok, ok-injective}
 use Rattle.rules.specs.Records.{Rec, fields, bodyLength, decoded, recordOf, planFollows, before, records, known}
 use Rattle.rules.specs.Plan as rules
-use Rattle.records.specs.Reader.{nextAt, either}
+use Rattle.records.specs.Reader.{nextAt, either, wrongAt}
 use Rattle.records.specs.declared.Sort.the-variants.{Plan}
 use Rattle.records.specs.declared.Step.{Step}
 use Rattle.records.specs.declared.Step.the-variants.{Record, End, Wrong}
@@ -41,7 +41,7 @@ pub data Things : List Rec → Type 0 where
   none : Things []
   more : {k : ℕ} (b : List ℕ) {rs : List Rec} → Thing k → Things rs → Things (rec k b ∷ rs)
 
--- "A plan is kind 1, kind 2, then kinds 3 to 7"
+-- the records of a plan (rule 2.5): the bus, the number of nodes, then things
 pub data Planned : List Rec → Type 0 where
   planned : (b n : List ℕ) {rs : List Rec} → Things rs → Planned (rec 1 b ∷ rec 2 n ∷ rs)
 
@@ -249,10 +249,10 @@ module _ (s : List ℕ) where
       → (known (getD s at 0) && planFollows previous (getD s at 0)) ≡ allowed → eqb (getD s at 0) 0 ≡ isEnd
       → either inside
       (either allowed
-      (either isEnd (either last End (Wrong (at + 1)))
-      (either whole (Record (getD s at 0) (at + 1) (at + 1 + bodyLength (getD s at 0))) (Wrong (length s))))
-      (Wrong at))
-      (Wrong (length s))
+      (either isEnd (either last End (wrongAt (at + 1)))
+      (either whole (Record (getD s at 0) (at + 1) (at + 1 + bodyLength (getD s at 0))) (wrongAt (length s))))
+      (wrongAt at))
+      (wrongAt (length s))
       ≡ End
       → planFollows previous 0 ≡ true
   ends-if previous at true true true last whole a z e =

@@ -16,6 +16,7 @@ use Rattle.records.specs.declared.Sort.the-variants.{Plan}
 use Rattle.records.specs.declared.Step.{Step}
 use Rattle.records.specs.declared.Step.the-variants.{Record, End, Wrong}
 use Rattle.records.proofs.Steps.{from, onward, one-step, found}
+use Rattle.units.specs.declared.Offset.{Offset}
 use Rattle.plan.specs.declared.Plan as memory
 use Rattle.plangather.specs.declared.Outcome.the-variants.{Whole, Broken}
 use Rattle.plan.specs.Memory.{emptyPlan, layOut, noPlan, countSeen}
@@ -138,6 +139,6 @@ module _ {s : List ℕ} {p : memory.Plan} {previous at : ℕ} (h : SoFar s p pre
       → record { outcome = Whole; plan = p } ≡ gatheredOf (records planFollows 1 s)
   so-far-end e = finished s p (records planFollows 1 s) refl (onwards e)
 
-  pub so-far-wrong : {place : ℕ} → step ≡ Wrong place
-      → record { outcome = Broken (record { 0 = place }); plan = emptyPlan } ≡ gatheredOf (records planFollows 1 s)
-  so-far-wrong {place} e = broken s place (records planFollows 1 s) (onwards e)
+  pub so-far-wrong : {place : Offset} → step ≡ Wrong place
+      → record { outcome = Broken place; plan = emptyPlan } ≡ gatheredOf (records planFollows 1 s)
+  so-far-wrong {place} e = broken s (place .0) (records planFollows 1 s) (onwards e)

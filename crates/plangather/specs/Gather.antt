@@ -5,6 +5,7 @@ use lib.Dec.{eqb, leb, ltb}
 use lib.ListN.{getD, set}
 use Prim.Native.Nat.{ℕ, _+_}
 use Rattle.laws.specs.Res.{Res, ok, refuse}
+use Rattle.rules.specs.Limits.{mostModules, mostModes, mostTasks, mostInvocations, mostConnections}
 use Rattle.rules.specs.Records.{Rec}
 use Rattle.rules.specs.Plan as rules
 use Rattle.plan.specs.declared.Bus.{Bus}
@@ -31,7 +32,7 @@ countedMore counts kind = cond (isThing kind) (set counts kind (getD counts kind
 
 -- by kind, how many have a place; and the kind again where the n-th of it has one, else 0
 unfoldable pub places : List ℕ
-places = 0 ∷ 1 ∷ 1 ∷ 16 ∷ 32 ∷ 32 ∷ 64 ∷ 64 ∷ []
+places = 0 ∷ 1 ∷ 1 ∷ mostModules ∷ mostModes ∷ mostTasks ∷ mostInvocations ∷ mostConnections ∷ []
 
 unfoldable pub keptKind : ℕ → ℕ → ℕ
 keptKind kind n = cond (ltb n (getD places kind 0)) kind 0

@@ -103,7 +103,7 @@ pub fn gather(s: &[u8]) -> Gathered
             }
             Step::Wrong(place) => {
                 return Gathered {
-                    outcome: Outcome::Broken(Offset(place)),
+                    outcome: Outcome::Broken(place),
                     plan: Plan::empty(),
                 };
             }

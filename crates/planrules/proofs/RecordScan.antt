@@ -17,6 +17,7 @@ use Rattle.records.specs.declared.Sort.the-variants.{Plan}
 use Rattle.records.specs.declared.Step.{Step}
 use Rattle.records.specs.declared.Step.the-variants.{Record, End, Wrong}
 use Rattle.records.proofs.Steps.{from, onward, one-step, found}
+use Rattle.units.specs.declared.Offset.{Offset}
 use Rattle.plangather.proofs.SoFar.{record-cut}
 use Rattle.places.specs.declared.Found.{Found}
 use Rattle.places.specs.declared.Found.the-variants.{At, Nothing}
@@ -114,7 +115,7 @@ module _ {s : List ℕ} {test : Rec → Bool} {previous at n : ℕ} {f : Found} 
   pub scanned-end : step ≡ End → f ≡ foundOf (firstBadOf test (records planFollows 1 s))
   scanned-end e = sym (onwards e ∙ later-none f)
 
-  pub scanned-wrong : {C : Type 0} {place : ℕ} → step ≡ Wrong place → C
+  pub scanned-wrong : {C : Type 0} {place : Offset} → step ≡ Wrong place → C
   scanned-wrong e = true-false (sym (sound-on e))
 
   -- the next record is counted at a place inside of the file, and what stands behind it is less

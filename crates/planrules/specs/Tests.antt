@@ -11,7 +11,7 @@ use Rattle.planrules.specs.declared.numbers.Firsts.{Firsts}
 use Rattle.planfits.specs.Scans.{firstBadOf}
 use Rattle.places.specs.Found.{foundOf}
 
--- Refusal 2: "a count of things, the number of nodes included, is outside its range" (k counts kinds from 2 on).
+-- Refusal 2: the count of kind 2 + k, the nodes included, is within its range.
 unfoldable pub countsFit : List ℕ → ℕ → Bool
 countsFit counts k = leb (nth leastCounts k) (nth counts (2 + k)) && leb (nth counts (2 + k)) (nth mostCounts k)
 

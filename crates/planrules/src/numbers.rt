@@ -8,10 +8,14 @@ ghost use Rattle.planfits.specs.Scans.{earlierOf, isOk};
 ghost use Rattle.planrules.specs.Tests.{listed, firstsOf};
 use figures::both;
 use places::Found;
+use plan::Bus;
+use plan::Invocation;
+use plan::Mode;
+use plan::Task;
 use plan::bodies;
 use records::Sort;
 use records::Step;
-use units::Ticks;
+use units::RecordNo;
 
 // The first record that breaks refusal 3's rule, that what a number names is there, and the first that breaks refusal 4's, that
 // every other number is within its range.
@@ -52,14 +56,17 @@ fn bus_is_within(body: &[u8]) -> bool
     ensures { λ r. ⌜ r ≡ numbersAreWithin (records.recordOf 1 (now (body .entry))) ⌝ }
 {
     let b = bodies::bus(body);
-    let times = both(within(0, b.gap, 1000), within(1, b.resolution.0, 1000));
+    let times = both(
+        within(0, b.gap, Bus::WIDEST_GAP),
+        within(1, b.resolution.0, Bus::COARSEST),
+    );
     let payloads = both(
-        within(0, b.least.0, 254),
-        both(within(1, b.most.0, 254), times),
+        within(0, b.least.0, Bus::MOST_PAYLOAD),
+        both(within(1, b.most.0, Bus::MOST_PAYLOAD), times),
     );
     let numbers = both(
-        within(1, b.rate, 100_000),
-        both(within(0, b.overhead.0, 64), payloads),
+        within(1, b.rate, Bus::FASTEST),
+        both(within(0, b.overhead.0, Bus::MOST_OVERHEAD), payloads),
     );
     both(numbers, b.least.0 <= b.most.0)
 }
@@ -69,8 +76,8 @@ fn mode_is_within(body: &[u8]) -> bool
 {
     let m = bodies::mode(body);
     both(
-        within(1, m.period.0, Ticks::LONGEST),
-        within(1, m.switch.0, Ticks::LONGEST),
+        within(1, m.period.0, Mode::LONGEST),
+        within(1, m.switch.0, Mode::LONGEST),
     )
 }
 
@@ -78,13 +85,16 @@ fn task_is_within(body: &[u8]) -> bool
     ensures { λ r. ⌜ r ≡ numbersAreWithin (records.recordOf 5 (now (body .entry))) ⌝ }
 {
     let t = bodies::task(body);
-    both(within(1, t.size.0, 8), within(1, t.worst.0, Ticks::LONGEST))
+    both(
+        within(1, t.size.0, Task::LARGEST),
+        within(1, t.worst.0, Task::LONGEST),
+    )
 }
 
 fn rate_is_within(body: &[u8]) -> bool
     ensures { λ r. ⌜ r ≡ numbersAreWithin (records.recordOf 6 (now (body .entry))) ⌝ }
 {
-    within(1, bodies::invocation(body).rate, 65_535)
+    within(1, bodies::invocation(body).rate, Invocation::MOST_OFTEN)
 }
 
 fn numbers_are_within(kind: u8, body: &[u8]) -> bool
@@ -100,12 +110,12 @@ fn numbers_are_within(kind: u8, body: &[u8]) -> bool
 }
 
 // What was found before, else the n-th record if it is bad.
-fn earlier(found: Found, good: bool, n: usize) -> Found
-    ensures { λ r. ⌜ r ≡ earlierOf found good n ⌝ }
+fn earlier(found: Found, good: bool, n: RecordNo) -> Found
+    ensures { λ r. ⌜ r ≡ earlierOf found good (n .0) ⌝ }
 {
     match found {
         Found::At(k) => Found::At(k),
-        Found::Nothing => { if good { Found::Nothing } else { Found::At(n) } }
+        Found::Nothing => { if good { Found::Nothing } else { Found::At(n.0) } }
     }
 }
 
@@ -127,8 +137,14 @@ pub fn first_bad(s: &[u8], counts: [usize; 8]) -> Firsts
                 next,
             } => {
                 let body = records::body(s, start, next);
-                named = earlier(named, names_are_there(counts, kind, body), n);
-                ranged = earlier(ranged, numbers_are_within(kind, body), n);
+                let number = RecordNo(n);
+                named = earlier(
+                    named,
+                    names_are_there(counts, kind, body),
+                    number,
+                );
+                ranged =
+                    earlier(ranged, numbers_are_within(kind, body), number);
                 previous = kind;
                 at = next;
                 n += 1;

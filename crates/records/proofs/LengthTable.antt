@@ -1,4 +1,4 @@
--- A table of body lengths is that of document 01: one test over its nineteen entries, which antt computes. Every later kind is
+-- A table of body lengths is that of rule 2.4: one test over its nineteen entries, which antt computes. Every later kind is
 -- unknown.
 use mathlib.Core.Path.{_≡_, refl, ap}
 use mathlib.Core.Bool.{Bool, true, false, cond, not}

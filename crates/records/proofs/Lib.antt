@@ -1,4 +1,3 @@
 pub mod Held
 pub mod LengthTable
 pub mod Steps
-pub mod Taken

@@ -1,5 +1,5 @@
 -- The definition's walk over a file, from an offset on, is the reader's answer there followed by the walk from the next offset.
-use mathlib.Core.Path.{_≡_, refl, ap, _∙_}
+use mathlib.Core.Path.{_≡_, refl, sym, ap, _∙_}
 use mathlib.Core.Bool.{Bool, true, false, _&&_}
 use mathlib.Core.List.{List, [], _∷_}
 use Prim.Native.Nat.{ℕ, zero, suc, _+_, _-_, _≤_, _<_}
@@ -13,7 +13,7 @@ use borrow.Author.Tests.{ltb-true, ltb-false, leb-true, leb-false, eqb-true, eqb
 use Rattle.laws.proofs.Lists.{both-left, both-right}
 use Rattle.laws.specs.Res.{Res, ok, refuse}
 use Rattle.rules.specs.Records.{Rec, known, bodyLength, recordOf, ended, before, walk}
-use Rattle.records.specs.Reader.{follows, either, endAt, recordAt, kindAt, nextAt}
+use Rattle.records.specs.Reader.{follows, either, wrongAt, endAt, recordAt, kindAt, nextAt}
 use Rattle.records.specs.declared.Sort.{Sort}
 use Rattle.records.specs.declared.Step.{Step}
 use Rattle.records.specs.declared.Step.the-variants.{Record, End, Wrong}
@@ -58,11 +58,11 @@ module _ (sort : Sort) (refusal : ℕ) (s : List ℕ) where
   abbrev pub onward : Step → Res (List Rec)
   onward (Record kind body next) = before (follows sort) refusal (recordOf kind (drop body s)) (from kind next)
   onward End = ok []
-  onward (Wrong place) = refuse refusal place
+  onward (Wrong place) = refuse refusal (place .0)
 
   module _ (at : ℕ) (inside : at < length s) where
     ended-if : (b : Bool) → eqb (at + 1) (length s) ≡ b
-        → ended (follows sort) refusal (suc at) (drop (suc at) s) ≡ onward (either b End (Wrong (at + 1)))
+        → ended (follows sort) refusal (suc at) (drop (suc at) s) ≡ onward (either b End (wrongAt (at + 1)))
     ended-if true e =
         let h : length s ≤ suc at = omega (arith, eqb-true (at + 1) (length s) e) in
         rw (drop-of-length-le s h)
@@ -73,7 +73,7 @@ module _ (sort : Sort) (refusal : ℕ) (s : List ℕ) where
     record-if : (kind : ℕ) (b : Bool) → leb (bodyLength kind) (length s - (at + 1)) ≡ b
         → before (follows sort) refusal (recordOf kind (drop (suc at) s))
         (walk (follows sort) refusal kind (bodyLength kind) (suc at) (drop (suc at) s))
-        ≡ onward (either b (Record kind (at + 1) (at + 1 + bodyLength kind)) (Wrong (length s)))
+        ≡ onward (either b (Record kind (at + 1) (at + 1 + bodyLength kind)) (wrongAt (length s)))
     unfolding from
     record-if kind true e =
         let h : bodyLength kind ≤ length (drop (suc at) s)
@@ -97,12 +97,12 @@ module _ (sort : Sort) (refusal : ℕ) (s : List ℕ) where
 
       kind-if : (b : Bool) → (known kind && follows sort previous kind) ≡ b
           → walk (follows sort) refusal previous 0 at (kind ∷ drop (suc at) s)
-          ≡ onward (either b (either (eqb kind 0) (endAt s (at + 1)) (recordAt s kind (at + 1))) (Wrong at))
+          ≡ onward (either b (either (eqb kind 0) (endAt s (at + 1)) (recordAt s kind (at + 1))) (wrongAt at))
       kind-if true e = body-if (eqb kind 0) e refl
       kind-if false e = wrong (follows sort) refusal previous at kind (drop (suc at) s) e
 
   step-if : (previous at : ℕ) (b : Bool) → ltb at (length s) ≡ b → at ≤ length s
-      → from previous at ≡ onward (either b (kindAt sort s previous at (getD s at 0)) (Wrong (length s)))
+      → from previous at ≡ onward (either b (kindAt sort s previous at (getD s at 0)) (wrongAt (length s)))
   unfolding from walk
   step-if previous at true e h =
       let inside : at < length s = ltb-true at (length s) e in
@@ -136,10 +136,10 @@ module _ (sort : Sort) (s : List ℕ) (previous at kind body next : ℕ) where
       → eqb (getD s at 0) 0 ≡ isEnd → leb (bodyLength (getD s at 0)) (length s - (at + 1)) ≡ whole
       → either inside
       (either allowed
-      (either isEnd (either last End (Wrong (at + 1)))
-      (either whole (Record (getD s at 0) (at + 1) (at + 1 + bodyLength (getD s at 0))) (Wrong (length s))))
-      (Wrong at))
-      (Wrong (length s))
+      (either isEnd (either last End (wrongAt (at + 1)))
+      (either whole (Record (getD s at 0) (at + 1) (at + 1 + bodyLength (getD s at 0))) (wrongAt (length s))))
+      (wrongAt at))
+      (wrongAt (length s))
       ≡ Record kind body next
       → Found sort s previous at kind body next
   found-if true true false last true h a z w e =
@@ -168,3 +168,10 @@ module _ (sort : Sort) (s : List ℕ) (previous at kind body next : ℕ) where
       found-if (ltb at (length s)) (known (getD s at 0) && follows sort previous (getD s at 0)) (eqb (getD s at 0) 0)
       (eqb (at + 1) (length s)) (leb (bodyLength (getD s at 0)) (length s - (at + 1)))
       refl refl refl refl e
+
+-- the body of a record that the reader gives lies in the file
+pub body-within : (sort : Sort) (s : List ℕ) (previous at : ℕ) {kind body next : ℕ} {step : Step}
+    → step ≡ nextAt sort s previous at → step ≡ Record kind body next → (body ≤ next) × (next ≤ length s)
+body-within sort s previous at {kind} {body} {next} is r =
+    let f = found sort s previous at kind body next (sym is ∙ r) in
+    (omega (arith, f .body-place, f .next-place), f .fits)

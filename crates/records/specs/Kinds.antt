@@ -3,6 +3,6 @@ use mathlib.Core.Bool.{cond}
 use Prim.Native.Nat.{ℕ}
 use Rattle.rules.specs.Records.{known, bodyLength}
 
--- "The kind alone fixes the length of the body": that length, or 255 where the kind is unknown; no body is that long.
+-- The length of a kind's body (rule 2.2), or 255 where the kind is unknown; no body is that long.
 unfoldable pub lengthOf : ℕ → ℕ
 lengthOf kind = cond (known kind) (bodyLength kind) 255

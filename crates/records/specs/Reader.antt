@@ -1,9 +1,9 @@
 -- What a record reader finds at a place of a file.
 use mathlib.Core.Bool.{Bool, true, false, _&&_}
-use mathlib.Core.List.{List, []}
+use mathlib.Core.List.{List}
 use Prim.Native.Nat.{ℕ, _+_, _-_}
 use lib.Dec.{eqb, leb, ltb}
-use lib.ListN.{length, getD, take, drop}
+use lib.ListN.{length, getD}
 use Rattle.rules.specs.Records.{known, bodyLength, planFollows, tableFollows}
 use Rattle.records.specs.declared.Sort.{Sort}
 use Rattle.records.specs.declared.Sort.the-variants.{Plan, Table}
@@ -19,33 +19,27 @@ abbrev pub either : Bool → Step → Step → Step
 either true a b = a
 either false a b = b
 
--- "and the file ends": the end record, with nothing behind it; else what stands behind it is wrong.
-abbrev pub endAt : List ℕ → ℕ → Step
-endAt s behind = either (eqb behind (length s)) End (Wrong behind)
+abbrev pub wrongAt : ℕ → Step
+wrongAt place = Wrong (record { 0 = place })
 
--- A record whose body is whole; "file length if it ends too early, also inside a body".
+-- The end record, with nothing behind it (rule 2.7); else what stands behind it is wrong.
+abbrev pub endAt : List ℕ → ℕ → Step
+endAt s behind = either (eqb behind (length s)) End (wrongAt behind)
+
+-- A record whose body is whole; a body that is cut is wrong at the file's end.
 abbrev pub recordAt : List ℕ → ℕ → ℕ → Step
 recordAt s kind body =
-    either (leb (bodyLength kind) (length s - body)) (Record kind body (body + bodyLength kind)) (Wrong (length s))
+    either (leb (bodyLength kind) (length s - body)) (Record kind body (body + bodyLength kind)) (wrongAt (length s))
 
--- "Offset of the first wrong record ..; a wrong kind goes before a cut body": the record with this kind at `at`.
+-- The record with this kind at `at`. Its kind is judged first, then whether its body is whole.
 abbrev pub kindAt : Sort → List ℕ → ℕ → ℕ → ℕ → Step
 kindAt sort s previous at kind =
     either (known kind && follows sort previous kind)
     (either (eqb kind 0) (endAt s (at + 1)) (recordAt s kind (at + 1)))
-    (Wrong at)
+    (wrongAt at)
 
 -- One record of the file, at a place, behind a record of the kind `previous` (0: behind nothing): its kind, where its body begins
 -- and what stands behind it; or the end of the file; or the place of a wrong record.
 unfoldable pub nextAt : Sort → List ℕ → ℕ → ℕ → Step
 nextAt sort s previous at =
-    either (ltb at (length s)) (kindAt sort s previous at (getD s at 0)) (Wrong (length s))
-
--- "The body handed out is that part of the lent file itself": from where it begins to the next record; empty where no record stands.
-abbrev pub bodyOf : List ℕ → Step → List ℕ
-bodyOf s (Record kind body next) = take (next - body) (drop body s)
-bodyOf s End = []
-bodyOf s (Wrong place) = []
-
-unfoldable pub bodyAt : Sort → List ℕ → ℕ → ℕ → List ℕ
-bodyAt sort s previous at = bodyOf s (nextAt sort s previous at)
+    either (ltb at (length s)) (kindAt sort s previous at (getD s at 0)) (wrongAt (length s))

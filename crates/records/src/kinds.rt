@@ -1,4 +1,4 @@
-// The kinds of records: the lengths of their bodies and the order in which they stand.
+// The kinds of records: the lengths of their bodies (rules 2.2, 2.4) and the order in which they stand (2.5, 2.6).
 ghost use mathlib.Core.Path.{_≡_};
 ghost use mathlib.Core.Bool.{_&&_, _||_};
 ghost use lib.Dec.{eqb, leb};

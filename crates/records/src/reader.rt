@@ -1,59 +1,81 @@
-// A record reader: it holds the lent file and its place, and gives one record at a time. The borrow checker covers no function
-// over a struct that holds a slice, so each here is thin: it takes the struct apart and calls a covered function.
+// A record reader: it holds the lent file and its place. The borrow checker covers no function over a struct that holds a slice, so
+// `next` and `body` are thin: each takes the struct apart and calls a covered function.
 ghost use mathlib.Core.Path.{_≡_};
-ghost use Rattle.records.specs.Reader.{nextAt, bodyAt};
+ghost use mathlib.Core.Bool.{_&&_};
+ghost use Prim.Native.Nat.{_-_, _≤_};
+ghost use lib.ListN.{length, take, drop};
+ghost use Rattle.rules.specs.Records.{known};
+ghost use Rattle.records.specs.Reader.{follows, nextAt};
 use crate::Sort;
 use crate::Step;
+use crate::kinds;
+use units::Offset;
 
 pub struct Reader<'a> {
     pub src: &'a [u8],
-    pub sort: Sort,
-    // The kind of the record before its place; 0 where none stands there.
-    pub previous: u8,
     pub at: usize,
 }
 
-// At the beginning of a file.
-pub fn new<'a>(src: &'a [u8], sort: Sort) -> Reader<'a>
-    ensures { λ r. ⌜ (r .src ≡ src .entry) × (r .sort ≡ sort) × (r .previous ≡ 0) × (r .at ≡ 0) ⌝ }
+// What stands at its place, behind a record of the kind `previous`.
+pub fn next<'a>(r: Reader<'a>, sort: Sort, previous: u8) -> Step
+    ensures { λ t. ⌜ t ≡ nextAt sort (now (r .entry .src)) previous (r .entry .at) ⌝ }
 {
-    Reader {
-        src,
-        sort,
-        previous: 0,
-        at: 0,
+    step_at(r.src, sort, previous, r.at)
+}
+
+// The body that begins at its place and ends before `end`.
+pub fn body<'a>(r: Reader<'a>, end: usize) -> &'a [u8]
+    requires { ⌜ (r .at ≤ end) × (end ≤ length (now (r .src))) ⌝ }
+    ensures { λ b. ⌜ now b ≡ take (end - r .entry .at) (drop (r .entry .at) (now (r .entry .src))) ⌝ }
+{
+    part(r.src, r.at, end)
+}
+
+fn allowed(sort: Sort, previous: u8, kind: u8) -> bool
+    ensures { λ r. ⌜ r ≡ (known kind && follows sort previous kind) ⌝ }
+{
+    if kinds::known(kind) {
+        match sort {
+            Sort::Plan => kinds::plan_follows(previous, kind),
+            Sort::Table => kinds::table_follows(previous, kind),
+        }
+    } else {
+        false
     }
 }
 
-// The same file at another place, behind a record of the kind `previous`.
-pub fn moved<'a>(r: Reader<'a>, previous: u8, at: usize) -> Reader<'a>
-    ensures { λ q. ⌜ (q .src ≡ r .entry .src) × (q .sort ≡ r .entry .sort) × (q .previous ≡ previous) × (q .at ≡ at) ⌝ }
+fn step_at(s: &[u8], sort: Sort, previous: u8, at: usize) -> Step
+    ensures { λ r. ⌜ r ≡ nextAt sort (now (s .entry)) previous at ⌝ }
 {
-    Reader {
-        src: r.src,
-        sort: r.sort,
-        previous,
-        at,
+    let end = s.len();
+    if end <= at {
+        return Step::Wrong(Offset(end));
     }
+    let kind = s[at];
+    if allowed(sort, previous, kind) {
+        let body = at + 1;
+        if kind == 0 {
+            if body == end {
+                return Step::End;
+            }
+            return Step::Wrong(Offset(body));
+        }
+        let wide = kinds::body_length(kind) as usize;
+        if wide <= end - body {
+            return Step::Record {
+                kind,
+                body,
+                next: body + wide,
+            };
+        }
+        return Step::Wrong(Offset(end));
+    }
+    Step::Wrong(Offset(at))
 }
 
-// What stands at its place.
-pub fn next<'a>(r: Reader<'a>) -> Step
-    ensures { λ t. ⌜ t ≡ nextAt (r .entry .sort) (now (r .entry .src)) (r .entry .previous) (r .entry .at) ⌝ }
+fn part(s: &[u8], start: usize, end: usize) -> &[u8]
+    requires { ⌜ (start ≤ end) × (end ≤ length (now s)) ⌝ }
+    ensures { λ r. ⌜ now r ≡ take (end - start) (drop start (now (s .entry))) ⌝ }
 {
-    crate::next(r.src, r.sort, r.previous, r.at)
-}
-
-// The body of the record at its place: that part of the lent file itself.
-pub fn body<'a>(r: Reader<'a>) -> &'a [u8]
-    ensures { λ b. ⌜ now b ≡ bodyAt (r .entry .sort) (now (r .entry .src)) (r .entry .previous) (r .entry .at) ⌝ }
-{
-    crate::body_at(r.src, r.sort, r.previous, r.at)
-}
-
-// The body of the record at any place of a file. Its parameters are plain, so whoever calls it needs no walk.
-pub fn body_from(s: &[u8], sort: Sort, previous: u8, at: usize) -> &[u8]
-    ensures { λ b. ⌜ now b ≡ bodyAt sort (now (s .entry)) previous at ⌝ }
-{
-    body(moved(new(s, sort), previous, at))
+    &s[start..end]
 }

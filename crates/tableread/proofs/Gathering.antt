@@ -46,7 +46,7 @@ data Rows : List Rec → Type 0 where
   control : (b : List ℕ) {rs : List Rec} → Rows rs → Rows (rec 17 b ∷ rs)
   row : (b : List ℕ) {rs : List Rec} → Rows rs → Rows (rec 18 b ∷ rs)
 
--- "A table is 16, then all 17, then all 18"
+-- the records of a table (rule 2.6): the header, then rows
 data Tabled : List Rec → Type 0 where
   nothing : Tabled []
   headed : (b : List ℕ) {rs : List Rec} → Rows rs → Tabled (rec 16 b ∷ rs)
@@ -245,7 +245,7 @@ module _ {s : List ℕ} {whole : Reading} {previous at : ℕ} {head : Header} {c
   onwards q =
       h .gathered ∙ ap (gatheredFrom held) (one-step Table 20 s previous at (h .inside) ∙ ap (onward Table 20 s) (sym next-is ∙ q))
 
-  pub wrong-turn : {p : ℕ} → step ≡ Wrong p → whole ≡ reading (Broken (record { 0 = p })) (tableFrom head control rows nodes begins ends tasks deadlines starts stops)
+  pub wrong-turn : {place : Offset} → step ≡ Wrong place → whole ≡ reading (Broken place) (tableFrom head control rows nodes begins ends tasks deadlines starts stops)
   wrong-turn q = onwards q
 
   pub end-turn : step ≡ End → whole ≡ reading Whole (tableFrom head control rows nodes begins ends tasks deadlines starts stops)

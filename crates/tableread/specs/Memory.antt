@@ -8,6 +8,7 @@ use Prim.Native.Nat.{ℕ, _+_}
 use Rattle.laws.specs.Res.{Res, ok, refuse}
 use Rattle.laws.specs.Lists.{tab}
 use Rattle.laws.specs.Loops.{padTo}
+use Rattle.rules.specs.Limits.{mostNodes, mostFrames}
 use Rattle.rules.specs.Records.{Rec}
 use Rattle.rules.specs.Plan.{nth}
 use Rattle.rules.specs.Frames.{ControlRow}
@@ -49,14 +50,14 @@ layOut t =
     record {
       header = record { period = record { 0 = t .period }; controls = t .controls; datas = t .datas };
       control = length (t .control);
-      nodes = padTo 8 0 (map nodeOf (t .control));
-      begins = padTo 8 0 (map beginOf (t .control));
-      ends = padTo 8 0 (map endOf (t .control));
+      nodes = padTo mostNodes 0 (map nodeOf (t .control));
+      begins = padTo mostNodes 0 (map beginOf (t .control));
+      ends = padTo mostNodes 0 (map endOf (t .control));
       rows = length (t .rows);
-      tasks = padTo 256 0 (map taskOf (t .rows));
-      deadlines = padTo 256 0 (map deadlineOf (t .rows));
-      starts = padTo 256 0 (map startOf (t .rows));
-      stops = padTo 256 0 (map stopOf (t .rows));
+      tasks = padTo mostFrames 0 (map taskOf (t .rows));
+      deadlines = padTo mostFrames 0 (map deadlineOf (t .rows));
+      starts = padTo mostFrames 0 (map startOf (t .rows));
+      stops = padTo mostFrames 0 (map stopOf (t .rows));
     }
 
 -- the table with nothing in it
@@ -116,18 +117,18 @@ withHeader t h =
 
 unfoldable pub withControl : Table → ControlRow → Table
 withControl t r =
-    tableFrom (t .header) (t .control + 1) (t .rows) (placed 8 (t .nodes) (t .control) (r .node))
-    (placed 8 (t .begins) (t .control) (r .start))
-    (placed 8 (t .ends) (t .control) (r .stop))
+    tableFrom (t .header) (t .control + 1) (t .rows) (placed mostNodes (t .nodes) (t .control) (r .node))
+    (placed mostNodes (t .begins) (t .control) (r .start))
+    (placed mostNodes (t .ends) (t .control) (r .stop))
     (t .tasks) (t .deadlines) (t .starts) (t .stops)
 
 unfoldable pub withRow : Table → DataRow → Table
 withRow t r =
     tableFrom (t .header) (t .control) (t .rows + 1) (t .nodes) (t .begins) (t .ends)
-    (placed 256 (t .tasks) (t .rows) (r .task))
-    (placed 256 (t .deadlines) (t .rows) (r .deadline))
-    (placed 256 (t .starts) (t .rows) (r .start))
-    (placed 256 (t .stops) (t .rows) (r .stop))
+    (placed mostFrames (t .tasks) (t .rows) (r .task))
+    (placed mostFrames (t .deadlines) (t .rows) (r .deadline))
+    (placed mostFrames (t .starts) (t .rows) (r .start))
+    (placed mostFrames (t .stops) (t .rows) (r .stop))
 
 unfoldable pub withRecord : Table → Rec → Table
 withRecord t r =

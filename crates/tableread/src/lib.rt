@@ -3,6 +3,7 @@ ghost use mathlib.Core.Path.{_≡_};
 ghost use lib.ListN.{take, drop};
 ghost use Prim.Native.Nat.{_+_, _≤_};
 ghost use Rattle.laws.specs.Numbers.{number};
+ghost use Rattle.rules.specs.Limits.{mostNodes, mostFrames};
 ghost use Rattle.rules.specs.Records as rules;
 ghost use Rattle.rules.specs.Records.{recordOf, tableFollows};
 ghost use Rattle.laws.specs.Loops.{placed};
@@ -12,6 +13,8 @@ use little::read16;
 use little::read32;
 use records::Sort;
 use records::Step;
+use units::Frame;
+use units::NodeNo;
 use units::Offset;
 use units::Ticks;
 
@@ -39,14 +42,14 @@ impl Header {
 pub struct Table {
     pub header: Header,
     pub control: usize,
-    pub nodes: [u8; 8],
-    pub begins: [u32; 8],
-    pub ends: [u32; 8],
+    pub nodes: [u8; NodeNo::MOST],
+    pub begins: [u32; NodeNo::MOST],
+    pub ends: [u32; NodeNo::MOST],
     pub rows: usize,
-    pub tasks: [u8; 256],
-    pub deadlines: [u32; 256],
-    pub starts: [u32; 256],
-    pub stops: [u32; 256],
+    pub tasks: [u8; Frame::MOST],
+    pub deadlines: [u32; Frame::MOST],
+    pub starts: [u32; Frame::MOST],
+    pub stops: [u32; Frame::MOST],
 }
 
 impl Table {
@@ -56,14 +59,14 @@ impl Table {
         Table {
             header: Header::empty(),
             control: 0,
-            nodes: [0; 8],
-            begins: [0; 8],
-            ends: [0; 8],
+            nodes: [0; NodeNo::MOST],
+            begins: [0; NodeNo::MOST],
+            ends: [0; NodeNo::MOST],
             rows: 0,
-            tasks: [0; 256],
-            deadlines: [0; 256],
-            starts: [0; 256],
-            stops: [0; 256],
+            tasks: [0; Frame::MOST],
+            deadlines: [0; Frame::MOST],
+            starts: [0; Frame::MOST],
+            stops: [0; Frame::MOST],
         }
     }
 }
@@ -79,14 +82,16 @@ pub struct Reading {
     pub table: Table,
 }
 
+// In each of these the body is cut out by its kind's length: then it is plain that each of its numbers stands within it.
 fn first_record(s: &[u8], body: usize) -> Header
     requires { do ⌜ body + 7 ≤ (← ⟦s.len()⟧) ⌝ }
     ensures { λ r. ⌜ r ≡ headerOf (recordOf 16 (drop body (now (s .entry))) .numbers) ⌝ }
 {
+    let first = records::body(s, body, body + 7);
     Header {
-        period: Ticks(read32(s, body)),
-        controls: read8(s, body + 4) as usize,
-        datas: read16(s, body + 5) as usize,
+        period: Ticks(read32(first, 0)),
+        controls: read8(first, 4) as usize,
+        datas: read16(first, 5) as usize,
     }
 }
 
@@ -94,41 +99,40 @@ fn control_row(
     s: &[u8],
     body: usize,
     k: usize,
-    nodes: &mut [u8; 8],
-    begins: &mut [u32; 8],
-    ends: &mut [u32; 8],
+    nodes: &mut [u8; NodeNo::MOST],
+    begins: &mut [u32; NodeNo::MOST],
+    ends: &mut [u32; NodeNo::MOST],
 )
     requires { do ⌜ body + 9 ≤ (← ⟦s.len()⟧) ⌝ }
-    ensures { λ _. ⌜ now (nodes .exit) ≡ placed 8 (now (nodes .entry)) k (number (take 1 (drop body (now (s .entry))))) ⌝ }
-    ensures { λ _. ⌜ now (begins .exit) ≡ placed 8 (now (begins .entry)) k (number (take 4 (drop (body + 1) (now (s .entry))))) ⌝ }
-    ensures { λ _. ⌜ now (ends .exit) ≡ placed 8 (now (ends .entry)) k (number (take 4 (drop (body + 5) (now (s .entry))))) ⌝ }
+    ensures { λ _. ⌜ now (nodes .exit) ≡ placed mostNodes (now (nodes .entry)) k (number (take 1 (drop body (now (s .entry))))) ⌝ }
+    ensures { λ _. ⌜ now (begins .exit) ≡ placed mostNodes (now (begins .entry)) k (number (take 4 (drop (body + 1) (now (s .entry))))) ⌝ }
+    ensures { λ _. ⌜ now (ends .exit) ≡ placed mostNodes (now (ends .entry)) k (number (take 4 (drop (body + 5) (now (s .entry))))) ⌝ }
 {
-    if k < 8 {
-        nodes[k] = read8(s, body);
-        begins[k] = read32(s, body + 1);
-        ends[k] = read32(s, body + 5);
+    if k < NodeNo::MOST {
+        let row = records::body(s, body, body + 9);
+        nodes[k] = read8(row, 0);
+        begins[k] = read32(row, 1);
+        ends[k] = read32(row, 5);
     }
 }
 
-// The body is cut out first: then it is plain that each of its numbers stands within it.
 fn data_row(
     s: &[u8],
     body: usize,
     k: usize,
-    tasks: &mut [u8; 256],
-    deadlines: &mut [u32; 256],
-    starts: &mut [u32; 256],
-    stops: &mut [u32; 256],
+    tasks: &mut [u8; Frame::MOST],
+    deadlines: &mut [u32; Frame::MOST],
+    starts: &mut [u32; Frame::MOST],
+    stops: &mut [u32; Frame::MOST],
 )
     requires { do ⌜ body + 13 ≤ (← ⟦s.len()⟧) ⌝ }
-    ensures { λ _. ⌜ now (tasks .exit) ≡ placed 256 (now (tasks .entry)) k (number (take 1 (drop body (now (s .entry))))) ⌝ }
-    ensures { λ _. ⌜ now (deadlines .exit) ≡ placed 256 (now (deadlines .entry)) k (number (take 4 (drop (body + 1) (now (s .entry))))) ⌝ }
-    ensures { λ _. ⌜ now (starts .exit) ≡ placed 256 (now (starts .entry)) k (number (take 4 (drop (body + 5) (now (s .entry))))) ⌝ }
-    ensures { λ _. ⌜ now (stops .exit) ≡ placed 256 (now (stops .entry)) k (number (take 4 (drop (body + 9) (now (s .entry))))) ⌝ }
+    ensures { λ _. ⌜ now (tasks .exit) ≡ placed mostFrames (now (tasks .entry)) k (number (take 1 (drop body (now (s .entry))))) ⌝ }
+    ensures { λ _. ⌜ now (deadlines .exit) ≡ placed mostFrames (now (deadlines .entry)) k (number (take 4 (drop (body + 1) (now (s .entry))))) ⌝ }
+    ensures { λ _. ⌜ now (starts .exit) ≡ placed mostFrames (now (starts .entry)) k (number (take 4 (drop (body + 5) (now (s .entry))))) ⌝ }
+    ensures { λ _. ⌜ now (stops .exit) ≡ placed mostFrames (now (stops .entry)) k (number (take 4 (drop (body + 9) (now (s .entry))))) ⌝ }
 {
-    if k < 256 {
-        let end = body + 13;
-        let row = &s[body..end];
+    if k < Frame::MOST {
+        let row = records::body(s, body, body + 13);
         tasks[k] = read8(row, 0);
         deadlines[k] = read32(row, 1);
         starts[k] = read32(row, 5);
@@ -145,13 +149,13 @@ struct Gathered {
 
 fn gather(
     s: &[u8],
-    nodes: &mut [u8; 8],
-    begins: &mut [u32; 8],
-    ends: &mut [u32; 8],
-    tasks: &mut [u8; 256],
-    deadlines: &mut [u32; 256],
-    starts: &mut [u32; 256],
-    stops: &mut [u32; 256],
+    nodes: &mut [u8; NodeNo::MOST],
+    begins: &mut [u32; NodeNo::MOST],
+    ends: &mut [u32; NodeNo::MOST],
+    tasks: &mut [u8; Frame::MOST],
+    deadlines: &mut [u32; Frame::MOST],
+    starts: &mut [u32; Frame::MOST],
+    stops: &mut [u32; Frame::MOST],
 ) -> Gathered
     ensures { λ r. ⌜ reported r (now (nodes .exit)) (now (begins .exit)) (now (ends .exit)) (now (tasks .exit)) (now (deadlines .exit)) (now (starts .exit)) (now (stops .exit))
         ≡ gatheredFrom (tableFrom (emptyTable .header) 0 0 (now (nodes .entry)) (now (begins .entry)) (now (ends .entry)) (now (tasks .entry)) (now (deadlines .entry)) (now (starts .entry)) (now (stops .entry))) (rules.records tableFollows 20 (now (s .entry))) ⌝ }
@@ -189,7 +193,7 @@ fn gather(
             }
             Step::Wrong(place) => {
                 return Gathered {
-                    outcome: Outcome::Broken(Offset(place)),
+                    outcome: Outcome::Broken(place),
                     header: head,
                     control,
                     rows,
@@ -202,13 +206,13 @@ fn gather(
 pub fn read_table(s: &[u8]) -> Reading
     ensures { λ r. ⌜ r ≡ readingOf (rules.records tableFollows 20 (now (s .entry))) ⌝ }
 {
-    let mut nodes = [0; 8];
-    let mut begins = [0; 8];
-    let mut ends = [0; 8];
-    let mut tasks = [0; 256];
-    let mut deadlines = [0; 256];
-    let mut starts = [0; 256];
-    let mut stops = [0; 256];
+    let mut nodes = [0; NodeNo::MOST];
+    let mut begins = [0; NodeNo::MOST];
+    let mut ends = [0; NodeNo::MOST];
+    let mut tasks = [0; Frame::MOST];
+    let mut deadlines = [0; Frame::MOST];
+    let mut starts = [0; Frame::MOST];
+    let mut stops = [0; Frame::MOST];
     let g = gather(
         s,
         &mut nodes,

@@ -12,26 +12,13 @@ use Rattle.little.proofs.put_whole.Statement.{statement}
 use Rattle.little.proofs.put_whole.Tie as tie
 
 slice-write-buf-2 : tie.Need-slice-write-buf-2
-slice-write-buf-2 c = let a = c .args in omega (arith, length-set (now (a .buf)) (a .at) (a .x % 256))
+slice-write-buf-2 c = rw (length-set _ _ _) (omega arith)
 
 slice-write-buf-3 : tie.Need-slice-write-buf-3
-slice-write-buf-3 c =
-    let a = c .args in
-    let one = set (now (a .buf)) (a .at) (a .x % 256) in
-    omega (arith, length-set (now (a .buf)) (a .at) (a .x % 256), length-set one (a .at + 1) (a .x / 256 % 256))
+slice-write-buf-3 c = rw (length-set _ _ _, length-set _ _ _) (omega arith)
 
 slice-write-buf-4 : tie.Need-slice-write-buf-4
-slice-write-buf-4 c =
-    let a = c .args in
-    let one = set (now (a .buf)) (a .at) (a .x % 256) in
-    let two = set one (a .at + 1) (a .x / 256 % 256) in
-    omega (
-      arith,
-      length-set (now (a .buf)) (a .at) (a .x % 256),
-      length-set one (a .at + 1) (a .x / 256 % 256),
-      length-set two
-          (a .at + 2) (a .x / 256 / 256 % 256),
-    )
+slice-write-buf-4 c = rw (length-set _ _ _, length-set _ _ _, length-set _ _ _) (omega arith)
 
 returns : tie.Need-returns
 returns c =

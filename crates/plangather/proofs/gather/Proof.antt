@@ -5,6 +5,7 @@ use native.Mathlib.Omega.{arith}
 use lib.ListN.{length}
 use Prim.Native.Nat.{_-_}
 use Rattle.rules.specs.Records.{recordOf, fields, kinds}
+use Rattle.records.proofs.Steps.{body-within}
 use Rattle.plangather.specs.Gather.{places}
 use Rattle.plangather.proofs.SoFar.{SoFar, so-far-none, so-far-more, so-far-number, so-far-less, so-far-end, so-far-wrong}
 use Rattle.plangather.proofs.Stored.{kept-place, stored-bus, stored-nodes, stored-module, stored-mode, stored-task, stored-invocation, stored-connection, not-stored}
@@ -19,6 +20,11 @@ abbrev μ-loop : tie.MeasureT-loop
 
 loop-holds : tie.Need-loop-holds Inv-loop μ-loop
 loop-holds c = rw (c .empty .ensures) (so-far-none _)
+
+body-requires : tie.Need-body-requires Inv-loop μ-loop
+body-requires c κs =
+    let c1 = c .before in
+    body-within _ _ _ _ (c1 .before .before .next .ensures) (c1 .kind .given .1)
 
 counted-requires : tie.Need-counted-requires Inv-loop μ-loop
 counted-requires c κs =
@@ -185,7 +191,7 @@ returns-2 c =
 pub gather-spec : {M : Type 1} → statement M
 gather-spec =
     tie.close
-    (tie.spec Inv-loop μ-loop (λ c κs. search needs) loop-holds (λ c κs. search needs) (λ c. search needs) (λ c κs. search needs)
+    (tie.spec Inv-loop μ-loop (λ c κs. search needs) loop-holds (λ c κs. search needs) (λ c. search needs) body-requires
     counted-requires (λ c κs. search needs) (λ c κs. search needs) (λ c κs. search needs) (λ c. search needs) (λ c. search needs)
     (λ c κs. search needs) element-set-from-p (λ c κs. search needs) mul-t25 element-set-from-p-2 (λ c κs. search needs) mul-t29
     element-set-from-p-3 (λ c κs. search needs) mul-t33 element-set-from-p-4 (λ c κs. search needs) mul-t37 element-set-from-p-5

@@ -1,5 +1,8 @@
--- The promises of the three reads are the numbers of the body at their offsets (`header-numbers`).
-use Rattle.tableread.proofs.Gathering.{header-numbers}
+-- The promises of the three reads are the numbers of the body at their offsets (`header-numbers`), cut out as it is (`part-number`).
+use mathlib.Core.Path.{_∙_}
+use native.Mathlib.Omega.{arith}
+use denote.Ref.{now}
+use Rattle.tableread.proofs.Gathering.{front-number, part-number, header-numbers}
 use borrow.Author.Needs.{needs}
 use Rattle.tableread.proofs.first_record.Statement.{statement}
 use Rattle.tableread.proofs.first_record.Tie as tie

@@ -5,6 +5,7 @@ use native.Mathlib.Omega.{arith}
 use lib.ListN.{length}
 use Prim.Native.Nat.{_-_}
 use Rattle.rules.specs.Plan.{namesAreThere, numbersAreWithin}
+use Rattle.records.proofs.Steps.{body-within}
 use Rattle.planrules.specs.Tests.{listed}
 use Rattle.planrules.proofs.RecordScan.{Scanned, scanned-none, scanned-more, scanned-end, scanned-wrong, scanned-number, scanned-less}
 use Rattle.planrules.proofs.numbers.first_bad.Statement.{statement}
@@ -19,6 +20,11 @@ abbrev μ-loop : tie.MeasureT-loop
 
 loop-holds : tie.Need-loop-holds Inv-loop μ-loop
 loop-holds c = (scanned-none (c .before .pre), scanned-none (c .before .pre))
+
+body-requires : tie.Need-body-requires Inv-loop μ-loop
+body-requires c κs =
+    let c1 = c .before in
+    body-within _ _ _ _ (c1 .before .before .next .ensures) (c1 .kind .given .1)
 
 add-n : tie.Need-add-n Inv-loop μ-loop
 add-n c =
@@ -62,6 +68,6 @@ returns-2 c =
 pub first-bad-spec : {M : Type 1} → statement M
 first-bad-spec =
     tie.close
-    (tie.spec Inv-loop μ-loop loop-holds (λ c κs. search needs) (λ c. search needs) (λ c κs. search needs) (λ c κs. search needs)
+    (tie.spec Inv-loop μ-loop loop-holds (λ c κs. search needs) (λ c. search needs) body-requires (λ c κs. search needs)
     (λ c κs. search needs) (λ c κs. search needs) (λ c κs. search needs) add-n loop-less loop-again (λ c. search needs) returns
     (λ c. search needs) returns-2)

@@ -1,7 +1,7 @@
 -- Three exits: an unknown kind makes the conjunction false; a known one has the promise of the order of its sort of file.
 use borrow.Author.Needs.{needs}
-use Rattle.records.proofs.allowed.Statement.{statement}
-use Rattle.records.proofs.allowed.Tie as tie
+use Rattle.records.proofs.reader.allowed.Statement.{statement}
+use Rattle.records.proofs.reader.allowed.Tie as tie
 
 returns : tie.Need-returns
 returns c =
