@@ -200,15 +200,14 @@ gathered-before m r (ok rs) = refl
 gathered-before m r (refuse n p) = refl
 
 -- a body that is cut out of the file says what the file says there
-module _ (s : List ℕ) (body n : ℕ) where
-  pub front-number : (m : ℕ) → m ≤ n → number (take m (take (body + n - body) (drop body s))) ≡ number (take m (drop body s))
-  front-number m h = rw (take-take m (body + n - body) (drop body s) (omega arith))
+module _ (s : List ℕ) (body n : ℕ) {lent : List ℕ} (is : lent ≡ take (body + n - body) (drop body s)) where
+  pub front-number : (m : ℕ) → m ≤ n → number (take m lent) ≡ number (take m (drop body s))
+  front-number m h = rw (is, take-take m (body + n - body) (drop body s) (omega arith))
 
-  pub part-number : (j m : ℕ) → j + m ≤ n
-      → number (take m (drop j (take (body + n - body) (drop body s)))) ≡ number (take m (drop (body + j) s))
+  pub part-number : (j m : ℕ) → j + m ≤ n → number (take m (drop j lent)) ≡ number (take m (drop (body + j) s))
   part-number j m h =
       let cut : body + n - body ≡ j + (n - j) = omega arith in
-      rw (cut, drop-take j (n - j) (drop body s), take-take m (n - j) (drop j (drop body s)) (omega arith), drop-drop j body s)
+      rw (is, cut, drop-take j (n - j) (drop body s), take-take m (n - j) (drop j (drop body s)) (omega arith), drop-drop j body s)
 
 module _ (s : List ℕ) (body : ℕ) where
   pub header-numbers : headerOf (recordOf 16 (drop body s) .numbers)

@@ -1,17 +1,23 @@
--- Two cases of k < 8: with a place left each store is what its read promises, else `placed` keeps the arrays.
-use mathlib.Core.Path.{refl}
+-- Two cases of k below the number of places, as `placed` has; the body cut out says what the file says there (`front-number`, `part-number`).
+use mathlib.Core.Path.{refl, _∙_}
+use native.Mathlib.Omega.{arith}
 use borrow.Author.Tests.{lt-ltb, le-ltb}
+use denote.Ref.{now}
+use Rattle.tableread.proofs.Gathering.{front-number, part-number}
 use borrow.Author.Needs.{needs}
 use Rattle.tableread.proofs.control_row.Statement.{statement}
 use Rattle.tableread.proofs.control_row.Tie as tie
 
 returns : tie.Need-returns
 returns c =
+    let c1 = c .before .before in
+    let a = c1 .before .before .before .before .args in
+    let is = c1 .before .body .ensures in
     rw (
-      lt-ltb _ _ (c .before .before .before .if1 .taken),
-      c .before .before .read8 .ensures,
-      c .before .read32 .ensures,
-      c .read322 .ensures,
+      lt-ltb _ _ (c1 .before .before .if1 .taken),
+      c1 .read8 .ensures ∙ front-number (now (a .s)) (a .body) 9 is 1 (omega arith),
+      c .before .read32 .ensures ∙ part-number (now (a .s)) (a .body) 9 is 1 4 (omega arith),
+      c .read322 .ensures ∙ part-number (now (a .s)) (a .body) 9 is 5 4 (omega arith),
     ) (refl, (refl, refl))
 
 returns-2 : tie.Need-returns-2
@@ -20,5 +26,5 @@ returns-2 c = rw (le-ltb _ _ (c .if1 .left)) (refl, (refl, refl))
 pub control-row-spec : {M : Type 1} → statement M
 control-row-spec =
     tie.close
-    (tie.spec (λ c κs. search needs) (λ c. search needs) (λ c. search needs) (λ c κs. search needs) (λ c. search needs)
+    (tie.spec (λ c. search needs) (λ c κs. search needs) (λ c κs. search needs) (λ c. search needs) (λ c κs. search needs)
     (λ c. search needs) (λ c. search needs) (λ c κs. search needs) (λ c. search needs) (λ c. search needs) returns returns-2)
