@@ -2,11 +2,9 @@
 use mathlib.Core.Path.{_≡_}
 use Rattle.laws.specs.Res.{Res, ok, refuse}
 use Rattle.rules.specs.Plan as rules
-use Rattle.answers.specs.Refusals.{said, heard}
+use Rattle.answers.specs.Refusals.{heard}
 use Rattle.plan.specs.declared.Plan.{Plan}
 use Rattle.plan.specs.Memory.{layOut, emptyPlan}
-use Rattle.answers.specs.declared.Verdict.{Verdict}
-use Rattle.answers.specs.declared.Verdict.the-variants.{Fine, Refused}
 use Rattle.planrules.specs.declared.Reading.{Reading}
 
 abbrev pub verdict : Res rules.Plan → Res (Unit {0})

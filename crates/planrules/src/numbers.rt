@@ -138,13 +138,8 @@ pub fn first_bad(s: &[u8], counts: [usize; 8]) -> Firsts
             } => {
                 let body = records::body(s, start, next);
                 let number = RecordNo(n);
-                named = earlier(
-                    named,
-                    names_are_there(counts, kind, body),
-                    number,
-                );
-                ranged =
-                    earlier(ranged, numbers_are_within(kind, body), number);
+                named = earlier(named, names_are_there(counts, kind, body), number);
+                ranged = earlier(ranged, numbers_are_within(kind, body), number);
                 previous = kind;
                 at = next;
                 n += 1;

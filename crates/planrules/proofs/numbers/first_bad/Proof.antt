@@ -1,6 +1,5 @@
 -- Invariant, for either test: what was found, else the first bad of the rest, is the answer (`Scanned`). `Wrong` cannot be.
 use borrow.Author.Needs.{needs}
-use mathlib.Core.Path.{_∙_}
 use native.Mathlib.Omega.{arith}
 use lib.ListN.{length}
 use Prim.Native.Nat.{_-_}
