@@ -6,6 +6,7 @@ use lib.Dec.{eqb, ltb}
 use lib.ListN.{getD, set, replicate}
 use Prim.Native.Nat.{ℕ, zero, suc, _+_, _*_, _≤_, _<_}
 use Rattle.laws.specs.Loops.{placed}
+use Rattle.rules.specs.Limits.{mostFrames}
 
 -- the number at a place of an array of `room` places; 0 behind its end
 unfoldable pub lookIn : ℕ → List ℕ → ℕ → ℕ
@@ -21,7 +22,7 @@ abbrev pub placeFrom : (ℕ → Bool) → ℕ → ℕ → ℕ
 placeFrom p low zero = low
 placeFrom p low (suc n) = cond (p low) low (placeFrom p (suc low) n)
 
--- "Frames are numbered by deadline, then by task": one number that orders so, where tasks are bytes.
+-- One number that orders frames by deadline, then by task, where tasks are bytes.
 abbrev pub keyOf : ℕ → ℕ → ℕ
 keyOf deadline task = deadline * 256 + task
 
@@ -30,7 +31,7 @@ keyAt tasks deadlines k = keyOf (getD deadlines k 0) (getD tasks k 0)
 
 -- Frames by number, as two arrays: no more than have a place, tasks are bytes, keys rise.
 pub record Numbered (tasks deadlines : List ℕ) (frames : ℕ) : Type 0 where
-  pub room : frames ≤ 256
+  pub room : frames ≤ mostFrames
   pub small : (k : ℕ) → k < frames → getD tasks k 0 < 256
   pub rising : (j k : ℕ) → j < k → k < frames → keyAt tasks deadlines j < keyAt tasks deadlines k
 
@@ -59,7 +60,7 @@ numberAt tasks deadlines frames rowTasks rowDeadlines k =
 
 -- the frames that the first k rows name, marked
 abbrev pub marks : List ℕ → ℕ → List Bool
-marks numbers zero = replicate 256 false
+marks numbers zero = replicate mostFrames false
 marks numbers (suc k) = set (marks numbers k) (getD numbers k 0) true
 
 -- row k names a frame that no row before it names
@@ -69,5 +70,5 @@ isNew numbers frames k =
 
 -- the starts of the first k rows, each at the number of its frame
 abbrev pub spread : List ℕ → List ℕ → ℕ → List ℕ
-spread numbers starts zero = replicate 256 0
-spread numbers starts (suc k) = placed 256 (spread numbers starts k) (getD numbers k 0) (getD starts k 0)
+spread numbers starts zero = replicate mostFrames 0
+spread numbers starts (suc k) = placed mostFrames (spread numbers starts k) (getD numbers k 0) (getD starts k 0)

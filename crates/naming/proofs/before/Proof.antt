@@ -19,14 +19,14 @@ loop-holds c = bracket-start _ _ _ _
 add-middle : tie.Need-add-middle Inv-loop μ-loop
 add-middle c = omega (arith, c .before .loop .inv .within, c .before .before .pre .room)
 
-mul-key : tie.Need-mul-key Inv-loop μ-loop
-mul-key c = omega (arith, c .before .loop .inv .within, c .before .before .pre .room)
+mul-t9 : tie.Need-mul-t9 Inv-loop μ-loop
+mul-t9 c = omega (arith, c .before .loop .inv .within, c .before .before .pre .room)
 
-element-copy-out-key : tie.Need-element-copy-out-key Inv-loop μ-loop
-element-copy-out-key c = omega (arith, c .before .loop .inv .within, c .before .before .pre .room)
+element-copy-out-t14 : tie.Need-element-copy-out-t14 Inv-loop μ-loop
+element-copy-out-t14 c = omega (arith, c .before .loop .inv .within, c .before .before .pre .room)
 
-element-copy-out-key-2 : tie.Need-element-copy-out-key-2 Inv-loop μ-loop
-element-copy-out-key-2 c = omega (arith, c .before .before .loop .inv .within, c .before .before .before .pre .room)
+element-copy-out-t18 : tie.Need-element-copy-out-t18 Inv-loop μ-loop
+element-copy-out-t18 c = omega (arith, c .before .before .loop .inv .within, c .before .before .before .pre .room)
 
 add-low : tie.Need-add-low Inv-loop μ-loop
 add-low c =
@@ -61,5 +61,4 @@ returns c = bracket-end _ _ _ _ (c .before .loop .low) (c .before .loop .high) (
 pub before-spec : {M : Type 1} → statement M
 before-spec =
     tie.close
-    (tie.spec Inv-loop μ-loop loop-holds (λ c. omega arith) add-middle mul-key element-copy-out-key element-copy-out-key-2
-    (λ c κs. search needs) add-low loop-less loop-again loop-less-2 loop-again-2 returns)
+    (tie.spec Inv-loop μ-loop loop-holds (λ c. omega arith) add-middle mul-t9 element-copy-out-t14 element-copy-out-t18 (λ c κs. search needs) add-low loop-less loop-again loop-less-2 loop-again-2 returns)

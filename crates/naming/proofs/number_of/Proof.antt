@@ -1,5 +1,6 @@
 -- No two frames have one key, so where it stands is the number (`look-found`); else the search missed it (`look-missed`).
 use Rattle.naming.proofs.Names.{look-found, look-missed}
+use native.Mathlib.Omega.{arith}
 use borrow.Author.Needs.{needs}
 use Rattle.naming.proofs.number_of.Statement.{statement}
 use Rattle.naming.proofs.number_of.Tie as tie
@@ -10,7 +11,7 @@ has-key-requires c κs = c .before .pre .room
 returns : tie.Need-returns
 returns c =
     let c1 = c .before .before .before in
-    look-found _ _ _ _ _ (c1 .pre) (c .before .before .key .ensures) _ (c1 .fits .task .fits) (c .before .has-key .ensures)
+    look-found _ _ _ _ _ (c1 .pre) (c .before .before .key .ensures) _ (omega (arith, c1 .good)) (c .before .has-key .ensures)
     (c .if1 .taken)
 
 before-requires : tie.Need-before-requires
@@ -23,7 +24,7 @@ returns-2 : tie.Need-returns-2
 returns-2 c =
     let c1 = c .before .before .before .before .before in
     let c2 = c1 .before in
-    look-found _ _ _ _ _ (c2 .pre) (c1 .key .ensures) _ (c2 .fits .task .fits) (c .before .has-key2 .ensures) (c .if2 .taken)
+    look-found _ _ _ _ _ (c2 .pre) (c1 .key .ensures) _ (omega (arith, c2 .good)) (c .before .has-key2 .ensures) (c .if2 .taken)
 
 returns-3 : tie.Need-returns-3
 returns-3 c =

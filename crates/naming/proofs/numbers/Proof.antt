@@ -11,11 +11,11 @@ use Rattle.naming.proofs.numbers.Statement.{statement}
 use Rattle.naming.proofs.numbers.Tie as tie
 
 abbrev Inv-loop : tie.InvT-loop
-Inv-loop tasks deadlines frames senders dues rows found₀ k₀ found k =
-    (k ≤ rows) × (found ≡ stores (replicate 256 0) (numberAt tasks deadlines frames senders dues) k)
+Inv-loop tasks deadlines frames rowTasks rowDeadlines rows found₀ k₀ found k =
+    (k ≤ rows) × (found ≡ stores (replicate 256 0) (numberAt tasks deadlines frames rowTasks rowDeadlines) k)
 
 abbrev μ-loop : tie.MeasureT-loop
-μ-loop tasks deadlines frames senders dues rows found₀ k₀ found k = rows - k
+μ-loop tasks deadlines frames rowTasks rowDeadlines rows found₀ k₀ found k = rows - k
 
 loop-holds : tie.Need-loop-holds Inv-loop μ-loop
 loop-holds c = (search needs, refl)
@@ -35,5 +35,4 @@ returns c = let e : c .before .loop .k ≡ c .before .before .args .rows = omega
 pub numbers-spec : {M : Type 1} → statement M
 numbers-spec =
     tie.close
-    (tie.spec Inv-loop μ-loop loop-holds (λ c. search needs) (λ c. search needs) (λ c. search needs) number-of-requires
-    (λ c. search needs) (λ c. search needs) (λ c. search needs) (λ c. search needs) loop-again returns)
+    (tie.spec Inv-loop μ-loop loop-holds (λ c. search needs) (λ c. search needs) (λ c. search needs) number-of-requires (λ c. search needs) (λ c. search needs) (λ c. search needs) (λ c. search needs) loop-again returns)
