@@ -14,7 +14,7 @@ unfoldable pub dataIn : List ℕ → List ℕ → List ℕ → List ℕ → ℕ 
 dataIn task deadline start stop k =
     record { task = getD task k 0; deadline = getD deadline k 0; start = getD start k 0; stop = getD stop k 0 }
 
--- "A table is 16, then all 17, then all 18, then 0."
+-- A table: its header, the control rows, the data rows, the end.
 unfoldable pub tableIn : ℕ → List ControlRow → List DataRow → ℕ → ℕ → List ℕ
 tableIn period control rows controls datas =
     headerBytes period controls datas ++ (joined (map controlBytes control) ++ (joined (map dataBytes rows) ++ (0 ∷ [])))

@@ -9,7 +9,8 @@ returns c =
     let c1 = c .before .before .before .before .before .before in
     let c2 = c1 .before .before .before .before in
     let c3 = c2 .before .before .before .before in
-    data-put _ _ _ _ _ _ _ _ _ _ _ (c3 .before .before .before .before .put8 .ensures) (c3 .put82 .ensures) (c2 .put32 .ensures)
+    let c4 = c3 .before .before .before .before in
+    data-put _ _ _ _ _ _ _ _ _ _ _ (c4 .put8 .ensures) (c3 .put82 .ensures) (c2 .put32 .ensures)
     (c1 .put322 .ensures) (c .before .before .put323 .ensures)
 
 pub put-data-spec : {M : Type 1} → statement M

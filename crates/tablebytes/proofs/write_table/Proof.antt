@@ -10,9 +10,10 @@ returns c =
     let c1 = c .before .before .before .before .before .before in
     let c2 = c1 .before .before .before .before in
     let c3 = c2 .before .before .before .before in
-    let a = c3 .before .before .before .args in
-    table-put _ _ _ _ _ (a .period) (a .controls) (a .rows) (controlIn (a .node .now) (a .start .now) (a .stop .now))
-    (dataIn (a .task .now) (a .deadline .now) (a .row-start .now) (a .row-stop .now)) (c3 .put-header .ensures)
+    let c4 = c3 .before .before .before in
+    let a = c4 .args in
+    table-put _ _ _ _ _ (a .period .0) (a .controls) (a .rows) (controlIn (a .control-nodes .now) (a .control-starts .now) (a .control-stops .now))
+    (dataIn (a .row-tasks .now) (a .row-deadlines .now) (a .row-starts .now) (a .row-stops .now)) (c3 .put-header .ensures)
     (c2 .put-controls .ensures) (c1 .put-rows .ensures) (c .before .before .put8 .ensures)
 
 pub write-table-spec : {M : Type 1} → statement M
