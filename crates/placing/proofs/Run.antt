@@ -387,7 +387,7 @@ module _ (task release deadline : List ℕ) where
     -- ---- the loop's end, and its beginning
 
     pub going-end : {keys number start : List ℕ} {left outside low : ℕ} → Going keys number start left outside low → left ≤ 0
-        → record { outcome = AllPlaced; number = number; start = start } ≡ laid (runFrom count e₀ count [] [])
+        → record { outcome = AllPlaced; numbers = number; starts = start } ≡ laid (runFrom count e₀ count [] [])
     unfolding machine
     going-end {keys} {number} {start} {left = zero} {outside} {low} g h =
         rw (g .whole)
