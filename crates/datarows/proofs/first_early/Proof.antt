@@ -25,21 +25,20 @@ loop-holds c = (search needs, refl)
 returns : tie.Need-returns Inv-loop μ-loop
 unfolding releaseKept
 returns c =
-    let c1 = c .before .before .before .before in
+    let c1 = c .before .before .before .before .before in
     let a = c1 .before .before .args in
     scan-hit (releaseKept (now (a .starts)) (now (a .releases)) (now (a .numbers))) (c1 .before .loop .inv .1)
-    (c1 .loop-test .taken) (rw (sym (c .before .release-of .ensures)) (lt-leb _ _ (c .if1 .taken)))
+    (c1 .loop-test .taken) (rw (sym (c .before .before .release-of .ensures)) (lt-leb _ _ (c .if1 .taken)))
 
 loop-again : tie.Need-loop-again Inv-loop μ-loop
 unfolding releaseKept
 loop-again c =
-    let c1 = c .before .before .before .before in
-    let c2 = c1 .before in
-    let a = c2 .before .args in (
+    let c1 = c .before .before .before .before .before in
+    let a = c1 .before .before .args in (
       omega (arith, c1 .loop-test .taken),
       firstBad-upTo-more
-          (releaseKept (now (a .starts)) (now (a .releases)) (now (a .numbers))) (c2 .loop .k) (c2 .loop .inv .1)
-          (rw (sym (c .before .release-of .ensures)) (le-leb _ _ (c .if1 .left))),
+          (releaseKept (now (a .starts)) (now (a .releases)) (now (a .numbers))) (c1 .before .loop .k) (c1 .before .loop .inv .1)
+          (rw (sym (c .before .before .release-of .ensures)) (le-leb _ _ (c .if1 .left))),
     )
 
 returns-2 : tie.Need-returns-2 Inv-loop μ-loop

@@ -34,11 +34,10 @@ loop-again : tie.Need-loop-again Inv-loop μ-loop
 unfolding dueKept
 loop-again c =
     let c1 = c .before .before .before in
-    let c2 = c1 .before in
-    let a = c2 .before .args in (
+    let a = c1 .before .before .args in (
       omega (arith, c1 .loop-test .taken),
-      firstBad-upTo-more (dueKept (now (a .stops)) (now (a .deadlines))) (c2 .loop .k)
-          (c2 .loop .inv .1) (le-leb _ _ (c .if1 .left)),
+      firstBad-upTo-more (dueKept (now (a .stops)) (now (a .deadlines))) (c1 .before .loop .k)
+          (c1 .before .loop .inv .1) (le-leb _ _ (c .if1 .left)),
     )
 
 returns-2 : tie.Need-returns-2 Inv-loop μ-loop

@@ -8,11 +8,11 @@ use Rattle.datarows.proofs.time_of.Tie as tie
 
 returns : tie.Need-returns
 unfolding lookIn
-returns c = rw (sym (c .before .before .place .ensures .0), lt-ltb _ _ (c .before .if1 .taken))
+returns c = rw (sym (c .before .before .place .ensures), lt-ltb _ _ (c .before .if1 .taken))
 
 returns-2 : tie.Need-returns-2
 unfolding lookIn
-returns-2 c = rw (sym (c .before .place .ensures .0), le-ltb _ _ (c .if1 .left))
+returns-2 c = rw (sym (c .before .place .ensures), le-ltb _ _ (c .if1 .left))
 
 pub time-of-spec : {M : Type 1} → statement M
 time-of-spec = tie.close (tie.spec (λ c κs. search needs) (λ c. search needs) (λ c. search needs) returns returns-2)
