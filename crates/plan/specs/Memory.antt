@@ -10,6 +10,7 @@ use Rattle.plan.specs.declared.Task.{Task}
 use Rattle.plan.specs.declared.Invocation.{Invocation}
 use Rattle.plan.specs.declared.Connection.{Connection}
 use Rattle.plan.specs.declared.Plan.{Plan}
+use Rattle.rules.specs.Limits.{mostModules, mostModes, mostTasks, mostInvocations, mostConnections}
 use Rattle.rules.specs.Plan as rules
 
 -- each thing of the rules as its struct
@@ -55,11 +56,11 @@ layOut p =
       counts =
           0 ∷ 0 ∷ p .nodes ∷ length (p .modules) ∷ length (p .modes) ∷ length (p .tasks) ∷ length (p .invocations)
           ∷ length (p .connections) ∷ [];
-      modules = padTo 16 (moduleLaid 0) (map moduleLaid (p .modules));
-      modes = padTo 32 (modeLaid rules.noMode) (map modeLaid (p .modes));
-      tasks = padTo 32 (taskLaid rules.noTask) (map taskLaid (p .tasks));
-      invocations = padTo 64 (invocationLaid rules.noInvocation) (map invocationLaid (p .invocations));
-      connections = padTo 64 (connectionLaid noConnection) (map connectionLaid (p .connections));
+      modules = padTo mostModules (moduleLaid 0) (map moduleLaid (p .modules));
+      modes = padTo mostModes (modeLaid rules.noMode) (map modeLaid (p .modes));
+      tasks = padTo mostTasks (taskLaid rules.noTask) (map taskLaid (p .tasks));
+      invocations = padTo mostInvocations (invocationLaid rules.noInvocation) (map invocationLaid (p .invocations));
+      connections = padTo mostConnections (connectionLaid noConnection) (map connectionLaid (p .connections));
     }
 
 -- the plan with nothing in it

@@ -3,8 +3,9 @@
 ghost use mathlib.Core.Path.{_≡_};
 ghost use lib.ListN.{length, getD};
 ghost use Prim.Native.Nat.{_≤_};
+ghost use Rattle.rules.specs.Limits.{mostModules, mostModes, mostTasks, mostInvocations, mostConnections};
 ghost use Rattle.rules.specs.Plan as rules;
-ghost use Rattle.plan.specs.Memory.{seen, moduleLaid, modeLaid, taskLaid, invocationLaid, connectionLaid, noConnection};
+ghost use Rattle.plan.specs.Memory.{seen, moduleLaid, modeLaid, taskLaid, invocationLaid};
 use crate::Connection;
 use crate::Invocation;
 use crate::Mode;
@@ -21,31 +22,31 @@ use units::Ticks;
 
 // Of the things that are counted, as many as have a place.
 pub fn module_count(p: Plan) -> usize
-    ensures { λ r. ⌜ (r ≡ length (seen p .modules)) × (r ≤ 16) ⌝ }
+    ensures { λ r. ⌜ (r ≡ length (seen p .modules)) × (r ≤ mostModules) ⌝ }
 {
     lower(p.counts[3], ModuleNo::MOST)
 }
 
 pub fn mode_count(p: Plan) -> usize
-    ensures { λ r. ⌜ (r ≡ length (seen p .modes)) × (r ≤ 32) ⌝ }
+    ensures { λ r. ⌜ (r ≡ length (seen p .modes)) × (r ≤ mostModes) ⌝ }
 {
     lower(p.counts[4], ModeNo::MOST)
 }
 
 pub fn task_count(p: Plan) -> usize
-    ensures { λ r. ⌜ (r ≡ length (seen p .tasks)) × (r ≤ 32) ⌝ }
+    ensures { λ r. ⌜ (r ≡ length (seen p .tasks)) × (r ≤ mostTasks) ⌝ }
 {
     lower(p.counts[5], TaskNo::MOST)
 }
 
 pub fn invocation_count(p: Plan) -> usize
-    ensures { λ r. ⌜ (r ≡ length (seen p .invocations)) × (r ≤ 64) ⌝ }
+    ensures { λ r. ⌜ (r ≡ length (seen p .invocations)) × (r ≤ mostInvocations) ⌝ }
 {
     lower(p.counts[6], Invocation::MOST)
 }
 
 pub fn connection_count(p: Plan) -> usize
-    ensures { λ r. ⌜ (r ≡ length (seen p .connections)) × (r ≤ 64) ⌝ }
+    ensures { λ r. ⌜ (r ≡ length (seen p .connections)) × (r ≤ mostConnections) ⌝ }
 {
     lower(p.counts[7], Connection::MOST)
 }
@@ -102,20 +103,6 @@ pub fn invocation_at(p: Plan, k: usize) -> Invocation
             mode: ModeNo(0),
             task: TaskNo(0),
             rate: 0,
-        }
-    }
-}
-
-pub fn connection_at(p: Plan, k: usize) -> Connection
-    ensures { λ r. ⌜ r ≡ connectionLaid (getD (seen p .connections) k noConnection) ⌝ }
-{
-    let connections = p.connections;
-    if k < connection_count(p) {
-        connections[k]
-    } else {
-        Connection {
-            producer: TaskNo(0),
-            consumer: TaskNo(0),
         }
     }
 }
