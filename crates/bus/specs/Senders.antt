@@ -1,4 +1,4 @@
--- Tables by number: numbers of tasks, modules and nodes are bytes, so a table of 256 places has one for each.
+-- Tables by number: numbers of tasks, modules and nodes are bytes, and a table has a place for every byte.
 use mathlib.Core.Bool.{Bool, _&&_}
 use mathlib.Core.List.{List}
 use lib.ListN.{length}
@@ -8,8 +8,11 @@ use Rattle.rules.specs.Plan.{Plan, Invocation, Connection, theTask}
 use Rattle.rules.specs.Frames.{invokes, leaves, isBusTask, isSending, controlPayload, livesIn, standsOn}
 use Rattle.bus.specs.declared.Senders.{Senders}
 
+abbrev pub everyByte : ℕ
+everyByte = 256
+
 unfoldable pub byNumber : {A : Type 0} → (ℕ → A) → List A
-byNumber f = tab f 0 256
+byNumber f = tab f 0 everyByte
 
 -- the module that a task belongs to
 unfoldable pub taskHome : Plan → ℕ → ℕ
@@ -31,8 +34,7 @@ sendingBy p n m = any (livesIn p m) (keep (isBusTask p) (upTo n))
 unfoldable pub payloadBy : Plan → ℕ → ℕ → ℕ
 payloadBy p n node = length (keep (standsOn p node) (upTo n))
 
--- "A task is a bus task if ..", "Modules and nodes with a bus task are sending", and "one byte for each sending module": bus tasks
--- by task, sending modules by module, control payloads by node.
+-- Bus tasks by task, sending modules by module, control payloads by node.
 unfoldable pub sendersOf : Plan → Senders
 sendersOf p =
     record {

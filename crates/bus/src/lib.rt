@@ -1,5 +1,5 @@
-// Bus tasks, sending modules and the control payloads of nodes. Numbers of tasks, modules and nodes are bytes, so that a table of
-// 256 places has one for each, and no look-up can miss; where the plan has no thing of that number stands what the rules say of it.
+// Bus tasks, sending modules and the control payloads of nodes, in tables by number. Numbers of tasks, modules and nodes are bytes, and
+// a table has a place for every byte, so that no look-up can miss. Where the plan has no thing of a number stands what the rules say of it.
 ghost use mathlib.Core.Path.{_≡_};
 ghost use mathlib.Core.Bool.{not, _&&_, _||_, cond};
 ghost use lib.Dec.{eqb};
@@ -13,19 +13,22 @@ use plan::look::connection_count;
 use plan::look::invocation_count;
 use plan::look::module_count;
 use plan::look::task_count;
-use units::TaskNo;
 
+// A place for every byte.
+pub const BYTES: usize = 256;
+
+// Whether each task is a bus task, whether each module sends, and the payload of each node's control frame.
 pub struct Senders {
-    pub tasks: [bool; 256],
-    pub modules: [bool; 256],
-    pub payloads: [u8; 256],
+    pub tasks: [bool; BYTES],
+    pub modules: [bool; BYTES],
+    pub payloads: [u8; BYTES],
 }
 
-fn module_nodes(p: Plan) -> [u8; 256]
+fn module_nodes(p: Plan) -> [u8; BYTES]
     ensures { λ r. ⌜ r ≡ byNumber (moduleNode (seen p)) ⌝ }
 {
     let n = module_count(p);
-    let mut nodes: [u8; 256] = [0; 256];
+    let mut nodes: [u8; BYTES] = [0; BYTES];
     let mut m = 0;
     while m < n {
         nodes[m] = p.modules[m].node.0;
@@ -34,11 +37,11 @@ fn module_nodes(p: Plan) -> [u8; 256]
     nodes
 }
 
-fn task_homes(p: Plan) -> [u8; 256]
+fn task_homes(p: Plan) -> [u8; BYTES]
     ensures { λ r. ⌜ r ≡ byNumber (taskHome (seen p)) ⌝ }
 {
     let n = task_count(p);
-    let mut homes: [u8; 256] = [0; 256];
+    let mut homes: [u8; BYTES] = [0; BYTES];
     let mut t = 0;
     while t < n {
         homes[t] = p.tasks[t].home.0;
@@ -47,11 +50,11 @@ fn task_homes(p: Plan) -> [u8; 256]
     homes
 }
 
-fn invoked(p: Plan) -> [bool; 256]
+fn invoked(p: Plan) -> [bool; BYTES]
     ensures { λ r. ⌜ r ≡ byNumber (invokedBy (seen p .invocations)) ⌝ }
 {
     let n = invocation_count(p);
-    let mut found: [bool; 256] = [false; 256];
+    let mut found: [bool; BYTES] = [false; BYTES];
     let mut i = 0;
     while i < n {
         let t = place(p.invocations[i].task.0);
@@ -62,13 +65,13 @@ fn invoked(p: Plan) -> [bool; 256]
 }
 
 // A task that the plan does not have would be of module 0.
-fn task_nodes(p: Plan, nodes: &[u8; 256], homes: &[u8; 256]) -> [u8; 256]
+fn task_nodes(p: Plan, nodes: &[u8; BYTES], homes: &[u8; BYTES]) -> [u8; BYTES]
     requires { ⌜ now nodes ≡ byNumber (moduleNode (seen p)) ⌝ }
     requires { ⌜ now homes ≡ byNumber (taskHome (seen p)) ⌝ }
     ensures { λ r. ⌜ r ≡ byNumber (taskNode (seen p)) ⌝ }
 {
     let n = task_count(p);
-    let mut found: [u8; 256] = [nodes[0]; 256];
+    let mut found: [u8; BYTES] = [nodes[0]; BYTES];
     let mut t = 0;
     while t < n {
         let m = place(homes[t]);
@@ -85,13 +88,13 @@ fn marked(before: bool, invoked: bool, here: u8, there: u8) -> bool
     before || (invoked && there != here)
 }
 
-fn bus_tasks(p: Plan, nodes: &[u8; 256], invoked: &[bool; 256]) -> [bool; 256]
+fn bus_tasks(p: Plan, nodes: &[u8; BYTES], invoked: &[bool; BYTES]) -> [bool; BYTES]
     requires { ⌜ now nodes ≡ byNumber (taskNode (seen p)) ⌝ }
     requires { ⌜ now invoked ≡ byNumber (invokedBy (seen p .invocations)) ⌝ }
     ensures { λ r. ⌜ r ≡ byNumber (isBusTask (seen p)) ⌝ }
 {
     let n = connection_count(p);
-    let mut tasks: [bool; 256] = [false; 256];
+    let mut tasks: [bool; BYTES] = [false; BYTES];
     let mut i = 0;
     while i < n {
         let t = place(p.connections[i].producer.0);
@@ -108,13 +111,13 @@ fn either(a: bool, b: bool) -> bool
     a || b
 }
 
-fn sending_modules(p: Plan, homes: &[u8; 256], tasks: &[bool; 256]) -> [bool; 256]
+fn sending_modules(p: Plan, homes: &[u8; BYTES], tasks: &[bool; BYTES]) -> [bool; BYTES]
     requires { ⌜ now homes ≡ byNumber (taskHome (seen p)) ⌝ }
     requires { ⌜ now tasks ≡ byNumber (isBusTask (seen p)) ⌝ }
     ensures { λ r. ⌜ r ≡ byNumber (isSending (seen p)) ⌝ }
 {
     let n = task_count(p);
-    let mut modules: [bool; 256] = [false; 256];
+    let mut modules: [bool; BYTES] = [false; BYTES];
     let mut t = 0;
     while t < n {
         let m = place(homes[t]);
@@ -131,13 +134,13 @@ fn one_more(count: u8, counts: bool) -> u8
     if counts { count + 1 } else { count }
 }
 
-fn control_payloads(p: Plan, nodes: &[u8; 256], modules: &[bool; 256]) -> [u8; 256]
+fn control_payloads(p: Plan, nodes: &[u8; BYTES], modules: &[bool; BYTES]) -> [u8; BYTES]
     requires { ⌜ now nodes ≡ byNumber (moduleNode (seen p)) ⌝ }
     requires { ⌜ now modules ≡ byNumber (isSending (seen p)) ⌝ }
     ensures { λ r. ⌜ r ≡ byNumber (controlPayload (seen p)) ⌝ }
 {
     let n = module_count(p);
-    let mut payloads: [u8; 256] = [0; 256];
+    let mut payloads: [u8; BYTES] = [0; BYTES];
     let mut m = 0;
     while m < n {
         let k = place(nodes[m]);
@@ -164,12 +167,4 @@ impl Senders {
             payloads: payloads,
         }
     }
-}
-
-pub fn is_bus_task(p: Plan, t: TaskNo) -> bool
-    ensures { λ r. ⌜ r ≡ isBusTask (seen p) (t .0) ⌝ }
-{
-    let senders = Senders::of(p);
-    let k = place(t.0);
-    senders.tasks[k]
 }
