@@ -4,6 +4,7 @@ use lib.ListN.{length, getD}
 use Prim.Native.Nat.{ℕ}
 use Rattle.laws.specs.Lists.{keep, tab}
 use Rattle.laws.specs.Loops.{padTo}
+use Rattle.rules.specs.Limits.{mostInvocations}
 use Rattle.rules.specs.Plan.{Plan, Invocation, theMode, theTask}
 use Rattle.rules.specs.Frames.{Run, runOf, ofBusTask}
 use Rattle.cycle.specs.declared.runs.Runs.{Runs}
@@ -14,7 +15,7 @@ modePeriod p μ = theMode p μ .period
 unfoldable pub taskWorst : Plan → ℕ → ℕ
 taskWorst p t = theTask p t .worst
 
--- "An invocation of a bus task with period T and worst time w": the runs of some of a plan's invocations
+-- the runs of those of a plan's invocations that are of bus tasks
 unfoldable pub runsAmong : Plan → List Invocation → List Run
 runsAmong p is = map (runOf p) (keep (ofBusTask p) is)
 
@@ -28,7 +29,7 @@ abbrev pub runWorst : Run → ℕ
 runWorst r = r .worst
 
 unfoldable pub column : (Run → ℕ) → List Run → List ℕ
-column f rs = padTo 64 0 (map f rs)
+column f rs = padTo mostInvocations 0 (map f rs)
 
 unfoldable pub runsLaid : List Run → Runs
 runsLaid rs =

@@ -5,51 +5,55 @@ ghost use mathlib.Core.Bool.{true, cond};
 ghost use Prim.Native.Nat.{_≤_, _<_};
 ghost use Rattle.laws.specs.Numbers as laws;
 ghost use Rattle.plan.specs.Memory.{seen};
+ghost use Rattle.rules.specs.Limits.{mostInvocations};
 ghost use Rattle.rules.specs.Frames.{isSending, switchGrid, periodOfRuns};
 ghost use Rattle.bus.specs.Senders.{byNumber};
 ghost use Rattle.cycle.specs.Runs.{runsSeen};
 use crate::runs::Runs;
+use bus::BYTES;
 use figures::divides;
 use figures::gcd;
 use figures::lcm;
 use figures::place;
 use plan::Plan;
 use plan::look::mode_count;
+use units::Ticks;
 
-fn with_mode(sends: bool, period: u32, switch: u32, grid: u32) -> u32
-    ensures { λ r. ⌜ r ≡ cond sends (laws.gcd period (laws.gcd switch grid)) grid ⌝ }
+fn with_mode(sends: bool, period: Ticks, switch: Ticks, grid: Ticks) -> Ticks
+    ensures { λ r. ⌜ r .0 ≡ cond sends (laws.gcd (period .0) (laws.gcd (switch .0) (grid .0))) (grid .0) ⌝ }
 {
     if sends {
-        gcd(period, gcd(switch, grid))
+        Ticks(gcd(period.0, gcd(switch.0, grid.0)))
     } else {
         grid
     }
 }
 
-pub fn switch_grid(p: Plan, sending: [bool; 256]) -> u32
+pub fn switch_grid(p: Plan, sending: [bool; BYTES]) -> Ticks
     requires { ⌜ sending ≡ byNumber (isSending (seen p)) ⌝ }
-    ensures { λ r. ⌜ r ≡ switchGrid (seen p) ⌝ }
+    ensures { λ r. ⌜ r .0 ≡ switchGrid (seen p) ⌝ }
 {
     let n = mode_count(p);
-    let mut grid = 0;
+    let mut grid = Ticks(0);
     let mut i = 0;
     while i < n {
-        let m = place(p.modes[i].home.0);
-        grid = with_mode(sending[m], p.modes[i].period.0, p.modes[i].switch.0, grid);
+        let mode = p.modes[i];
+        let m = place(mode.home.0);
+        grid = with_mode(sending[m], mode.period, mode.switch, grid);
         i += 1;
     }
     grid
 }
 
 // P divides the grid exactly when each run's period does.
-pub fn period_divides(runs: Runs, grid: u32) -> bool
-    requires { ⌜ runs .count ≤ 64 ⌝ }
-    ensures { λ r. ⌜ r ≡ laws.divides (periodOfRuns (runsSeen runs)) grid ⌝ }
+pub fn period_divides(runs: Runs, grid: Ticks) -> bool
+    requires { ⌜ runs .count ≤ mostInvocations ⌝ }
+    ensures { λ r. ⌜ r ≡ laws.divides (periodOfRuns (runsSeen runs)) (grid .0) ⌝ }
 {
     let n = runs.count;
     let mut i = 0;
     while i < n {
-        if !divides(runs.periods[i], grid) {
+        if !divides(runs.periods[i], grid.0) {
             return false;
         }
         i += 1;
@@ -57,11 +61,11 @@ pub fn period_divides(runs: Runs, grid: u32) -> bool
     true
 }
 
-pub fn bus_period(runs: Runs, grid: u32) -> u32
-    requires { ⌜ runs .count ≤ 64 ⌝ }
-    requires { ⌜ 0 < grid ⌝ }
-    requires { ⌜ laws.divides (periodOfRuns (runsSeen runs)) grid ≡ true ⌝ }
-    ensures { λ r. ⌜ (r ≡ periodOfRuns (runsSeen runs)) × (r ≤ grid) ⌝ }
+pub fn bus_period(runs: Runs, grid: Ticks) -> Ticks
+    requires { ⌜ runs .count ≤ mostInvocations ⌝ }
+    requires { ⌜ 0 < grid .0 ⌝ }
+    requires { ⌜ laws.divides (periodOfRuns (runsSeen runs)) (grid .0) ≡ true ⌝ }
+    ensures { λ r. ⌜ (r .0 ≡ periodOfRuns (runsSeen runs)) × (r .0 ≤ grid .0) ⌝ }
 {
     let n = runs.count;
     let mut period: u32 = 1;
@@ -70,5 +74,5 @@ pub fn bus_period(runs: Runs, grid: u32) -> u32
         period = lcm(runs.periods[i], period) as u32;
         i += 1;
     }
-    period
+    Ticks(period)
 }

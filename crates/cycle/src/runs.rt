@@ -2,11 +2,14 @@
 ghost use mathlib.Core.Path.{_≡_};
 ghost use Prim.Native.Nat.{_≤_};
 ghost use Rattle.plan.specs.Memory.{seen};
+ghost use Rattle.rules.specs.Limits.{mostInvocations};
 ghost use Rattle.rules.specs.Frames.{isBusTask, busRuns};
 ghost use Rattle.bus.specs.Senders.{byNumber};
 ghost use Rattle.cycle.specs.Runs.{modePeriod, taskWorst, runsLaid};
+use bus::BYTES;
 use figures::place;
 use figures::quotient;
+use plan::Invocation;
 use plan::Plan;
 use plan::look::invocation_count;
 use plan::look::mode_count;
@@ -15,16 +18,16 @@ use plan::look::task_count;
 // An array for each number of a run, so that each can be lent.
 pub struct Runs {
     pub count: usize,
-    pub tasks: [u8; 64],
-    pub periods: [u32; 64],
-    pub worsts: [u32; 64],
+    pub tasks: [u8; Invocation::MOST],
+    pub periods: [u32; Invocation::MOST],
+    pub worsts: [u32; Invocation::MOST],
 }
 
-fn mode_periods(p: Plan) -> [u32; 256]
+fn mode_periods(p: Plan) -> [u32; BYTES]
     ensures { λ r. ⌜ r ≡ byNumber (modePeriod (seen p)) ⌝ }
 {
     let n = mode_count(p);
-    let mut periods: [u32; 256] = [0; 256];
+    let mut periods: [u32; BYTES] = [0; BYTES];
     let mut m = 0;
     while m < n {
         periods[m] = p.modes[m].period.0;
@@ -33,11 +36,11 @@ fn mode_periods(p: Plan) -> [u32; 256]
     periods
 }
 
-fn task_worsts(p: Plan) -> [u32; 256]
+fn task_worsts(p: Plan) -> [u32; BYTES]
     ensures { λ r. ⌜ r ≡ byNumber (taskWorst (seen p)) ⌝ }
 {
     let n = task_count(p);
-    let mut worsts: [u32; 256] = [0; 256];
+    let mut worsts: [u32; BYTES] = [0; BYTES];
     let mut t = 0;
     while t < n {
         worsts[t] = p.tasks[t].worst.0;
@@ -47,16 +50,16 @@ fn task_worsts(p: Plan) -> [u32; 256]
 }
 
 impl Runs {
-    pub fn of(p: Plan, bus: [bool; 256]) -> Runs
+    pub fn of(p: Plan, bus: [bool; BYTES]) -> Runs
         requires { ⌜ bus ≡ byNumber (isBusTask (seen p)) ⌝ }
-        ensures { λ r. ⌜ (r ≡ runsLaid (busRuns (seen p))) × (r .count ≤ 64) ⌝ }
+        ensures { λ r. ⌜ (r ≡ runsLaid (busRuns (seen p))) × (r .count ≤ mostInvocations) ⌝ }
     {
         let n = invocation_count(p);
         let modes = mode_periods(p);
         let times = task_worsts(p);
-        let mut tasks: [u8; 64] = [0; 64];
-        let mut periods: [u32; 64] = [0; 64];
-        let mut worsts: [u32; 64] = [0; 64];
+        let mut tasks: [u8; Invocation::MOST] = [0; Invocation::MOST];
+        let mut periods: [u32; Invocation::MOST] = [0; Invocation::MOST];
+        let mut worsts: [u32; Invocation::MOST] = [0; Invocation::MOST];
         let mut count = 0;
         let mut i = 0;
         while i < n {

@@ -14,10 +14,10 @@ use Rattle.cycle.proofs.period.bus_period.Statement.{statement}
 use Rattle.cycle.proofs.period.bus_period.Tie as tie
 
 abbrev Inv-loop : tie.InvT-loop
-Inv-loop grid runs n period₀ i₀ period i = (i ≤ n) × (period ≡ periodOfRuns (tab (runAt runs) 0 i))
+Inv-loop runs n period₀ i₀ period i = (i ≤ n) × (period ≡ periodOfRuns (tab (runAt runs) 0 i))
 
 abbrev μ-loop : tie.MeasureT-loop
-μ-loop grid runs n period₀ i₀ period i = n - i
+μ-loop runs n period₀ i₀ period i = n - i
 
 made : (c : tie.After-lcm Inv-loop μ-loop) → c .lcm .result ≡ periodOfRuns (tab (runAt (c .before .before .before .before .args .t1)) 0 (c .before .before .before .loop .i + 1))
 unfolding runAt
@@ -26,9 +26,11 @@ made c =
     c .lcm .ensures ∙ rw (c1 .loop .inv .1)
     (sym (period-more (runAt (c1 .before .args .t1)) (c1 .loop .i)))
 
-whole : (c : tie.After-lcm Inv-loop μ-loop) → divides (periodOfRuns (tab (runAt (c .before .before .before .before .args .t1)) 0 (c .before .before .before .before .args .t1 .count))) (c .before .before .before .before .args .grid) ≡ true
+whole : (c : tie.After-lcm Inv-loop μ-loop) → divides (periodOfRuns (tab (runAt (c .before .before .before .before .args .t1)) 0 (c .before .before .before .before .args .t1 .count))) (c .before .before .before .before .args .grid .0) ≡ true
 unfolding runsSeen
-whole c = c .before .before .before .before .pre .1 .1
+whole c =
+    let c1 = c .before .before .before .before in
+    c1 .pre .1 .1
 
 loop-holds : tie.Need-loop-holds Inv-loop μ-loop
 unfolding periodOfRuns
@@ -37,12 +39,11 @@ loop-holds c = (search needs, refl)
 cast-period : tie.Need-cast-period Inv-loop μ-loop
 cast-period c =
     let c1 = c .before .before .before in
-    let start = c1 .before in
-    let a = start .args in
+    let a = c1 .before .args in
     omega (
       arith,
       made c,
-      period-below (runAt (a .t1)) (a .grid) (a .t1 .count) (c1 .loop .i + 1) (omega arith) (start .pre .1 .0)
+      period-below (runAt (a .t1)) (a .grid .0) (a .t1 .count) (c1 .loop .i + 1) (omega arith) (c1 .before .pre .1 .0)
           (whole c),
     )
 
@@ -52,12 +53,11 @@ loop-again c = (omega arith, made c)
 returns : tie.Need-returns Inv-loop μ-loop
 unfolding runsSeen
 returns c =
-    let s = c .before .before in
-    let e : c .before .loop .i ≡ s .args .t1 .count = omega arith in
+    let e : c .before .loop .i ≡ c .before .before .args .t1 .count = omega arith in
     let h = rw e at (c .before .loop .inv .1) in (
       h,
-      rw h (period-below (runAt (s .args .t1)) (s .args .grid) (s .args .t1 .count) (s .args .t1 .count) (omega arith)
-          (s .pre .1 .0) (s .pre .1 .1)),
+      rw h (period-below (runAt (c .before .before .args .t1)) (c .before .before .args .grid .0) (c .before .before .args .t1 .count) (c .before .before .args .t1 .count) (omega arith)
+          (c .before .before .pre .1 .0) (c .before .before .pre .1 .1)),
     )
 
 pub bus-period-spec : {M : Type 1} → statement M

@@ -14,31 +14,29 @@ use Rattle.cycle.proofs.period.period_divides.Statement.{statement}
 use Rattle.cycle.proofs.period.period_divides.Tie as tie
 
 abbrev Inv-loop : tie.InvT-loop
-Inv-loop grid runs n i₀ i = (i ≤ n) × (divides (periodOfRuns (tab (runAt runs) 0 i)) grid ≡ true)
+Inv-loop grid runs n i₀ i = (i ≤ n) × (divides (periodOfRuns (tab (runAt runs) 0 i)) (grid .0) ≡ true)
 
 abbrev μ-loop : tie.MeasureT-loop
 μ-loop grid runs n i₀ i = n - i
 
 loop-holds : tie.Need-loop-holds Inv-loop μ-loop
-loop-holds c = (search needs, divides-none (runAt (c .args .t1)) (c .args .grid))
+loop-holds c = (search needs, divides-none (runAt (c .args .t1)) (c .args .grid .0))
 
 returns : tie.Need-returns Inv-loop μ-loop
 unfolding runAt runsSeen
 returns c =
     let c1 = c .before .before .before .before in
-    let s = c1 .before in
     let l = c1 .loop in
-    sym (divides-not (runAt (s .args .t1)) (s .args .grid) (s .args .t1 .count) (l .i) (omega arith)
+    sym (divides-not (runAt (c1 .before .args .t1)) (c1 .before .args .grid .0) (c1 .before .args .t1 .count) (l .i) (omega arith)
     (sym (c .before .divides .ensures) ∙ not-true _ (c .if1 .taken)))
 
 loop-again : tie.Need-loop-again Inv-loop μ-loop
 unfolding runAt
 loop-again c =
     let c1 = c .before .before .before .before in
-    let s = c1 .before in
     let l = c1 .loop in (
       omega arith,
-      divides-more (runAt (s .args .t1)) (s .args .grid) (l .i) (l .inv .1)
+      divides-more (runAt (c1 .before .args .t1)) (c1 .before .args .grid .0) (l .i) (l .inv .1)
           (sym (c .before .divides .ensures) ∙ not-false _ (c .if1 .left)),
     )
 

@@ -14,7 +14,7 @@ use Rattle.cycle.proofs.period.switch_grid.Statement.{statement}
 use Rattle.cycle.proofs.period.switch_grid.Tie as tie
 
 abbrev Inv-loop : tie.InvT-loop
-Inv-loop p sending n grid₀ i₀ grid i = (i ≤ n) × (grid ≡ gridAmong (seen p) (take i (seen p .modes)))
+Inv-loop p sending n grid₀ i₀ grid i = (i ≤ n) × (grid .0 ≡ gridAmong (seen p) (take i (seen p .modes)))
 
 abbrev μ-loop : tie.MeasureT-loop
 μ-loop p sending n grid₀ i₀ grid i = n - i
@@ -26,27 +26,25 @@ loop-holds c = (search needs, refl)
 loop-again : tie.Need-loop-again Inv-loop μ-loop
 unfolding modeSeen modeLaid
 loop-again c =
-    let c1 = c .before .before .before in
-    let s = c1 .before .before in
-    let q = seen (s .args .t1) in
+    let c1 = c .before .before .before .before in
+    let q = seen (c1 .before .before .args .t1) in
     let l = c1 .loop in
     let h : l .i < length (q .modes) = omega arith in (
       omega arith,
-      grid-turn q (q .modes) (l .i) (modeSeen (getD (s .args .t1 .modes) (l .i) (modeLaid noMode))) h
-          (mode-here (s .args .t1) (l .i) h)
-          (c .before .place .result) (s .pre) (omega arith) (c .before .place .ensures .0) (l .inv .1) (c .with-mode .ensures),
+      grid-turn q (q .modes) (l .i) (modeSeen (getD (c1 .before .before .args .t1 .modes) (l .i) (modeLaid noMode))) h
+          (mode-here (c1 .before .before .args .t1) (l .i) h)
+          (c .before .place .result) (c1 .before .before .pre) (omega arith) (c .before .place .ensures .0) (l .inv .1) (c .with-mode .ensures),
     )
 
 returns : tie.Need-returns Inv-loop μ-loop
 unfolding switchGrid gridAmong
 returns c =
-    let q = seen (c .before .before .before .args .t1) in
+    let c1 = c .before .before .before in
+    let q = seen (c1 .args .t1) in
     let w : length (q .modes) ≤ c .before .loop .i = omega arith in
     rw (take-all (c .before .loop .i) (q .modes) w) at (c .before .loop .inv .1)
 
 pub switch-grid-spec : {M : Type 1} → statement M
 switch-grid-spec =
     tie.close
-    (tie.spec Inv-loop μ-loop (λ c κs. search needs) loop-holds (λ c. search needs) (λ c. search needs) (λ c κs. search needs)
-    (λ c. search needs) (λ c. search needs) (λ c. search needs) (λ c. search needs) (λ c. search needs) (λ c κs. search needs)
-    (λ c. search needs) (λ c. search needs) loop-again returns)
+    (tie.spec Inv-loop μ-loop (λ c κs. search needs) loop-holds (λ c. search needs) (λ c. search needs) (λ c κs. search needs) (λ c. search needs) (λ c κs. search needs) (λ c. search needs) (λ c. search needs) loop-again returns)
