@@ -138,9 +138,9 @@ module _ (q : Plan) where
     unfolding isSendingNode
     sends-no h = le-ltb 0 (controlPayload q k) (rw here at h)
 
-    pub time-is : {v : ℕ} → v ≡ sendingTime (q .bus) (getD payloads k 0) → v ≡ timeOf k
+    pub time-is : {v x : ℕ} → x ≡ getD payloads k 0 → v ≡ sendingTime (q .bus) x → v ≡ timeOf k
     unfolding timeOf
-    time-is h = h ∙ ap (sendingTime (q .bus)) here
+    time-is g h = h ∙ ap (sendingTime (q .bus)) (g ∙ here)
 
 -- one number of each row, of one row more
 column-snoc : (f : ControlRow → ℕ) (rs : List ControlRow) (r : ControlRow) → column f (rs ++ (r ∷ [])) ≡ set (column f rs) (length rs) (f r)

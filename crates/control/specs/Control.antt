@@ -3,6 +3,7 @@ use mathlib.Core.List.{List, map}
 use lib.ListN.{length}
 use Prim.Native.Nat.{ℕ}
 use Rattle.laws.specs.Loops.{padTo}
+use Rattle.rules.specs.Limits.{mostNodes}
 use Rattle.rules.specs.Frames.{ControlRow}
 use Rattle.control.specs.declared.Control.{Control}
 
@@ -17,7 +18,7 @@ stopOf r = r .stop
 
 -- one number of each row, zeros behind
 abbrev pub column : (ControlRow → ℕ) → List ControlRow → List ℕ
-column f rs = padTo 8 0 (map f rs)
+column f rs = padTo mostNodes 0 (map f rs)
 
 unfoldable pub controlLaid : List ControlRow → Control
 controlLaid rs =

@@ -2,9 +2,12 @@
 ghost use mathlib.Core.Path.{_≡_};
 ghost use Prim.Native.Nat.{_≤_, _<_, _^_};
 ghost use Rattle.plan.specs.Memory.{seen};
+ghost use Rattle.rules.specs.Limits.{mostNodes};
 ghost use Rattle.rules.specs.Frames as rules;
 ghost use Rattle.bus.specs.Senders.{byNumber};
 ghost use Rattle.control.specs.Control.{controlLaid};
+use bus::BYTES;
+use figures::wide;
 use plan::Plan;
 use times::Span;
 use times::gap_time;
@@ -21,17 +24,16 @@ pub struct Control {
 }
 
 // How long the control frame of a payload takes.
-fn control_time(p: Plan, payload: u8) -> u64
-    ensures { λ r. ⌜ (r ≡ rules.sendingTime (seen p .bus) payload) × (r < 2 ^ 47) ⌝ }
+fn control_time(p: Plan, payload: ByteCount) -> Span
+    ensures { λ r. ⌜ (r .0 ≡ rules.sendingTime (seen p .bus) (payload .0)) × (r .0 < 2 ^ 47) ⌝ }
 {
     let bus = p.bus;
-    let time = sending_time(bus, ByteCount(payload as u32));
-    time.0
+    sending_time(bus, payload)
 }
 
 // C, the last control stop plus gap.
-pub fn control_end(p: Plan, payloads: [u8; 256]) -> Span
-    requires { ⌜ seen p .nodes ≤ 8 ⌝ }
+pub fn control_end(p: Plan, payloads: [u8; BYTES]) -> Span
+    requires { ⌜ seen p .nodes ≤ mostNodes ⌝ }
     requires { ⌜ payloads ≡ byNumber (rules.controlPayload (seen p)) ⌝ }
     ensures { λ r. ⌜ r .0 ≡ rules.controlEnd (seen p) ⌝ }
 {
@@ -43,7 +45,7 @@ pub fn control_end(p: Plan, payloads: [u8; 256]) -> Span
     let mut n = 0;
     while n < nodes {
         if payloads[n] > 0 {
-            stop = next + control_time(p, payloads[n]);
+            stop = next + control_time(p, ByteCount(wide(payloads[n]))).0;
             next = stop + gap;
         }
         n += 1;
@@ -52,8 +54,8 @@ pub fn control_end(p: Plan, payloads: [u8; 256]) -> Span
 }
 
 // Where C fits, so does each stop.
-pub fn control_rows(p: Plan, payloads: [u8; 256]) -> Control
-    requires { ⌜ seen p .nodes ≤ 8 ⌝ }
+pub fn control_rows(p: Plan, payloads: [u8; BYTES]) -> Control
+    requires { ⌜ seen p .nodes ≤ mostNodes ⌝ }
     requires { ⌜ payloads ≡ byNumber (rules.controlPayload (seen p)) ⌝ }
     requires { ⌜ rules.controlEnd (seen p) < 2 ^ 32 ⌝ }
     ensures { λ r. ⌜ r ≡ controlLaid (rules.controlRows (seen p)) ⌝ }
@@ -65,16 +67,16 @@ pub fn control_rows(p: Plan, payloads: [u8; 256]) -> Control
     let mut starts = [0; NodeNo::MOST];
     let mut stops = [0; NodeNo::MOST];
     let mut count = 0;
-    let mut next: u64 = 0;
+    let mut start: u64 = 0;
     let mut n = 0;
     while n < most {
         if payloads[n] > 0 {
-            let stop = next + control_time(p, payloads[n]);
+            let stop = start + control_time(p, ByteCount(wide(payloads[n]))).0;
             nodes[count] = n as u8;
-            starts[count] = next as u32;
+            starts[count] = start as u32;
             stops[count] = stop as u32;
             count += 1;
-            next = stop + gap;
+            start = stop + gap;
         }
         n += 1;
     }

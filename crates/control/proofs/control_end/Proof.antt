@@ -37,13 +37,13 @@ loop-again c =
     ⊎-elim
     (λ w.
     let y = sends-yes q (l .n) t (omega arith) (w .0 .taken) in
-    let time = time-is q (l .n) t (omega arith) (w .1 .ensures .0) in (
+    let time = time-is q (l .n) t (omega arith) (w .1 .ensures) (w .2 .ensures .0) in (
       omega arith,
       l .inv .1,
-      w .2 ∙ rw (l .inv .2, time, gap c) (sym (next-yes q (l .n) y)),
-      w .3 ∙ rw (l .inv .2, time) (sym (stop-yes q (l .n) y)),
-      omega (arith, w .2, w .1 .ensures .1),
-      omega (arith, w .3, w .1 .ensures .1),
+      w .4 ∙ rw (l .inv .2, time, gap c) (sym (next-yes q (l .n) y)),
+      w .5 ∙ rw (l .inv .2, time) (sym (stop-yes q (l .n) y)),
+      omega (arith, w .4, w .2 .ensures .1),
+      omega (arith, w .5, w .2 .ensures .1),
     ))
     (λ w.
     let y = sends-no q (l .n) t (omega arith) (w .0 .left) in (
@@ -66,6 +66,4 @@ returns c =
 pub control-end-spec : {M : Type 1} → statement M
 control-end-spec =
     tie.close
-    (tie.spec Inv-loop μ-loop (λ c κs. search needs) (λ c. search needs) loop-holds (λ c. omega arith) (λ c. omega arith)
-    (λ c κs. search needs) (λ c. omega arith) (λ c. omega arith) (λ c. omega arith) (λ c. search needs) loop-again
-    (λ c. omega arith) returns)
+    (tie.spec Inv-loop μ-loop (λ c κs. search needs) (λ c. search needs) loop-holds (λ c. omega arith) (λ c. omega arith) (λ c κs. search needs) (λ c κs. search needs) (λ c. omega arith) (λ c. omega arith) (λ c. omega arith) (λ c. search needs) loop-again (λ c. omega arith) returns)

@@ -25,66 +25,67 @@ use Rattle.control.proofs.control_rows.Statement.{statement}
 use Rattle.control.proofs.control_rows.Tie as tie
 
 abbrev Inv-loop : tie.InvT-loop
-Inv-loop p payloads gap most nodes₀ starts₀ stops₀ count₀ next₀ n₀ nodes starts stops count next n =
-    (n ≤ most) × (most ≤ 8) × Shown (seen p) n count next nodes starts stops
+Inv-loop p payloads gap most nodes₀ starts₀ stops₀ count₀ start₀ n₀ nodes starts stops count start n =
+    (n ≤ most) × (most ≤ 8) × Shown (seen p) n count start nodes starts stops
 
 abbrev μ-loop : tie.MeasureT-loop
-μ-loop p payloads gap most nodes₀ starts₀ stops₀ count₀ next₀ n₀ nodes starts stops count next n = most - n
+μ-loop p payloads gap most nodes₀ starts₀ stops₀ count₀ start₀ n₀ nodes starts stops count start n = most - n
 
-few : (c : tie.After-control-time Inv-loop μ-loop) → c .before .before .before .loop .count ≤ c .before .before .before .loop .n
+few : (c : tie.After-control-time Inv-loop μ-loop) → c .before .before .before .before .loop .count ≤ c .before .before .before .before .loop .n
 few c =
-    let c1 = c .before .before .before in
-    let a = c1 .before .before .before .before .args in
+    let c1 = c .before .before .before .before in
+    let c2 = c1 .before .before .before .before in
+    let a = c2 .args in
     let l = c1 .loop in
     shown-few (seen (a .t1)) (l .inv .2)
 
 -- a control frame that is made stops by C, and C fits
-stops : (c : tie.After-control-time Inv-loop μ-loop) → c .before .before .before .loop .next + c .control-time .result < 2 ^ 32
+stops : (c : tie.After-control-time Inv-loop μ-loop) → c .before .before .before .before .loop .start + c .control-time .result .0 < 2 ^ 32
 unfolding seen countSeen
 stops c =
-    let c1 = c .before .before .before in
-    let s = c1 .before .before .before .before in
-    let q = seen (s .args .t1) in
+    let c1 = c .before .before .before .before in
+    let c2 = c1 .before .before .before .before in
+    let q = seen (c2 .args .t1) in
     let l = c1 .loop in
-    let t = s .pre .1 .0 in
-    let y = sends-yes q (l .n) t (omega arith) (c .before .if1 .taken) in
-    let time = time-is q (l .n) t (omega arith) (c .control-time .ensures .0) in
-    let w : l .next + timeOf q (l .n) ≤ controlEnd q = shown-fits q (l .inv .2) y (omega arith) in
-    omega (arith, time, s .pre .1 .1)
+    let t = c2 .pre .1 .0 in
+    let y = sends-yes q (l .n) t (omega arith) (c .before .before .if1 .taken) in
+    let time = time-is q (l .n) t (omega arith) (c .before .wide .ensures) (c .control-time .ensures .0) in
+    let w : l .start + timeOf q (l .n) ≤ controlEnd q = shown-fits q (l .inv .2) y (omega arith) in
+    omega (arith, time, c2 .pre .1 .1)
 
 loop-holds : tie.Need-loop-holds Inv-loop μ-loop
 unfolding seen countSeen
 loop-holds c = (omega arith, c .before .before .before .pre .0, shown-none (seen (c .before .before .before .args .t1)))
 
 add-stop : tie.Need-add-stop Inv-loop μ-loop
-add-stop c = omega (arith, stops c)
+add-stop c = omega (arith, stops (c .before))
 
 array-write-nodes : tie.Need-array-write-nodes Inv-loop μ-loop
-array-write-nodes c = omega (arith, few c)
+array-write-nodes c = omega (arith, few (c .before))
 
 cast-starts : tie.Need-cast-starts Inv-loop μ-loop
-cast-starts c = omega (arith, stops c)
+cast-starts c = omega (arith, stops (c .before))
 
 mul-starts : tie.Need-mul-starts Inv-loop μ-loop
-mul-starts c = omega (arith, few c)
+mul-starts c = omega (arith, few (c .before))
 
 array-write-starts : tie.Need-array-write-starts Inv-loop μ-loop
-array-write-starts c = omega (arith, few c)
+array-write-starts c = omega (arith, few (c .before))
 
 cast-stops : tie.Need-cast-stops Inv-loop μ-loop
-cast-stops c = omega (arith, stops c)
+cast-stops c = omega (arith, stops (c .before))
 
 mul-stops : tie.Need-mul-stops Inv-loop μ-loop
-mul-stops c = omega (arith, few c)
+mul-stops c = omega (arith, few (c .before))
 
 array-write-stops : tie.Need-array-write-stops Inv-loop μ-loop
-array-write-stops c = omega (arith, few c)
+array-write-stops c = omega (arith, few (c .before))
 
 add-count : tie.Need-add-count Inv-loop μ-loop
-add-count c = omega (arith, few c)
+add-count c = omega (arith, few (c .before))
 
-add-next : tie.Need-add-next Inv-loop μ-loop
-add-next c = omega (arith, stops c)
+add-start : tie.Need-add-start Inv-loop μ-loop
+add-start c = omega (arith, stops (c .before))
 
 loop-again : tie.Need-loop-again Inv-loop μ-loop
 unfolding seen
@@ -97,10 +98,10 @@ loop-again c =
     ⊎-elim
     (λ w.
     let y = sends-yes q (l .n) t (omega arith) (w .0 .taken) in
-    let time = time-is q (l .n) t (omega arith) (w .1 .ensures .0) in (
+    let time = time-is q (l .n) t (omega arith) (w .1 .ensures) (w .2 .ensures .0) in (
       omega arith,
       l .inv .1,
-      rw (w .2, w .3, w .4, w .5, w .6)
+      rw (w .4, w .5, w .6, w .7, w .8)
           (shown-more q (l .inv .2) y (rw time) (rw (c1 .gap-time .ensures .0))),
     )
     )
@@ -120,6 +121,4 @@ returns c =
 pub control-rows-spec : {M : Type 1} → statement M
 control-rows-spec =
     tie.close
-    (tie.spec Inv-loop μ-loop (λ c κs. search needs) (λ c. search needs) loop-holds (λ c. omega arith) (λ c. omega arith)
-    (λ c κs. search needs) add-stop (λ c. omega arith) array-write-nodes cast-starts mul-starts array-write-starts cast-stops mul-stops
-    array-write-stops add-count add-next (λ c. omega arith) (λ c. search needs) loop-again returns)
+    (tie.spec Inv-loop μ-loop (λ c κs. search needs) (λ c. search needs) loop-holds (λ c. omega arith) (λ c. omega arith) (λ c κs. search needs) (λ c κs. search needs) add-stop (λ c. omega arith) array-write-nodes cast-starts mul-starts array-write-starts cast-stops mul-stops array-write-stops add-count add-start (λ c. omega arith) (λ c. search needs) loop-again returns)
