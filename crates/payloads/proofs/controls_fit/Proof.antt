@@ -10,7 +10,7 @@ use Rattle.payloads.proofs.controls_fit.Statement.{statement}
 use Rattle.payloads.proofs.controls_fit.Tie as tie
 
 abbrev Inv-loop : tie.InvT-loop
-Inv-loop nodes most payloads n₀ n = (n ≤ nodes) × (all (payloadKeeps payloads most) (upTo n) ≡ true)
+Inv-loop nodes most payloads n₀ n = (n ≤ nodes) × (all (payloadKeeps payloads (most .0)) (upTo n) ≡ true)
 
 abbrev μ-loop : tie.MeasureT-loop
 μ-loop nodes most payloads n₀ n = nodes - n
@@ -20,23 +20,24 @@ loop-holds c = (search needs, refl)
 
 returns : tie.Need-returns Inv-loop μ-loop
 returns c =
-    let a = c .before .before .before .before .args in
-    all-here (payloadKeeps (a .t1) (a .most)) _ _ (c .before .before .loop-test .taken)
-    (payload-too-large (a .t1) _ _ _ (c .before .wide .ensures) (c .if1 .taken))
+    let c1 = c .before .before .before in
+    let a = c1 .before .before .args in
+    all-here (payloadKeeps (a .t1) (a .most .0)) _ _ (c1 .loop-test .taken)
+    (payload-too-large (a .t1) _ _ _ (c .before .before .wide .ensures) (c .if1 .taken))
 
 loop-again : tie.Need-loop-again Inv-loop μ-loop
 loop-again c =
-    let c1 = c .before .before .before in
+    let c1 = c .before .before .before .before in
     let a = c1 .before .args in (
       search needs,
-      all-on (payloadKeeps (a .t1) (a .most)) _ (c1 .loop .inv .1)
-          (payload-fits (a .t1) _ _ _ (c .before .wide .ensures) (c .if1 .left)),
+      all-on (payloadKeeps (a .t1) (a .most .0)) _ (c1 .loop .inv .1)
+          (payload-fits (a .t1) _ _ _ (c .before .before .wide .ensures) (c .if1 .left)),
     )
 
 returns-2 : tie.Need-returns-2 Inv-loop μ-loop
 returns-2 c =
     let a = c .before .before .args in
-    all-end (payloadKeeps (a .t1) (a .most)) _ _ (c .before .loop .inv .1) (c .before .loop .inv .0) (c .loop-test .left)
+    all-end (payloadKeeps (a .t1) (a .most .0)) _ _ (c .before .loop .inv .1) (c .before .loop .inv .0) (c .loop-test .left)
 
 pub controls-fit-spec : {M : Type 1} → statement M
 controls-fit-spec =

@@ -13,10 +13,10 @@ use Rattle.payloads.proofs.message_times.Statement.{statement}
 use Rattle.payloads.proofs.message_times.Tie as tie
 
 abbrev Inv-loop : tie.InvT-loop
-Inv-loop p bus count none time₀ t₀ time t = (t ≤ count) × (time ≡ stores (replicate 32 none) (taskTime (seen p)) t)
+Inv-loop p bus count none times₀ t₀ times t = (t ≤ count) × (times ≡ stores (replicate 32 none) (taskTime (seen p)) t)
 
 abbrev μ-loop : tie.MeasureT-loop
-μ-loop p bus count none time₀ t₀ time t = count - t
+μ-loop p bus count none times₀ t₀ times t = count - t
 
 cast-none : tie.Need-cast-none Inv-loop μ-loop
 unfolding seen taskLaid
@@ -27,9 +27,9 @@ cast-none c =
 loop-holds : tie.Need-loop-holds Inv-loop μ-loop
 loop-holds c = (search needs, stores-none _ (taskTime (seen (c .before .before .before .before .args .t1))))
 
-cast-time : tie.Need-cast-time Inv-loop μ-loop
+cast-times : tie.Need-cast-times Inv-loop μ-loop
 unfolding seen taskLaid
-cast-time c =
+cast-times c =
     let c1 = c .before .before .before .before in
     let start = c1 .before .before .before .before .before in
     let p = start .args .t1 in
@@ -60,5 +60,5 @@ pub message-times-spec : {M : Type 1} → statement M
 message-times-spec =
     tie.close
     (tie.spec Inv-loop μ-loop (λ c κs. search needs) (λ c κs. search needs) cast-none loop-holds (λ c. search needs)
-    (λ c. search needs) (λ c κs. search needs) cast-time (λ c. search needs) (λ c. search needs) (λ c. search needs)
+    (λ c. search needs) (λ c κs. search needs) cast-times (λ c. search needs) (λ c. search needs) (λ c. search needs)
     (λ c. search needs) loop-again returns)

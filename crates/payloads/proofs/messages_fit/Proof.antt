@@ -15,10 +15,10 @@ use Rattle.payloads.proofs.messages_fit.Statement.{statement}
 use Rattle.payloads.proofs.messages_fit.Tie as tie
 
 abbrev Inv-loop : tie.InvT-loop
-Inv-loop p tasks count t₀ t = (t ≤ count) × (all (messageKeeps tasks (seen p)) (upTo t) ≡ true)
+Inv-loop p tasks bus count t₀ t = (t ≤ count) × (all (messageKeeps tasks (seen p)) (upTo t) ≡ true)
 
 abbrev μ-loop : tie.MeasureT-loop
-μ-loop p tasks count t₀ t = count - t
+μ-loop p tasks bus count t₀ t = count - t
 
 loop-holds : tie.Need-loop-holds Inv-loop μ-loop
 loop-holds c = (search needs, refl)
@@ -27,18 +27,20 @@ returns : tie.Need-returns Inv-loop μ-loop
 unfolding seen busSeen taskLaid
 returns c =
     let c1 = c .before .before .before in
-    let a = c1 .before .before .args in
+    let c2 = c1 .before .before .before .before in
+    let a = c2 .args in
     let p = a .t1 in
-    let w : c1 .loop .t < length (seen p .tasks) = omega arith in
-    rw (← (c1 .before .task-count .ensures .0))
-    (all-here (messageKeeps (a .t2) (seen p)) _ _ (c .before .before .loop-test .taken)
+    let w : c1 .before .loop .t < length (seen p .tasks) = omega arith in
+    rw (← (c1 .before .before .task-count .ensures .0))
+    (all-here (messageKeeps (a .t2) (seen p)) _ _ (c1 .loop-test .taken)
     (message-test _ (seen p) _ _ _ (size-of p _ w) (c .before .message-keeps .ensures) ∙ not-true _ (c .if1 .taken)))
 
 loop-again : tie.Need-loop-again Inv-loop μ-loop
 unfolding seen busSeen taskLaid
 loop-again c =
-    let c1 = c .before .before .before in
-    let a = c1 .before .before .args in
+    let c1 = c .before .before .before .before in
+    let c2 = c1 .before .before .before in
+    let a = c2 .args in
     let p = a .t1 in
     let w : c1 .loop .t < length (seen p .tasks) = omega arith in (
       search needs,
@@ -48,7 +50,8 @@ loop-again c =
 
 returns-2 : tie.Need-returns-2 Inv-loop μ-loop
 returns-2 c =
-    let a = c .before .before .before .args in
+    let c1 = c .before .before .before .before in
+    let a = c1 .args in
     rw (← (c .before .before .task-count .ensures .0))
     (all-end (messageKeeps (a .t2) (seen (a .t1))) _ _ (c .before .loop .inv .1) (c .before .loop .inv .0)
     (c .loop-test .left))
