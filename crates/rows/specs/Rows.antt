@@ -3,6 +3,7 @@ use mathlib.Core.List.{List, map}
 use lib.ListN.{length, getD, set, replicate}
 use Prim.Native.Nat.{ℕ, zero, suc, _+_, _%_}
 use Rattle.laws.specs.Loops.{stores, padTo}
+use Rattle.rules.specs.Limits.{mostFrames}
 use Rattle.rules.specs.Table.{FrameRow}
 use Rattle.rows.specs.declared.TableRows.{TableRows}
 use Rattle.rows.specs.declared.Rows.{Rows}
@@ -25,10 +26,10 @@ unfoldable pub rowsLaid : List FrameRow → Rows
 rowsLaid rs =
     record {
       frames = length rs;
-      task = padTo 256 0 (map rowTask rs);
-      release = padTo 256 0 (map rowRelease rs);
-      deadline = padTo 256 0 (map rowDeadline rs);
-      start = padTo 256 0 (map rowStart rs);
+      task = padTo mostFrames 0 (map rowTask rs);
+      release = padTo mostFrames 0 (map rowRelease rs);
+      deadline = padTo mostFrames 0 (map rowDeadline rs);
+      start = padTo mostFrames 0 (map rowStart rs);
     }
 
 -- the starts stored at the numbers of the frames, the last first
@@ -46,7 +47,7 @@ stopAt task time number start j = (getD start j 0 + getD time (taskAt task numbe
 unfoldable pub tableRows : List ℕ → List ℕ → List ℕ → List ℕ → List ℕ → ℕ → TableRows
 tableRows task deadline time number start count =
     record {
-      task = stores (replicate 256 0) (taskAt task number) count;
-      deadline = stores (replicate 256 0) (taskAt deadline number) count;
-      stop = stores (replicate 256 0) (stopAt task time number start) count;
+      task = stores (replicate mostFrames 0) (taskAt task number) count;
+      deadline = stores (replicate mostFrames 0) (taskAt deadline number) count;
+      stop = stores (replicate mostFrames 0) (stopAt task time number start) count;
     }

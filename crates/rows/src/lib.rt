@@ -3,15 +3,20 @@ ghost use mathlib.Core.Path.{_≡_};
 ghost use Prim.Native.Nat.{_+_, _%_, _≤_, _<_};
 ghost use lib.ListN.{length, getD, replicate};
 ghost use mathlib.Core.List.{[]};
+ghost use Rattle.rules.specs.Limits.{mostFrames, mostTasks};
 ghost use Rattle.rows.specs.Rows.{scattered, tableRows, rowsLaid};
+use units::Frame;
+use units::FrameNo;
+use units::TaskNo;
+use units::Ticks;
 
 // The frame rows of an answer by value: `frames` of them, zeros behind.
 pub struct Rows {
     pub frames: usize,
-    pub task: [u8; 256],
-    pub release: [u32; 256],
-    pub deadline: [u32; 256],
-    pub start: [u32; 256],
+    pub task: [u8; Frame::MOST],
+    pub release: [u32; Frame::MOST],
+    pub deadline: [u32; Frame::MOST],
+    pub start: [u32; Frame::MOST],
 }
 
 impl Rows {
@@ -20,18 +25,19 @@ impl Rows {
     {
         Rows {
             frames: 0,
-            task: [0; 256],
-            release: [0; 256],
-            deadline: [0; 256],
-            start: [0; 256],
+            task: [0; Frame::MOST],
+            release: [0; Frame::MOST],
+            deadline: [0; Frame::MOST],
+            start: [0; Frame::MOST],
         }
     }
 }
 
-fn place(x: u32) -> usize
-    ensures { λ r. ⌜ r ≡ x ⌝ }
+// The number of a frame, as it stands in the array of placed frames.
+fn frame(number: u32) -> FrameNo
+    ensures { λ r. ⌜ r .0 ≡ number ⌝ }
 {
-    x as usize
+    FrameNo(number as usize)
 }
 
 fn long(x: u32) -> u64
@@ -42,19 +48,19 @@ fn long(x: u32) -> u64
 
 // The starts by frame number, from the placed frames by start. A number that stands twice would keep its first start.
 pub fn starts_by_number<'a>(
-    number: &'a [u32; 256],
-    start: &'a [u32; 256],
+    number: &'a [u32; Frame::MOST],
+    start: &'a [u32; Frame::MOST],
     count: usize,
-) -> [u32; 256]
-    requires { ⌜ count ≤ 256 ⌝ }
-    ensures { λ r. ⌜ r ≡ scattered (now (number .entry)) (now (start .entry)) count (replicate 256 0) ⌝ }
+) -> [u32; Frame::MOST]
+    requires { ⌜ count ≤ mostFrames ⌝ }
+    ensures { λ r. ⌜ r ≡ scattered (now (number .entry)) (now (start .entry)) count (replicate mostFrames 0) ⌝ }
 {
-    let mut by = [0u32; 256];
+    let mut by = [0u32; Frame::MOST];
     let mut j = count;
     while 0 < j {
         j -= 1;
-        let k = place(number[j]);
-        if k < 256 {
+        let k = frame(number[j]).0;
+        if k < Frame::MOST {
             by[k] = start[j];
         }
     }
@@ -63,67 +69,68 @@ pub fn starts_by_number<'a>(
 
 // What stands in the table's data rows besides the starts, by row.
 pub struct TableRows {
-    pub task: [u8; 256],
-    pub deadline: [u32; 256],
-    pub stop: [u32; 256],
+    pub task: [u8; Frame::MOST],
+    pub deadline: [u32; Frame::MOST],
+    pub stop: [u32; Frame::MOST],
 }
 
-fn task_of(task: &[u8; 256], number: u32) -> u8
-    requires { ⌜ length (now task) ≡ 256 ⌝ }
-    ensures { λ r. ⌜ r ≡ getD (now (task .entry)) number 0 ⌝ }
+fn task_of(task: &[u8; Frame::MOST], number: FrameNo) -> TaskNo
+    requires { ⌜ length (now task) ≡ mostFrames ⌝ }
+    ensures { λ r. ⌜ r .0 ≡ getD (now (task .entry)) (number .0) 0 ⌝ }
 {
-    let k = place(number);
-    if k < 256 {
-        return task[k];
+    let k = number.0;
+    if k < Frame::MOST {
+        return TaskNo(task[k]);
     }
-    0
+    TaskNo(0)
 }
 
-fn deadline_of(deadline: &[u32; 256], number: u32) -> u32
-    requires { ⌜ length (now deadline) ≡ 256 ⌝ }
-    ensures { λ r. ⌜ r ≡ getD (now (deadline .entry)) number 0 ⌝ }
+fn deadline_of(deadline: &[u32; Frame::MOST], number: FrameNo) -> Ticks
+    requires { ⌜ length (now deadline) ≡ mostFrames ⌝ }
+    ensures { λ r. ⌜ r .0 ≡ getD (now (deadline .entry)) (number .0) 0 ⌝ }
 {
-    let k = place(number);
-    if k < 256 {
-        return deadline[k];
+    let k = number.0;
+    if k < Frame::MOST {
+        return Ticks(deadline[k]);
     }
-    0
+    Ticks(0)
 }
 
 // The stop of a frame of this task that starts here. A start within the cycle and a time within it add up without a carry.
-fn stop_of(time: &[u32; 32], task: u8, start: u32) -> u32
-    requires { ⌜ length (now time) ≡ 32 ⌝ }
-    ensures { λ r. ⌜ r ≡ (start + getD (now (time .entry)) task 0) % 4294967296 ⌝ }
+fn stop_of(time: &[u32; TaskNo::MOST], task: TaskNo, start: Ticks) -> Ticks
+    requires { ⌜ length (now time) ≡ mostTasks ⌝ }
+    ensures { λ r. ⌜ r .0 ≡ (start .0 + getD (now (time .entry)) (task .0) 0) % 4294967296 ⌝ }
 {
-    let t = task as usize;
-    if t < 32 {
-        let stop = long(start) + long(time[t]);
-        return (stop % 4294967296) as u32;
+    let t = task.0 as usize;
+    if t < TaskNo::MOST {
+        let stop = long(start.0) + long(time[t]);
+        return Ticks((stop % 4294967296) as u32);
     }
     start
 }
 
 pub fn table_rows<'a>(
-    task: &'a [u8; 256],
-    deadline: &'a [u32; 256],
-    time: &'a [u32; 32],
-    number: &'a [u32; 256],
-    start: &'a [u32; 256],
+    task: &'a [u8; Frame::MOST],
+    deadline: &'a [u32; Frame::MOST],
+    time: &'a [u32; TaskNo::MOST],
+    number: &'a [u32; Frame::MOST],
+    start: &'a [u32; Frame::MOST],
     count: usize,
 ) -> TableRows
-    requires { ⌜ count ≤ 256 ⌝ }
-    requires { ⌜ (length (now task) ≡ 256) × (length (now deadline) ≡ 256) × (length (now time) ≡ 32) ⌝ }
+    requires { ⌜ count ≤ mostFrames ⌝ }
+    requires { ⌜ (length (now task) ≡ mostFrames) × (length (now deadline) ≡ mostFrames) × (length (now time) ≡ mostTasks) ⌝ }
     ensures { λ r. ⌜ r ≡ tableRows (now (task .entry)) (now (deadline .entry)) (now (time .entry)) (now (number .entry)) (now (start .entry)) count ⌝ }
 {
-    let mut tasks = [0u8; 256];
-    let mut deadlines = [0u32; 256];
-    let mut stops = [0u32; 256];
+    let mut tasks = [0u8; Frame::MOST];
+    let mut deadlines = [0u32; Frame::MOST];
+    let mut stops = [0u32; Frame::MOST];
     let mut j = 0;
     while j < count {
-        let t = task_of(task, number[j]);
-        tasks[j] = t;
-        deadlines[j] = deadline_of(deadline, number[j]);
-        stops[j] = stop_of(time, t, start[j]);
+        let f = frame(number[j]);
+        let t = task_of(task, f);
+        tasks[j] = t.0;
+        deadlines[j] = deadline_of(deadline, f).0;
+        stops[j] = stop_of(time, t, Ticks(start[j])).0;
         j += 1;
     }
     TableRows {

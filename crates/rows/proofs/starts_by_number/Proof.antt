@@ -1,4 +1,4 @@
--- Invariant: the rest, scattered on, gives the whole; a turn is `scatter-on`, or `scatter-past` for a number above 255.
+-- Invariant: the rest, scattered on, gives the whole; a turn is `scatter-on`, or `scatter-past` for a number behind the last place.
 use mathlib.Core.Path.{_≡_, sym, _∙_}
 use Prim.Native.Nat.{_-_, _≤_}
 use lib.ListN.{length}
@@ -21,19 +21,18 @@ loop-again c =
     let a = c1 .before .before .args in (
       search needs,
       search needs,
-      c1 .before .loop .inv .2 ∙ rw (c .before .before .place .ensures)
+      c1 .before .loop .inv .2 ∙ rw (c .before .before .frame .ensures)
           (scatter-on (a .number .now) (a .start .now) _ _ (c1 .loop-test .taken)),
     )
 
 loop-again-2 : tie.Need-loop-again-2 Inv-loop μ-loop
 loop-again-2 c =
     let c1 = c .before .before .before in
-    let c2 = c1 .before in
-    let a = c2 .before .args in (
+    let a = c1 .before .before .args in (
       search needs,
       search needs,
-      c2 .loop .inv .2 ∙ scatter-past (a .number .now) (a .start .now) _ _ _ (c1 .loop-test .taken)
-          (c2 .loop .inv .1) (c .before .place .ensures) (c .if1 .left),
+      c1 .before .loop .inv .2 ∙ scatter-past (a .number .now) (a .start .now) _ _ _ (c1 .loop-test .taken)
+          (c1 .before .loop .inv .1) (c .before .frame .ensures) (c .if1 .left),
     )
 
 returns : tie.Need-returns Inv-loop μ-loop

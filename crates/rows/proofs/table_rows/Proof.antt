@@ -32,16 +32,16 @@ loop-holds c = (
 loop-again : tie.Need-loop-again Inv-loop μ-loop
 unfolding taskAt stopAt
 loop-again c =
-    let c1 = c .before .before .before .before in
-    let c2 = c1 .before .before .before in
+    let c1 = c .before .before .before in
+    let c2 = c1 .before .before .before .before in
     let a = c2 .before .args in (
       search needs,
-      stores-turn _ (taskAt (a .task .now) (a .number .now)) _ (c2 .loop .inv .1) (c1 .task-of .ensures),
+      stores-turn _ (taskAt (a .task .now) (a .number .now)) _ (c2 .loop .inv .1) (rw (c1 .before .frame .ensures) at (c1 .task-of .ensures)),
       stores-turn
-          _ (taskAt (a .deadline .now) (a .number .now)) _ (c2 .loop .inv .2) (c .before .before .deadline-of .ensures),
+          _ (taskAt (a .deadline .now) (a .number .now)) _ (c2 .loop .inv .2) (rw (c1 .before .frame .ensures) at (c .before .before .deadline-of .ensures)),
       stores-turn
           _ (stopAt (a .task .now) (a .time .now) (a .number .now) (a .start .now)) _ (c2 .loop .inv .3)
-          (rw (c .stop-of .ensures, c1 .task-of .ensures)),
+          (rw (c .stop-of .ensures, c1 .task-of .ensures, c1 .before .frame .ensures)),
     )
 
 returns : tie.Need-returns Inv-loop μ-loop
@@ -53,7 +53,4 @@ returns c =
 pub table-rows-spec : {M : Type 1} → statement M
 table-rows-spec =
     tie.close
-    (tie.spec Inv-loop μ-loop loop-holds (λ c. search needs) (λ c. search needs) (λ c κs. search needs) (λ c. search needs)
-    (λ c. search needs) (λ c. search needs) (λ c κs. search needs) (λ c. search needs) (λ c. search needs) (λ c. search needs)
-    (λ c. search needs) (λ c κs. search needs) (λ c. search needs) (λ c. search needs) (λ c. search needs) (λ c. search needs)
-    loop-again returns)
+    (tie.spec Inv-loop μ-loop loop-holds (λ c. search needs) (λ c. search needs) (λ c κs. search needs) (λ c κs. search needs) (λ c. search needs) (λ c κs. search needs) (λ c. search needs) (λ c. search needs) (λ c. search needs) (λ c. search needs) (λ c κs. search needs) (λ c. search needs) (λ c. search needs) (λ c. search needs) (λ c. search needs) loop-again returns)
