@@ -8,18 +8,18 @@ use Rattle.laws.specs.Lists.{any}
 use Rattle.laws.specs.Numbers as numbers
 use Rattle.rules.specs.Plan.{Plan, Mode, Task, Invocation, noInvocation, isHome, fitsItsMode, theInvocation, sameRun}
 
--- Refusal 5, of an invocation with its rate, its mode and its task: "rate doesn't divide mode period; invocation period doesn't divide
--- switch period; worst time above invocation period; task and mode of different modules".
+-- Refusal 5, of an invocation with its rate, its mode and its task: the rate divides the mode's period, the period that this makes
+-- divides the switch period, the worst time is not above it, and task and mode are of one module.
 unfoldable pub fitsThese : ℕ → Mode → Task → Bool
 fitsThese rate μ t =
     (numbers.divides rate (μ .period) && numbers.divides (μ .period / rate) (μ .switch))
     && (leb (t .worst) (μ .period / rate) && eqb (t .home) (μ .home))
 
--- Refusal 5, of a module among a plan's modes: "a module without a mode".
+-- Refusal 5, of a module: one of the plan's modes is its.
 unfoldable pub hasModeIn : List Mode → ℕ → Bool
 hasModeIn modes m = any (isHome m) modes
 
--- Refusal 5's two tests of the k-th invocation: that it fits its mode, and that it is no repeat: "a task twice in one mode".
+-- Refusal 5's two tests of the k-th invocation: that it fits its mode, and that no earlier one has its task and mode.
 unfoldable pub fitsAt : Plan → ℕ → Bool
 fitsAt p k = fitsItsMode p (theInvocation p k)
 

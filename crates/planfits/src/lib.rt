@@ -5,6 +5,7 @@ ghost use mathlib.Core.List.{map};
 ghost use lib.ListN.{length, take};
 ghost use Prim.Native.Nat.{_≤_};
 ghost use Rattle.laws.specs.Lists.{firstBad, upTo};
+ghost use Rattle.rules.specs.Limits.{mostModules, mostModes, mostInvocations};
 ghost use Rattle.rules.specs.Plan as rules;
 ghost use Rattle.plan.specs.Memory.{seen, modeLaid, modeSeen, taskLaid, taskSeen, invocationSeen};
 ghost use Rattle.planfits.specs.Scans.{placeOr, unfitOf};
@@ -23,14 +24,14 @@ use units::ByteCount;
 use units::ModuleNo;
 use units::Ticks;
 
-fn has_mode(modes: [Mode; 32], count: usize, home: usize) -> bool
-    requires { ⌜ count ≤ 32 ⌝ }
-    ensures { λ r. ⌜ r ≡ hasModeIn (map modeSeen (take count modes)) home ⌝ }
+fn has_mode(modes: [Mode; Mode::MOST], count: usize, home: ModuleNo) -> bool
+    requires { ⌜ count ≤ mostModes ⌝ }
+    ensures { λ r. ⌜ r ≡ hasModeIn (map modeSeen (take count modes)) (home .0) ⌝ }
 {
     let mut k = 0;
     while k < count {
         let mode = modes[k];
-        if mode.home.place() == home {
+        if mode.home.0 == home.0 {
             return true;
         }
         k += 1;
@@ -39,13 +40,13 @@ fn has_mode(modes: [Mode; 32], count: usize, home: usize) -> bool
 }
 
 // The first module without a mode; the number of modules where there is none.
-fn first_without_mode(modes: [Mode; 32], count: usize, modules: usize) -> usize
-    requires { ⌜ count ≤ 32 ⌝ }
+fn first_without_mode(modes: [Mode; Mode::MOST], count: usize, modules: usize) -> usize
+    requires { ⌜ (count ≤ mostModes) × (modules ≤ mostModules) ⌝ }
     ensures { λ r. ⌜ r ≡ placeOr modules (firstBad (hasModeIn (map modeSeen (take count modes))) (upTo modules)) ⌝ }
 {
     let mut m = 0;
     while m < modules {
-        if !has_mode(modes, count, m) {
+        if !has_mode(modes, count, ModuleNo(m as u8)) {
             return m;
         }
         m += 1;
@@ -60,8 +61,8 @@ fn switch_divides(m: Mode) -> bool
 }
 
 // The first mode whose switch period does not divide its period; the number of modes where there is none.
-fn first_bad_switch(modes: [Mode; 32], count: usize) -> usize
-    requires { ⌜ count ≤ 32 ⌝ }
+fn first_bad_switch(modes: [Mode; Mode::MOST], count: usize) -> usize
+    requires { ⌜ count ≤ mostModes ⌝ }
     ensures { λ r. ⌜ r ≡ placeOr count (firstBad rules.switchDivides (map modeSeen (take count modes))) ⌝ }
 {
     let mut k = 0;
@@ -116,7 +117,7 @@ fn task_if(there: bool, task: Task) -> Task
 }
 
 // The first invocation that does not fit its mode; the number of invocations where there is none. A number that names something is
-// below 32, and `% 32` leaves it as it is.
+// below the limit, and the remainder leaves it as it is.
 fn first_misfit(p: Plan) -> usize
     ensures { λ r. ⌜ r ≡ placeOr (length (seen p .invocations)) (firstBad (fitsAt (seen p)) (upTo (length (seen p .invocations)))) ⌝ }
 {
@@ -128,8 +129,8 @@ fn first_misfit(p: Plan) -> usize
         let i = p.invocations[k];
         let m = i.mode.place();
         let t = i.task.place();
-        let mode = mode_if(m < modes, p.modes[m % 32]);
-        let task = task_if(t < tasks, p.tasks[t % 32]);
+        let mode = mode_if(m < modes, p.modes[m % Mode::MOST]);
+        let task = task_if(t < tasks, p.tasks[t % Task::MOST]);
         if !fits_its_mode(i.rate, mode, task) {
             return k;
         }
@@ -145,8 +146,8 @@ fn same_run(i: Invocation, j: Invocation) -> bool
 }
 
 // The first invocation whose task and mode an earlier one has; the number of invocations where there is none.
-fn first_repeat(invocations: [Invocation; 64], count: usize) -> usize
-    requires { ⌜ count ≤ 64 ⌝ }
+fn first_repeat(invocations: [Invocation; Invocation::MOST], count: usize) -> usize
+    requires { ⌜ count ≤ mostInvocations ⌝ }
     ensures { λ r. ⌜ r ≡ placeOr count (firstBad (isFreshIn (map invocationSeen (take count invocations))) (upTo count)) ⌝ }
 {
     let mut later = 0;

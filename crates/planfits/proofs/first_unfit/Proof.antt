@@ -6,7 +6,7 @@ use Rattle.planfits.proofs.first_unfit.Statement.{statement}
 use Rattle.planfits.proofs.first_unfit.Tie as tie
 
 first-without-mode-requires : tie.Need-first-without-mode-requires
-first-without-mode-requires c κs = c .before .before .before .mode-count .ensures .1
+first-without-mode-requires c κs = (c .before .before .before .mode-count .ensures .1, c .before .before .before .before .module-count .ensures .1)
 
 add-t12 : tie.Need-add-t12
 add-t12 c =

@@ -16,7 +16,7 @@ use Rattle.planfits.proofs.has_mode.Statement.{statement}
 use Rattle.planfits.proofs.has_mode.Tie as tie
 
 abbrev Inv-loop : tie.InvT-loop
-Inv-loop count home modes k₀ k = (k ≤ count) × (any (isHome home) (take k (map modeSeen (take count modes))) ≡ false)
+Inv-loop count home modes k₀ k = (k ≤ count) × (any (isHome (home .0)) (take k (map modeSeen (take count modes))) ≡ false)
 
 abbrev μ-loop : tie.MeasureT-loop
 μ-loop count home modes k₀ k = count - k
@@ -27,16 +27,18 @@ loop-holds c = (search needs, refl)
 returns : tie.Need-returns Inv-loop μ-loop
 unfolding hasModeIn isHome modeSeen modeLaid
 returns c =
-    let c1 = c .before .before .before in
+    let c1 = c .before .before .before .before in
     sym (any-part-hit modeSeen (isHome _) _ _ _ (omega (arith, c1 .before .before .good .0 .1 .0 .1)) (modeLaid noMode)
-    (c1 .loop-test .taken) (eq-eqb _ _ (sym (c .before .place .ensures) ∙ c .if1 .taken)))
+    (c1 .loop-test .taken) (eq-eqb _ _ (c .if1 .taken)))
 
 loop-again : tie.Need-loop-again Inv-loop μ-loop
 unfolding isHome modeSeen modeLaid
-loop-again c = (
+loop-again c =
+    let c1 = c .before .before .before .before in
+    (
   search needs,
-  any-part-missed modeSeen (isHome _) _ _ _ (omega (arith, c .before .before .before .before .before .good .0 .1 .0 .1)) (modeLaid noMode) (c .before .before .before .loop-test .taken) (c .before .before .before .before .loop .inv .1)
-      (ne-eqb _ _ (λ e. c .if1 .left (c .before .place .ensures ∙ e))),
+  any-part-missed modeSeen (isHome _) _ _ _ (omega (arith, c1 .before .before .good .0 .1 .0 .1)) (modeLaid noMode) (c1 .loop-test .taken) (c1 .before .loop .inv .1)
+      (ne-eqb _ _ (c .if1 .left)),
 )
 
 returns-2 : tie.Need-returns-2 Inv-loop μ-loop
@@ -48,5 +50,4 @@ returns-2 c =
 pub has-mode-spec : {M : Type 1} → statement M
 has-mode-spec =
     tie.close
-    (tie.spec Inv-loop μ-loop loop-holds (λ c. search needs) (λ c. search needs) (λ c κs. search needs) returns (λ c. search needs)
-    (λ c. search needs) loop-again returns-2)
+    (tie.spec Inv-loop μ-loop loop-holds (λ c. search needs) (λ c. search needs) returns (λ c. search needs) (λ c. search needs) loop-again returns-2)
