@@ -1,7 +1,8 @@
--- The numbers of `fill`: the frame table read at a row's place, and the rows after all stores.
-use mathlib.Core.Path.{_≡_, sym, ap, _∙_}
+-- The numbers of `fill`: the frame table read at a row's place, and the rows after its two passes.
+use mathlib.Core.Path.{_≡_, sym, ap, ap₂, _∙_}
 use mathlib.Core.List.{List}
 use mathlib.Core.Logic.{_⊎_, inl, inr}
+use native.Mathlib.Nat.{zero-add, eq-or-lt-of-le}
 use native.Mathlib.Omega.{arith}
 use lib.ListN.{length, getD, replicate, length-replicate, getD-replicate}
 use borrow.Author.Tests.{lt-ltb, le-ltb, le-leb, lt-leb}
@@ -9,10 +10,13 @@ use Prim.Native.Nat.{ℕ, _≤_, _<_}
 use Rattle.laws.specs.Lists.{tab}
 use Rattle.laws.specs.Loops.{stores}
 use Rattle.laws.proofs.Orders.{le-or-lt}
-use Rattle.laws.proofs.Loops.{stores-all, stores-at, stores-beyond, length-stores}
+use Rattle.laws.proofs.Lists.{length-tab, getD-tab}
+use Rattle.laws.proofs.Laid.{tab-same}
+use Rattle.laws.proofs.Loops.{stores-all, stores-at, stores-beyond, stores-next, length-stores}
 use Rattle.rows.specs.declared.Rows.{Rows}
 use Rattle.units.specs.declared.Frame.{Frame}
 use Rattle.framerows.specs.Frames.{zeroFrame, withinPlaces, frameAt, frameIn, frameTable, endIn, filled}
+use Rattle.framerows.specs.Passes.{derivedRow, startedRow, tabledRow, tabled}
 
 -- ---- at most 256
 
@@ -30,6 +34,13 @@ within-most k = by-place (le-or-lt 256 k)
     by-place : (256 ≤ k) ⊎ (k < 256) → withinPlaces k ≤ 256
     by-place (inl h) = let e : 256 ≡ withinPlaces k = within-past k h in omega arith
     by-place (inr h) = let e : k ≡ withinPlaces k = within-below k h in omega arith
+
+pub within-all : (n : ℕ) → n ≤ 256 → n ≡ withinPlaces n
+within-all n h = by-case (eq-or-lt-of-le h)
+  where
+    by-case : (n ≡ 256) ⊎ (n < 256) → n ≡ withinPlaces n
+    by-case (inl e) = e ∙ within-past n (omega arith)
+    by-case (inr l) = within-below n l
 
 -- ---- the lent rows that are written
 
@@ -88,10 +99,49 @@ pub filled-all : (r : Rows) (ys : List Frame) → 256 ≤ length ys → filled r
 unfolding filled
 filled-all r ys h = rw (le-leb 256 (length ys) h)
 
--- after the last store every lent row is as it should be
-pub filled-end : (r : Rows) (ys : List Frame) (i : ℕ) → i ≡ endIn (length ys) → stores ys (frameIn r) i ≡ filled r ys
-filled-end r ys i e = by-length (le-or-lt 256 (length ys))
+-- ---- a pass beside a frame table
+
+module _ (g : Frame → Frame → Frame) (ts ys : List Frame) where
+  -- what a turn stores
+  pub as-tabled : (k : ℕ) (ws : List Frame) (p : ℕ) (u : Frame) → ws ≡ stores ys (tabledRow g ts ys) k → p ≡ withinPlaces k → u ≡ g (getD ws k zeroFrame) (getD ts p zeroFrame)
+      → u ≡ tabledRow g ts ys k
+  unfolding tabledRow
+  as-tabled k ws p u e f h = h ∙ ap₂ g (ap (λ (l : List Frame). getD l k zeroFrame) e ∙ stores-next ys (tabledRow g ts ys) k zeroFrame) (ap (λ (i : ℕ). getD ts i zeroFrame) f)
+
+  pub tabled-end : (k : ℕ) (ws : List Frame) → ws ≡ stores ys (tabledRow g ts ys) k → k ≡ endIn (length ys) → ws ≡ tabled g ts ys
+  unfolding tabled
+  tabled-end k ws e h = e ∙ ap (stores ys (tabledRow g ts ys)) h
+
+  tabled-few : length ys < 256 → tabled g ts ys ≡ ys
+  unfolding tabled
+  tabled-few h = ap (stores ys (tabledRow g ts ys)) (sym (end-none (length ys) h))
+
+  tabled-all : 256 ≤ length ys → tabled g ts ys ≡ tab (tabledRow g ts ys) 0 (length ys)
+  unfolding tabled
+  tabled-all h = ap (stores ys (tabledRow g ts ys)) (sym (end-all (length ys) h)) ∙ stores-all ys (tabledRow g ts ys)
+
+-- frames derived and then started are the rows
+pub derived-started : (r : Rows) (ys : List Frame) → tabled startedRow (frameTable r) (tabled derivedRow (frameTable r) ys) ≡ filled r ys
+unfolding tabledRow
+derived-started r ys = by-length (le-or-lt 256 (length ys))
   where
-    by-length : (256 ≤ length ys) ⊎ (length ys < 256) → stores ys (frameIn r) i ≡ filled r ys
-    by-length (inl h) = ap (stores ys (frameIn r)) (e ∙ sym (end-all (length ys) h)) ∙ stores-all ys (frameIn r) ∙ sym (filled-all r ys h)
-    by-length (inr h) = ap (stores ys (frameIn r)) (e ∙ sym (end-none (length ys) h)) ∙ sym (filled-few r ys h)
+    ts : List Frame
+    ts = frameTable r
+
+    n : ℕ
+    n = length ys
+
+    ds : List Frame
+    ds = tab (tabledRow derivedRow ts ys) 0 n
+
+    long : length ds ≡ n
+    long = length-tab (tabledRow derivedRow ts ys) 0 n
+
+    row-both : (k : ℕ) → k < n → tabledRow startedRow ts ds k ≡ frameIn r k
+    row-both k h = rw (getD-tab (tabledRow derivedRow ts ys) 0 n k zeroFrame h, zero-add k, table-read r k)
+
+    by-length : (256 ≤ n) ⊎ (n < 256) → tabled startedRow ts (tabled derivedRow ts ys) ≡ filled r ys
+    by-length (inl h) =
+        ap (tabled startedRow ts) (tabled-all derivedRow ts ys h) ∙ tabled-all startedRow ts ds (rw long h) ∙ ap (tab (tabledRow startedRow ts ds) 0) long
+        ∙ tab-same (tabledRow startedRow ts ds) (frameIn r) 0 n (λ u _ l. row-both u (rw (zero-add n) at l)) ∙ sym (filled-all r ys h)
+    by-length (inr h) = ap (tabled startedRow ts) (tabled-few derivedRow ts ys h) ∙ tabled-few startedRow ts ys h ∙ sym (filled-few r ys h)

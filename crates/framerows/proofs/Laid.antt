@@ -2,7 +2,6 @@
 use mathlib.Core.Path.{_≡_, refl, sym, ap, _∙_}
 use mathlib.Core.List.{List, [], _∷_, _++_, map}
 use mathlib.Core.Logic.{_⊎_, inl, inr}
-use native.Mathlib.Nat.{eq-or-lt-of-le}
 use native.Mathlib.Omega.{arith}
 use lib.ListN.{length, getD, replicate, length-replicate, length-append, List·getD-eq-default}
 use Prim.Native.Nat.{ℕ, zero, suc, _+_, _-_, _≤_, _<_}
@@ -14,7 +13,7 @@ use Rattle.rows.specs.declared.Rows.{Rows}
 use Rattle.rows.specs.Rows.{rowTask, rowRelease, rowDeadline, rowStart, rowsLaid}
 use Rattle.units.specs.declared.Frame.{Frame}
 use Rattle.framerows.specs.Frames.{rowOf, frameOf, withinPlaces, frameAt, frameIn, filled}
-use Rattle.framerows.proofs.Filled.{within-below, within-past, frame-there, frame-behind, filled-few, filled-all}
+use Rattle.framerows.proofs.Filled.{within-all, frame-there, frame-behind, filled-few, filled-all}
 
 -- ---- a frame struct and its row say the same
 
@@ -30,13 +29,6 @@ pub rows-once : (fs gs : List Frame) → map rowOf fs ≡ map rowOf gs → fs �
 rows-once fs gs e = sym (frames-said fs) ∙ ap (map frameFor) e ∙ frames-said gs
 
 -- ---- what is lent and filled
-
-within-all : (n : ℕ) → n ≤ 256 → n ≡ withinPlaces n
-within-all n h = by-case (eq-or-lt-of-le h)
-  where
-    by-case : (n ≡ 256) ⊎ (n < 256) → n ≡ withinPlaces n
-    by-case (inl e) = e ∙ within-past n (omega arith)
-    by-case (inr l) = within-below n l
 
 -- behind a list, filled up with the default, stands the default
 getD-filled : {A : Type 0} (l : List A) (m k : ℕ) (z : A) → getD (l ++ replicate m z) k z ≡ getD l k z

@@ -1,5 +1,9 @@
 pub mod Filled
+pub mod Scanned
+pub mod Laid
 pub mod Lent
 pub mod Two
 pub mod Calls
-pub mod Laid
+pub mod Lending
+pub mod Tabled
+pub mod Carried

@@ -1,0 +1,110 @@
+-- The numbers of a pass that carries a Bool; what the scan for rule 25 and the clearing come to.
+use mathlib.Core.Path.{_≡_, refl, sym, ap, _∙_}
+use mathlib.Core.Bool.{Bool, true, false, cond}
+use mathlib.Core.List.{List}
+use mathlib.Core.Logic.{_⊎_, inl, inr}
+use native.Mathlib.Nat.{zero-add}
+use native.Mathlib.Numerals.{add-one}
+use native.Mathlib.Omega.{arith}
+use lib.Dec.{ltb}
+use lib.ListN.{length, getD}
+use borrow.Author.Tests.{ltb-false}
+use Prim.Native.Nat.{ℕ, zero, suc, _+_, _≤_, _<_}
+use Rattle.laws.specs.Lists.{tab}
+use Rattle.laws.specs.Loops.{stores}
+use Rattle.laws.proofs.Lists.{neither-left, neither-right, length-tab, getD-tab}
+use Rattle.laws.proofs.Orders.{le-or-lt}
+use Rattle.laws.proofs.Loops.{stores-all, stores-next}
+use Rattle.laws.proofs.Stores.{stores-idle}
+use Rattle.laws.proofs.Laid.{tab-same}
+use Rattle.rows.specs.declared.Rows.{Rows}
+use Rattle.units.specs.declared.Frame.{Frame}
+use Rattle.framerows.specs.declared.Step.{Step}
+use Rattle.framerows.specs.Frames.{zeroFrame, frameAt, frameIn, endIn, filled}
+use Rattle.framerows.specs.Passes.{foundIn, passedRow, foundAfter, rowsAfter, lookedRow, clearedRow}
+use Rattle.framerows.proofs.Filled.{within-all, end-none, end-all, frame-there, filled-few, filled-all}
+
+-- ---- a turn, and the end
+
+module _ (g : Bool → Frame → Step) (b : Bool) (ys : List Frame) where
+  at-row : (k : ℕ) (ws : List Frame) → ws ≡ stores ys (passedRow g b ys) k → getD ws k zeroFrame ≡ getD ys k zeroFrame
+  at-row k ws e = ap (λ (l : List Frame). getD l k zeroFrame) e ∙ stores-next ys (passedRow g b ys) k zeroFrame
+
+  pub as-found : (k : ℕ) (ws : List Frame) (u : Step) → ws ≡ stores ys (passedRow g b ys) k → u ≡ g (foundIn g b ys k) (getD ws k zeroFrame) → u .found ≡ foundIn g b ys (k + 1)
+  unfolding foundIn
+  as-found k ws u e h = ap (λ (z : Step). z .found) (h ∙ ap (g (foundIn g b ys k)) (at-row k ws e)) ∙ ap (foundIn g b ys) (sym (add-one k))
+
+  pub as-passed : (k : ℕ) (ws : List Frame) (u : Step) → ws ≡ stores ys (passedRow g b ys) k → u ≡ g (foundIn g b ys k) (getD ws k zeroFrame) → u .row ≡ passedRow g b ys k
+  unfolding passedRow
+  as-passed k ws u e h = ap (λ (z : Step). z .row) (h ∙ ap (g (foundIn g b ys k)) (at-row k ws e))
+
+  pub carried-end : (k : ℕ) (ws : List Frame) → ws ≡ stores ys (passedRow g b ys) k → k ≡ endIn (length ys) → (foundIn g b ys k ≡ foundAfter g b ys) × (ws ≡ rowsAfter g b ys)
+  unfolding foundAfter rowsAfter
+  carried-end k ws e h = (ap (foundIn g b ys) h, e ∙ ap (stores ys (passedRow g b ys)) h)
+
+-- ---- the scan for rule 25
+
+-- it leaves the rows
+pub looked-rows : (b : Bool) (ys : List Frame) → rowsAfter lookedRow b ys ≡ ys
+unfolding rowsAfter passedRow lookedRow
+looked-rows b ys = sym (stores-idle ys (passedRow lookedRow b ys) (endIn (length ys)) zeroFrame (λ k _. refl))
+
+-- where it finds nothing, no row that it has seen is early
+none-found : (ys : List Frame) (n : ℕ) → foundIn lookedRow false ys n ≡ false → (k : ℕ) → k < n → getD ys k zeroFrame .release .0 ≤ getD ys k zeroFrame .start .0
+unfolding foundIn lookedRow
+none-found ys zero e k h = absurd (omega arith)
+none-found ys (suc n) e k h = here (le-or-lt n k)
+    (none-found ys n (neither-right (ltb (getD ys n zeroFrame .start .0) (getD ys n zeroFrame .release .0)) (foundIn lookedRow false ys n) e) k)
+  where
+    last : ltb (getD ys n zeroFrame .start .0) (getD ys n zeroFrame .release .0) ≡ false
+    last = neither-left (ltb (getD ys n zeroFrame .start .0) (getD ys n zeroFrame .release .0)) (foundIn lookedRow false ys n) e
+
+    here : (n ≤ k) ⊎ (k < n) → (k < n → getD ys k zeroFrame .release .0 ≤ getD ys k zeroFrame .start .0) → getD ys k zeroFrame .release .0 ≤ getD ys k zeroFrame .start .0
+    here (inl l) before =
+        let same : k ≡ n = omega arith in
+        rw same (ltb-false (getD ys n zeroFrame .start .0) (getD ys n zeroFrame .release .0) last)
+    here (inr l) before = before l
+
+-- of rows that were filled: no frame's start lies before its release
+pub filled-released : (r : Rows) (ys : List Frame) → 256 ≤ length ys → r .frames ≤ 256 → foundAfter lookedRow false (filled r ys) ≡ false
+    → (k : ℕ) → k < r .frames → getD (r .release) k 0 ≤ getD (r .start) k 0
+unfolding foundAfter frameAt
+filled-released r ys enough few e k h = there
+  where
+    n : ℕ
+    n = length ys
+
+    found : foundIn lookedRow false (tab (frameIn r) 0 n) n ≡ false
+    found = rw (filled-all r ys enough, length-tab (frameIn r) 0 n, sym (end-all n enough)) at e
+
+    in-row : getD (tab (frameIn r) 0 n) k zeroFrame ≡ frameAt r k
+    in-row = getD-tab (frameIn r) 0 n k zeroFrame (omega (arith, h, few, enough)) ∙ ap (frameIn r) (zero-add k) ∙ frame-there r k (rw (sym (within-all (r .frames) few)) h)
+
+    there : getD (r .release) k 0 ≤ getD (r .start) k 0
+    there = rw in-row at (none-found (tab (frameIn r) 0 n) n found k (omega (arith, h, few, enough)))
+
+-- ---- clearing
+
+cleared-found : (b : Bool) (ys : List Frame) (n : ℕ) → foundIn clearedRow b ys n ≡ b
+unfolding foundIn clearedRow
+cleared-found b ys zero = refl
+cleared-found b ys (suc n) = cleared-found b ys n
+
+cleared-row : (b : Bool) (ys : List Frame) (k : ℕ) → passedRow clearedRow b ys k ≡ cond b zeroFrame (getD ys k zeroFrame)
+unfolding passedRow clearedRow
+cleared-row b ys k = rw (cleared-found b ys k)
+
+-- where nothing is refused the rows stay
+pub cleared-not : (ys : List Frame) → rowsAfter clearedRow false ys ≡ ys
+unfolding rowsAfter
+cleared-not ys = sym (stores-idle ys (passedRow clearedRow false ys) (endIn (length ys)) zeroFrame (λ k _. cleared-row false ys k))
+
+pub cleared-few : (b : Bool) (ys : List Frame) → length ys < 256 → rowsAfter clearedRow b ys ≡ ys
+unfolding rowsAfter
+cleared-few b ys h = ap (stores ys (passedRow clearedRow b ys)) (sym (end-none (length ys) h))
+
+pub cleared-all : (ys : List Frame) → 256 ≤ length ys → rowsAfter clearedRow true ys ≡ tab (λ k. zeroFrame) 0 (length ys)
+unfolding rowsAfter
+cleared-all ys h =
+    ap (stores ys (passedRow clearedRow true ys)) (sym (end-all (length ys) h)) ∙ stores-all ys (passedRow clearedRow true ys)
+    ∙ tab-same (passedRow clearedRow true ys) (λ k. zeroFrame) 0 (length ys) (λ u _ _. cleared-row true ys u)
