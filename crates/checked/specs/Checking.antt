@@ -32,7 +32,7 @@ pub record Checks (r : Checked) (rule : Res rules.Passed) : Type 0 where
   pub answered : heard (r .answer) ≡ verdict rule
   pub left : r .rows ≡ rowsLaid (rowsOf rule)
 
--- "fewer than 256 frame rows lent", 19 before all; then the plan's refusals, then the table's
+-- too few frame rows lent, 19, comes before all; then the plan's refusals, then the table's
 unfoldable pub lentPassed : List ℕ → List ℕ → ℕ → Res rules.Passed
 lentPassed plan table lent = do
   unless 19 mostFrames (leb mostFrames lent)
@@ -45,13 +45,13 @@ rowsOn l starts =
 
 -- The answer passes exactly the tables of laid out plans that keep every rule.
 unfoldable pub PassesExactly : Verdict → List ℕ → List ℕ → ℕ → Type 0
-PassesExactly a plan table lent = (a ≡ Fine) ↔ ((256 ≤ lent) × MayPass plan table)
+PassesExactly a plan table lent = (a ≡ Fine) ↔ ((mostFrames ≤ lent) × MayPass plan table)
 
 -- The answer refuses exactly by the first fault: 19 where too few rows are lent, else the plan's or the table's first; 20 exactly
 -- where the table first breaks the record rules; 21 to 27 exactly where that rule is the first that is broken, at its lowest record.
 pub record RefusesExactly (a : Verdict) (plan table : List ℕ) (lent : ℕ) : Type 0 where
   pub first :
       (n p : ℕ) →
-      (heard a ≡ refuse n p) ↔ (((lent < 256) × (n ≡ 19) × (p ≡ 256)) ⊎ ((256 ≤ lent) × CheckFault plan table n p))
-  pub unread : (p : ℕ) → (heard a ≡ refuse 20 p) ↔ ((256 ≤ lent) × UnreadAt plan table p)
-  pub rule : (i p : ℕ) → i < 7 → (heard a ≡ refuse (21 + i) p) ↔ ((256 ≤ lent) × BrokenAt plan table i p)
+      (heard a ≡ refuse n p) ↔ (((lent < mostFrames) × (n ≡ 19) × (p ≡ mostFrames)) ⊎ ((mostFrames ≤ lent) × CheckFault plan table n p))
+  pub unread : (p : ℕ) → (heard a ≡ refuse 20 p) ↔ ((mostFrames ≤ lent) × UnreadAt plan table p)
+  pub rule : (i p : ℕ) → i < 7 → (heard a ≡ refuse (21 + i) p) ↔ ((mostFrames ≤ lent) × BrokenAt plan table i p)

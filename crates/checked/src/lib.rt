@@ -8,6 +8,7 @@ use answers::Refusal;
 use answers::Verdict;
 use line::Line;
 use rows::Rows;
+use units::Frame;
 
 // The answer, and the frames by number with the starts of the table that was checked; no rows where it is refused.
 pub struct Checked {
@@ -25,7 +26,7 @@ pub fn refused(why: Refusal) -> Checked
 }
 
 // The frames of a line with a start for each.
-pub fn rows_on(line: Line, starts: [u32; 256]) -> Rows
+pub fn rows_on(line: Line, starts: [u32; Frame::MOST]) -> Rows
     ensures { λ r. ⌜ r ≡ rowsOn line starts ⌝ }
 {
     let task = line.task;

@@ -1,12 +1,16 @@
 -- The ways out of a check: what each answers is what the rules say there.
 use mathlib.Core.Path.{_≡_, refl, sym, ap, _∙_}
+use mathlib.Core.Bool.{Bool, true, false}
 use mathlib.Core.List.{List, [], _∷_, map}
+use mathlib.Core.Logic.{_⊎_, inl, inr}
 use native.Mathlib.Omega.{arith}
+use lib.Dec.{lit≤}
 use lib.ListN.{length-map}
 use Prim.Native.Nat.{ℕ, _≤_, _<_}
-use Rattle.laws.specs.Res.{Res, ok, refuse}
+use Rattle.laws.specs.Res.{Res, ok, refuse, _>>_}
 use Rattle.laws.specs.Loops.{padTo}
-use Rattle.laws.proofs.Res.{refuse≢ok, refuse-number, refuse-place, bind-case, bind-refused}
+use Rattle.laws.proofs.Lists.{true-false}
+use Rattle.laws.proofs.Res.{refuse≢ok, ok-injective, refuse-number, refuse-place, bind-case, bind-refused, then-case}
 use Rattle.units.specs.declared.Offset.{Offset}
 use Rattle.rules.specs.Records.{Rec, records, tableFollows}
 use Rattle.rules.specs.Plan.{readPlan}
@@ -18,6 +22,7 @@ use Rattle.answers.specs.declared.Refusal.{Refusal}
 use Rattle.answers.specs.declared.Refusal.the-variants.{TooFewRows, BadTableRecords}
 use Rattle.answers.specs.Refusals.{numberOf, placeOf, said, heard}
 use Rattle.line.specs.declared.Laid.{Laid}
+use Rattle.line.specs.declared.Line.{Line}
 use Rattle.line.specs.Line.{lineOf, taskOf, releaseOf, deadlineOf}
 use Rattle.line.specs.Laying as laying
 use Rattle.line.specs.Laying.{Lays, fileLaid}
@@ -26,18 +31,28 @@ use Rattle.tableread.specs.declared.Outcome.the-variants.{Whole, Broken}
 use Rattle.judging.specs.declared.Judgement.{Judgement}
 use Rattle.naming.specs.Places.{Numbered}
 use Rattle.tableread.specs.Memory.{layOut, seen, readingOf}
-use Rattle.judging.specs.Judged.{framesOn, lineJudged, Right}
+use Rattle.judging.specs.Judged.{framesOn, lineJudged, NoneEarly, Right}
 use Rattle.line.proofs.Drawn.{Drawn, drawn}
 use Rattle.judging.proofs.Layouts.{line-numbered, line-controls, line-right}
 use Rattle.rows.specs.declared.Rows.{Rows}
 use Rattle.rows.specs.Rows.{rowTask, rowRelease, rowDeadline, rowStart, rowsLaid}
+use Rattle.answers.specs.declared.Verdict.{Verdict}
 use Rattle.answers.specs.declared.Verdict.the-variants.{Fine, Refused}
 use Rattle.checked.specs.declared.Checked.{Checked}
-use Rattle.checked.specs.Checking.{Checks, lentPassed, rowsOn, PassesExactly, RefusesExactly}
+use Rattle.checker.specs.Unscanned.{Judged, refuses, Settles}
+use Rattle.checker.specs.declared.Settled.{Settled}
+use Rattle.checked.specs.Checking.{Checks, verdict, lentPassed, rowsOn, PassesExactly, RefusesExactly}
 use Rattle.checked.proofs.Rules.{enough-is, short-is}
 use Rattle.checked.proofs.Exact.{passes-exactly, refuses-exactly}
 
--- ---- the contract
+-- ---- the contracts
+
+abbrev refusedBy : Refusal → Checked
+refusedBy x = record { answer = Refused x; rows = rowsLaid [] }
+
+judged-refused : (early : Bool) (lent : ℕ) (x : Refusal) (r : Checked) (rule : Res rules.Passed) → r ≡ refusedBy x → rule ≡ said x → Judged early lent r rule
+unfolding rowsLaid
+judged-refused early lent x r rule e q = record { answered = λ _. rw (e, q); left = λ c p. refuse≢ok (sym q ∙ p); few = rw e (lit≤ tt) }
 
 -- what `check` says of its result
 abbrev Says : Checked → List ℕ → List ℕ → ℕ → Type 0
@@ -49,11 +64,22 @@ says : (r : Checked) (plan table : List ℕ) (lent : ℕ) → Checks r (lentPass
 says r plan table lent h =
     (h, (passes-exactly (r .answer) plan table lent (h .answered), refuses-exactly (r .answer) plan table lent (h .answered)))
 
-abbrev refusedBy : Refusal → Checked
-refusedBy x = record { answer = Refused x; rows = rowsLaid [] }
+-- with every rule looked at: no rows where it refuses
+checks-refused : (x : Refusal) (r : Checked) (rule : Res rules.Passed) → r ≡ refusedBy x → said x ≡ verdict rule → Checks r rule
+checks-refused x r (ok c) e q = refuse≢ok q
+checks-refused x r (refuse n p) e q = record { answered = rw e q; left = rw e }
 
-checks-refused : (x : Refusal) (r : Checked) (rule : Res rules.Passed) → r ≡ refusedBy x → rule ≡ said x → Checks r rule
-checks-refused x r rule e q = record { answered = rw (e, q); left = rw (e, q) }
+checks-fine : (r : Checked) (rule : Res rules.Passed) {lent : ℕ} → Judged true lent r rule → r .answer ≡ Fine → Checks r rule
+checks-fine r (ok c) h e = record { answered = h .answered (inl refl); left = h .left c refl }
+checks-fine r (refuse n p) h e =
+    let z : ok tt ≡ refuse n p = sym (ap heard e) ∙ h .answered (inl refl) in refuse≢ok (sym z)
+
+module _ (plan table : List ℕ) (lent : ℕ) (all : Checked) (h : Judged true lent all (lentPassed plan table lent)) where
+  pub way-refused : (why : Refusal) (r : Checked) → all .answer ≡ Refused why → r ≡ refusedBy why → Says r plan table lent
+  way-refused why r q e = says r plan table lent (checks-refused why r (lentPassed plan table lent) e (sym (ap heard q) ∙ h .answered (inl refl)))
+
+  pub way-fine : all .answer ≡ Fine → Says all plan table lent
+  way-fine q = says all plan table lent (checks-fine all (lentPassed plan table lent) h q)
 
 -- ---- a plan that was laid out
 
@@ -111,12 +137,33 @@ rows-laid l t =
       map-twice (checkedRow t) rowStart (startIn (t .rows)) (l .frames) (λ f. refl),
     ))
 
+module _ (l : Layout) (d : Drawn l) (t : TableRead) (early : Bool) (j : Judgement) (right : Right early (lineOf l .release) (lineOf l .frames) (judged l t) (l .frames) t j) where
+  -- the rules' answer to the judgement
+  passing : (m : Res (Unit {0})) → m ≡ verdict (_>>_ m (ok (record { layout = l; table = t })))
+  passing (ok u) = refl
+  passing (refuse n p) = refl
+
+  judged-by : (lent : ℕ) (r : Checked) (rule : Res rules.Passed) → 256 ≤ lent → rule ≡ _>>_ (judged l t) (ok (record { layout = l; table = t }))
+      → r ≡ record { answer = j .verdict; rows = rowsOn (lineOf l) (j .starts) } → Judged early lent r rule
+  unfolding rowsOn
+  judged-by lent r rule enough q e =
+      record {
+        answered = λ h. rw (e, q) (right .verdict (looked (rw e at h)) ∙ passing (judged l t));
+        left = λ c p. then-case (judged l t) (ok (record { layout = l; table = t })) (sym q ∙ p) λ _ passed is.
+            rw (e, sym (ok-injective is), right .starts passed) (rows-laid l t);
+        few = rw e (line-numbered l d .room);
+      }
+    where
+      looked : (early ≡ true) ⊎ (256 ≤ lent → NoneEarly (lineOf l .release) (j .starts) (lineOf l .frames)) → (early ≡ true) ⊎ NoneEarly (lineOf l .release) (j .starts) (lineOf l .frames)
+      looked (inl h) = inl h
+      looked (inr h) = inr (h enough)
+
 -- ---- the ways out
 
-module _ (plan table : List ℕ) (lent : ℕ) (r : Checked) where
+module _ (plan table : List ℕ) (lent : ℕ) (early : Bool) (r : Checked) where
   -- 19
-  pub way-few : lent < 256 → r ≡ refusedBy TooFewRows → Says r plan table lent
-  way-few h e = says r plan table lent (checks-refused TooFewRows r (lentPassed plan table lent) e (short-is plan table lent h))
+  pub way-few : lent < 256 → r ≡ refusedBy TooFewRows → Judged early lent r (lentPassed plan table lent)
+  way-few h e = judged-refused early lent TooFewRows r (lentPassed plan table lent) e (short-is plan table lent h)
 
   module _ (enough : 256 ≤ lent) (x : Laid) (h : Lays x (fileLaid plan)) where
     -- 1 to 11
@@ -124,11 +171,10 @@ module _ (plan table : List ℕ) (lent : ℕ) (r : Checked) where
     unfolding checkFiles fileLaid
     plan-refused n p e = bind-refused (readPlan plan) layout e (λ a. rw a) (λ q a b. rw (a, b))
 
-    pub way-plan : (why : Refusal) → x .answer ≡ Refused why → r ≡ refusedBy why → Says r plan table lent
+    pub way-plan : (why : Refusal) → x .answer ≡ Refused why → r ≡ refusedBy why → Judged early lent r (lentPassed plan table lent)
     way-plan why q e =
         let n : fileLaid plan ≡ said why = laid-refused (numberOf why) (placeOf why) (fileLaid plan) (sym (h .answered) ∙ ap heard q) in
-        says r plan table lent
-        (checks-refused why r (lentPassed plan table lent) e (enough-is plan table lent enough ∙ plan-refused (numberOf why) (placeOf why) n))
+        judged-refused early lent why r (lentPassed plan table lent) e (enough-is plan table lent enough ∙ plan-refused (numberOf why) (placeOf why) n)
 
     module _ (sound : x .answer ≡ Fine) (reading : Reading) (is : reading ≡ readingOf (records tableFollows 20 table)) where
       -- 20
@@ -138,48 +184,34 @@ module _ (plan table : List ℕ) (lent : ℕ) (r : Checked) where
           bind-case (readPlan plan) layout laid λ q isRead isLaid.
           rw (isRead, isLaid, e, records-refused tableFollows 20 table n p .0 e .0)
 
-      pub way-records : (at : Offset) → reading .outcome ≡ Broken at → r ≡ refusedBy (BadTableRecords at) → Says r plan table lent
+      pub way-records : (at : Offset) → reading .outcome ≡ Broken at → r ≡ refusedBy (BadTableRecords at) → Judged early lent r (lentPassed plan table lent)
       way-records at q e =
           laid-sound (fileLaid plan) x h sound λ l laid same.
           let b = reading-broken (records tableFollows 20 table) reading at is q in
-          says r plan table lent
-          (checks-refused (BadTableRecords at) r (lentPassed plan table lent) e
-          (enough-is plan table lent enough ∙ broken-refused l laid (b .0) (at .0) (b .1)))
+          judged-refused early lent (BadTableRecords at) r (lentPassed plan table lent) e
+          (enough-is plan table lent enough ∙ broken-refused l laid (b .0) (at .0) (b .1))
 
       -- 21 to 27
-      module _ (whole : reading .outcome ≡ Whole) (j : Judgement)
-          (right : Right (lineJudged (x .line) (seen (reading .table))) (framesOn (x .line)) (seen (reading .table)) j) where
-        as-read : {C : Type 0} → ((l : Layout) (rs : List Rec) → fileLaid plan ≡ ok l → records tableFollows 20 table ≡ ok rs → x .line ≡ lineOf l
-            → Right (judged l (tableOf rs)) (l .frames) (tableOf rs) j → C) → C
-        as-read go =
-            laid-sound (fileLaid plan) x h sound λ l laid same.
-            reading-whole (records tableFollows 20 table) reading is whole λ rs areRows held.
-            go l rs laid areRows same (line-right l (file-drawn plan l laid) (tableOf rs) (rw (same, held) at right))
+      judged-is : (l : Layout) (rs : List Rec) → fileLaid plan ≡ ok l → records tableFollows 20 table ≡ ok rs
+          → lentPassed plan table lent ≡ _>>_ (judged l (tableOf rs)) (ok (record { layout = l; table = tableOf rs }))
+      unfolding checkFiles fileLaid
+      judged-is l rs laid areRows = enough-is plan table lent enough ∙ bind-case (readPlan plan) layout laid λ q isRead isLaid. rw (isRead, isLaid, areRows)
 
-        judged-refused : (l : Layout) (rs : List Rec) (n p : ℕ) → fileLaid plan ≡ ok l → records tableFollows 20 table ≡ ok rs → judged l (tableOf rs) ≡ refuse n p
-            → checkFiles plan table ≡ refuse n p
-        unfolding checkFiles fileLaid
-        judged-refused l rs n p laid areRows e = bind-case (readPlan plan) layout laid λ q isRead isLaid. rw (isRead, isLaid, areRows, e)
+      pub way-judged : reading .outcome ≡ Whole → (j : Judgement)
+          → Right early (x .line .release) (x .line .frames) (lineJudged (x .line) (seen (reading .table))) (framesOn (x .line)) (seen (reading .table)) j
+          → (rows : Rows) → rows ≡ rowsOn (x .line) (j .starts) → r ≡ record { answer = j .verdict; rows = rows } → Judged early lent r (lentPassed plan table lent)
+      way-judged whole j right rows e same-r =
+          laid-sound (fileLaid plan) x h sound λ l laid same.
+          reading-whole (records tableFollows 20 table) reading is whole λ rs areRows held.
+          let d = file-drawn plan l laid in
+          let seenRight : Right early (lineOf l .release) (lineOf l .frames) (judged l (tableOf rs)) (l .frames) (tableOf rs) j = line-right l d (tableOf rs) (rw (same, held) at right) in
+          judged-by l d (tableOf rs) early j seenRight lent r (lentPassed plan table lent) enough (judged-is l rs laid areRows) (same-r ∙ ap (λ (z : Rows). record { answer = j .verdict; rows = z }) (e ∙ ap (λ (z : Line). rowsOn z (j .starts)) same))
 
-        judged-passed : (l : Layout) (rs : List Rec) → fileLaid plan ≡ ok l → records tableFollows 20 table ≡ ok rs → judged l (tableOf rs) ≡ ok tt
-            → checkFiles plan table ≡ ok (record { layout = l; table = tableOf rs })
-        unfolding checkFiles fileLaid
-        judged-passed l rs laid areRows e = bind-case (readPlan plan) layout laid λ q isRead isLaid. rw (isRead, isLaid, areRows, e)
+-- ---- after the scan
 
-        pub way-judged : (why : Refusal) → j .verdict ≡ Refused why → r ≡ refusedBy why → Says r plan table lent
-        way-judged why q e =
-            as-read λ l rs laid areRows same seenRight.
-            let n : judged l (tableOf rs) ≡ said why = sym (seenRight .verdict) ∙ ap heard q in
-            says r plan table lent
-            (checks-refused why r (lentPassed plan table lent) e
-            (enough-is plan table lent enough ∙ judged-refused l rs (numberOf why) (placeOf why) laid areRows n))
+module _ (before : Verdict) (rule : Res rules.Passed) (r : Settled) where
+  pub settles-whole : (lent : ℕ) (all : Checked) → Judged true lent all rule → (r .answer ≡ all .answer) × (r .refused ≡ refuses (all .answer)) → Settles true before rule r
+  settles-whole lent all h e = record { whole = λ _. rw (e .0) (h .answered (inl refl)); kept = λ q. true-false q; refused = e .1 ∙ ap refuses (sym (e .0)) }
 
-        pub way-passed : j .verdict ≡ Fine → (rows : Rows) → rows ≡ rowsOn (x .line) (j .starts)
-            → r ≡ record { answer = Fine; rows = rows } → Says r plan table lent
-        way-passed q rows e same-r =
-            as-read λ l rs laid areRows same seenRight.
-            let n : judged l (tableOf rs) ≡ ok tt = sym (seenRight .verdict) ∙ ap heard q in
-            let passes : lentPassed plan table lent ≡ ok (record { layout = l; table = tableOf rs }) = enough-is plan table lent enough ∙ judged-passed l rs laid areRows n in
-            let starts : j .starts ≡ padTo 256 0 (map (startIn (tableOf rs .rows)) (l .frames)) = rw n at (seenRight .starts) in
-            let left : rows ≡ rowsLaid (map (checkedRow (tableOf rs)) (l .frames)) = e ∙ rw (same, starts) (rows-laid l (tableOf rs)) in
-            says r plan table lent (record { answered = rw (same-r, passes); left = rw (same-r, passes) left })
+  pub settles-kept : (r .answer ≡ before) × (r .refused ≡ refuses before) → Settles false before rule r
+  settles-kept e = record { whole = λ q. true-false (sym q); kept = λ _. e .0; refused = e .1 ∙ ap refuses (sym (e .0)) }

@@ -1,4 +1,4 @@
--- Frame rows that were laid into arrays and filled into a lent list are the rows that document 01 asks for, and a frame struct says no more than its row.
+-- Frame rows that were laid into arrays and filled into a lent list are the rows that the rules ask for, and a frame struct says no more than its row.
 use mathlib.Core.Path.{_≡_, refl, sym, ap, _∙_}
 use mathlib.Core.List.{List, [], _∷_, _++_, map}
 use mathlib.Core.Logic.{_⊎_, inl, inr}
@@ -57,7 +57,7 @@ module _ (rs : List FrameRow) (few : length rs ≤ 256) where
       by-place (inl h) = ap rowOf (frame-behind (rowsLaid rs) k (rw all-within h)) ∙ sym (List·getD-eq-default rs zeroRow h)
       by-place (inr h) = ap rowOf (frame-there (rowsLaid rs) k (rw all-within h)) ∙ row-there k h
 
-  -- "the frames by number (task, release, deadline, the table's start), then zero rows"
+  -- the frames by number with their starts, then zero rows
   pub filled-laid : (ys : List Frame) → 256 ≤ length ys → map rowOf (filled (rowsLaid rs) ys) ≡ rowsThenZero rs (length ys)
   unfolding rowsThenZero
   filled-laid ys h = ap (map rowOf) (filled-all (rowsLaid rs) ys h) ∙ map-tab (frameIn (rowsLaid rs)) rowOf 0 (length ys)

@@ -1,15 +1,15 @@
 -- The numbers of a pass that carries a Bool; what the scan for rule 25 and the clearing come to.
 use mathlib.Core.Path.{_≡_, refl, sym, ap, _∙_}
 use mathlib.Core.Bool.{Bool, true, false, cond}
-use mathlib.Core.List.{List}
+use mathlib.Core.List.{List, []}
 use mathlib.Core.Logic.{_⊎_, inl, inr}
 use native.Mathlib.Nat.{zero-add}
 use native.Mathlib.Numerals.{add-one}
 use native.Mathlib.Omega.{arith}
-use lib.Dec.{ltb}
+use lib.Dec.{ltb, lit≤}
 use lib.ListN.{length, getD}
 use borrow.Author.Tests.{ltb-false}
-use Prim.Native.Nat.{ℕ, zero, suc, _+_, _≤_, _<_}
+use Prim.Native.Nat.{ℕ, zero, suc, _+_, _≤_, _<_, zero-le}
 use Rattle.laws.specs.Lists.{tab}
 use Rattle.laws.specs.Loops.{stores}
 use Rattle.laws.proofs.Lists.{neither-left, neither-right, length-tab, getD-tab}
@@ -18,11 +18,12 @@ use Rattle.laws.proofs.Loops.{stores-all, stores-next}
 use Rattle.laws.proofs.Stores.{stores-idle}
 use Rattle.laws.proofs.Laid.{tab-same}
 use Rattle.rows.specs.declared.Rows.{Rows}
+use Rattle.rows.specs.Rows.{rowsLaid}
 use Rattle.units.specs.declared.Frame.{Frame}
 use Rattle.framerows.specs.declared.Step.{Step}
 use Rattle.framerows.specs.Frames.{zeroFrame, frameAt, frameIn, endIn, filled}
 use Rattle.framerows.specs.Passes.{foundIn, passedRow, foundAfter, rowsAfter, lookedRow, clearedRow}
-use Rattle.framerows.proofs.Filled.{within-all, end-none, end-all, frame-there, filled-few, filled-all}
+use Rattle.framerows.proofs.Filled.{within-all, end-none, end-all, frame-there, frame-behind, filled-few, filled-all}
 
 -- ---- a turn, and the end
 
@@ -99,12 +100,25 @@ pub cleared-not : (ys : List Frame) → rowsAfter clearedRow false ys ≡ ys
 unfolding rowsAfter
 cleared-not ys = sym (stores-idle ys (passedRow clearedRow false ys) (endIn (length ys)) zeroFrame (λ k _. cleared-row false ys k))
 
-pub cleared-few : (b : Bool) (ys : List Frame) → length ys < 256 → rowsAfter clearedRow b ys ≡ ys
-unfolding rowsAfter
-cleared-few b ys h = ap (stores ys (passedRow clearedRow b ys)) (sym (end-none (length ys) h))
+-- else they are those of no frames
+pub cleared-laid : (r : Rows) (ys : List Frame) → rowsAfter clearedRow true (filled r ys) ≡ filled (rowsLaid []) ys
+unfolding rowsAfter rowsLaid
+cleared-laid r ys = by-length (le-or-lt 256 (length ys))
+  where
+    ws : List Frame
+    ws = tab (frameIn r) 0 (length ys)
 
-pub cleared-all : (ys : List Frame) → 256 ≤ length ys → rowsAfter clearedRow true ys ≡ tab (λ k. zeroFrame) 0 (length ys)
-unfolding rowsAfter
-cleared-all ys h =
-    ap (stores ys (passedRow clearedRow true ys)) (sym (end-all (length ys) h)) ∙ stores-all ys (passedRow clearedRow true ys)
-    ∙ tab-same (passedRow clearedRow true ys) (λ k. zeroFrame) 0 (length ys) (λ u _ _. cleared-row true ys u)
+    long : length ws ≡ length ys
+    long = length-tab (frameIn r) 0 (length ys)
+
+    zero-row : (k : ℕ) → passedRow clearedRow true ws k ≡ frameIn (rowsLaid []) k
+    zero-row k = cleared-row true ws k ∙ sym (frame-behind (rowsLaid []) k (rw (sym (within-all 0 (lit≤ tt))) zero-le))
+
+    by-length : (256 ≤ length ys) ⊎ (length ys < 256) → rowsAfter clearedRow true (filled r ys) ≡ filled (rowsLaid []) ys
+    by-length (inl h) =
+        ap (rowsAfter clearedRow true) (filled-all r ys h)
+        ∙ ap (stores ws (passedRow clearedRow true ws)) (sym (end-all (length ws) (rw long h))) ∙ stores-all ws (passedRow clearedRow true ws)
+        ∙ tab-same (passedRow clearedRow true ws) (frameIn (rowsLaid [])) 0 (length ws) (λ u _ _. zero-row u) ∙ ap (tab (frameIn (rowsLaid [])) 0) long
+        ∙ sym (filled-all (rowsLaid []) ys h)
+    by-length (inr h) =
+        ap (rowsAfter clearedRow true) (filled-few r ys h) ∙ ap (stores ys (passedRow clearedRow true ys)) (sym (end-none (length ys) h)) ∙ sym (filled-few (rowsLaid []) ys h)

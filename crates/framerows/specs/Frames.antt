@@ -3,9 +3,10 @@ use mathlib.Core.Bool.{cond}
 use mathlib.Core.List.{List}
 use lib.Dec.{leb, ltb}
 use lib.ListN.{length, getD, replicate}
-use Prim.Native.Nat.{ℕ}
+use Prim.Native.Nat.{ℕ, _+_}
 use Rattle.laws.specs.Lists.{tab}
 use Rattle.laws.specs.Loops.{stores}
+use Rattle.rules.specs.Limits.{mostFrames}
 use Rattle.rules.specs.Table.{FrameRow}
 use Rattle.rows.specs.declared.Rows.{Rows}
 use Rattle.units.specs.declared.Frame.{Frame}
@@ -22,25 +23,25 @@ zeroFrame = frameOf 0 0 0 0
 abbrev pub rowOf : Frame → FrameRow
 rowOf f = record { task = f .task .0; release = f .release .0; deadline = f .deadline .0; start = f .start .0 }
 
--- at most 256: the frames that the arrays have places for, and the place of a row in the table below
+-- at most as many as have places: the frames in the arrays, and the place of a row in the table below
 unfoldable pub withinPlaces : ℕ → ℕ
-withinPlaces k = cond (ltb k 256) k 256
+withinPlaces k = cond (ltb k mostFrames) k mostFrames
 
 unfoldable pub frameAt : Rows → ℕ → Frame
 frameAt r k = frameOf (getD (r .task) k 0) (getD (r .release) k 0) (getD (r .deadline) k 0) (getD (r .start) k 0)
 
--- "the frames by number (task, release, deadline, the table's start), then zero rows": row k
+-- row k: the frames by number, each with its start, and zero rows behind them
 unfoldable pub frameIn : Rows → ℕ → Frame
 frameIn r k = cond (ltb k (withinPlaces (r .frames))) (frameAt r k) zeroFrame
 
--- the frames in 257 places, of which the last is zero
+-- the frames in one place more, of which the last is zero
 unfoldable pub frameTable : Rows → List Frame
-frameTable r = stores (replicate 257 zeroFrame) (frameAt r) (withinPlaces (r .frames))
+frameTable r = stores (replicate (mostFrames + 1) zeroFrame) (frameAt r) (withinPlaces (r .frames))
 
 -- how many of the lent rows are written
 unfoldable pub endIn : ℕ → ℕ
-endIn lent = cond (ltb lent 256) 0 lent
+endIn lent = cond (ltb lent mostFrames) 0 lent
 
 -- Refusal 19 leaves the rows unchanged; else every lent row is written.
 unfoldable pub filled : Rows → List Frame → List Frame
-filled r rows = cond (leb 256 (length rows)) (tab (frameIn r) 0 (length rows)) rows
+filled r rows = cond (leb mostFrames (length rows)) (tab (frameIn r) 0 (length rows)) rows

@@ -1,33 +1,32 @@
 -- The rules on rows that stand in arrays are the rules on the table that the arrays stand for.
 use mathlib.Core.Path.{_≡_, refl, sym, ap, _∙_}
-use mathlib.Core.Bool.{Bool, false, not}
+use mathlib.Core.Bool.{Bool}
 use mathlib.Core.List.{List}
 use mathlib.Core.Option.{Option, none, some}
 use native.Mathlib.Nat.{zero-add}
 use native.Mathlib.Omega.{arith}
-use lib.Dec.{ltb}
 use lib.ListN.{length, getD, replicate, length-replicate}
-use borrow.Author.Tests.{lt-ltb, ltb-true}
+use borrow.Author.Tests.{lt-ltb}
 use Prim.Native.Nat.{ℕ, zero, suc, _+_, _≤_, _<_}
 use Rattle.laws.specs.Res.{Res, at, _>>_}
 use Rattle.laws.specs.Lists.{firstBad, tab, upTo, lastD}
 use Rattle.laws.specs.Loops.{stores}
-use Rattle.laws.proofs.Lists.{both-left, length-tab}
+use Rattle.laws.proofs.Lists.{length-tab}
 use Rattle.laws.proofs.Loops.{stores-at, firstBad-upTo-passes}
 use Rattle.rules.specs.Frames.{ControlRow, noControlRow}
 use Rattle.rules.specs.Table.{DataRow}
 use Rattle.rules.specs.Checker.{rowAt, deadlineKept, stopBefore, firstRow, rowsKeep}
 use Rattle.tableread.specs.declared.Table.{Table}
 use Rattle.judging.specs.declared.Bounds.{Bounds}
-use Rattle.naming.specs.Places.{Numbered, lookIn, beforeIn, numberOf, numberAt, marks, isNew}
+use Rattle.naming.specs.Places.{Numbered, lookIn, beforeIn, numberOf, numberAt, isNew}
 use Rattle.tableread.specs.Memory.{controlIn, rowSeen, seen}
 use Rattle.datarows.specs.Rows.{timeKept, releaseKept, dueKept, gapKept}
 use Rattle.judging.specs.Judged.{timesInOrder, inOrder, namesNew, timeFits, releaseFits, gapFits, timesJudged, rowsJudged, frameIn, framesIn, timeIn}
 use Rattle.laws.proofs.Turns.{same-bad}
 use Rattle.laws.proofs.Arrays.{last-tab}
-use Rattle.judging.proofs.NamedFrames.{named-frame, named-task, row-at, new-names}
+use Rattle.judging.proofs.NamedFrames.{named-frame, named-task, row-at, new-names, new-within}
 
-look-within : (room : ℕ) (a : List ℕ) (k : ℕ) → k < room → lookIn room a k ≡ getD a k 0
+pub look-within : (room : ℕ) (a : List ℕ) (k : ℕ) → k < room → lookIn room a k ≡ getD a k 0
 unfolding lookIn
 look-within room a k h = rw (lt-ltb k room h)
 
@@ -126,11 +125,7 @@ module _ (tasks releases deadlines times : List ℕ) (frames : ℕ) (n : Numbere
 
   module _ (e : unnamed ≡ none) where
     all-named : (k : ℕ) → k < t .rows → getD numbered k 0 < frames
-    unfolding isNew
-    all-named k h =
-        ltb-true (getD numbered k 0) frames
-        (both-left (ltb (getD numbered k 0) frames) (not (getD (marks numbered k) (getD numbered k 0) false))
-        (firstBad-upTo-passes (isNew numbered frames) (t .rows) k e h))
+    all-named k h = new-within numbered frames k (firstBad-upTo-passes (isNew numbered frames) (t .rows) k e h)
 
     by-rules : timesInOrder (1 + t .control) mistimed early late crowded
         ≡ timesJudged (framesIn tasks releases deadlines frames) (timeIn times) b (seen t)

@@ -10,6 +10,7 @@ use borrow.Author.Tests.{lt-ltb, eqb-true}
 use Prim.Native.Nat.{ℕ, _+_, _*_, _≤_, _<_}
 use Rattle.laws.specs.Res.{refuse, at, _>>_}
 use Rattle.laws.specs.Lists.{any, firstBad, upTo}
+use Rattle.laws.proofs.Res.{refuse≢ok}
 use Rattle.laws.proofs.Lists.{both-left, both-right, true-false, length-tab}
 use Rattle.laws.proofs.Loops.{firstBad-upTo-passes}
 use Rattle.laws.proofs.Arrays.{tab-list, getD-laid}
@@ -114,16 +115,18 @@ module _ (control : List ControlRow) (frames : List Frame) (time : ℕ → ℕ) 
       seen-whole t (omega arith) (omega arith)
 
   -- a table that is laid out is judged as it was read, also where it has more rows than places
-  pub seen-right : {j : Judgement} → Right (judgedFor control frames time b (seen (layOut t))) frames (seen (layOut t)) j → Right (judgedFor control frames time b t) frames t j
+  pub seen-right : {early : Bool} {releases : List ℕ} {count : ℕ} {j : Judgement}
+      → Right early releases count (judgedFor control frames time b (seen (layOut t))) frames (seen (layOut t)) j
+      → Right early releases count (judgedFor control frames time b t) frames t j
   unfolding judgedFor
-  seen-right {j} r = here (headerFits control frames b t) refl
+  seen-right {early} {releases} {count} {j} r = here (headerFits control frames b t) refl
     where
-      here : (c : Bool) → headerFits control frames b t ≡ c → Right (judgedFor control frames time b t) frames t j
-      here true e = subst (λ (s : TableRead). Right (judgedFor control frames time b s) frames s j) (fits-whole e) r
+      here : (c : Bool) → headerFits control frames b t ≡ c → Right early releases count (judgedFor control frames time b t) frames t j
+      here true e = subst (λ (s : TableRead). Right early releases count (judgedFor control frames time b s) frames s j) (fits-whole e) r
       here false e =
           let refused : judgedFor control frames time b (seen (layOut t)) ≡ refuse 21 0 = rw (seen-header, e) in
           let too : judgedFor control frames time b t ≡ refuse 21 0 = rw e in
-          record { verdict = r .verdict ∙ refused ∙ sym too; starts = rw too (rw refused at (r .starts)) }
+          record { verdict = λ h. r .verdict h ∙ refused ∙ sym too; starts = λ q. refuse≢ok (sym too ∙ q) }
 
 -- ---- the line of a layout
 
@@ -173,9 +176,10 @@ module _ (l : Layout) (d : Drawn l) where
       ∙ judged-parts l t
 
   -- What is judged right by the line of a layout is judged right by the layout.
-  pub line-right : (t : TableRead) {j : Judgement} → Right (lineJudged (lineOf l) (seen (layOut t))) (framesOn (lineOf l)) (seen (layOut t)) j
-      → Right (judged l t) (l .frames) t j
+  pub line-right : (t : TableRead) {early : Bool} {j : Judgement}
+      → Right early (lineOf l .release) (lineOf l .frames) (lineJudged (lineOf l) (seen (layOut t))) (framesOn (lineOf l)) (seen (layOut t)) j
+      → Right early (lineOf l .release) (lineOf l .frames) (judged l t) (l .frames) t j
   unfolding lineJudged
-  line-right t {j} r =
+  line-right t r =
       rw (sym (parts-judged t))
       (seen-right (l .control) (l .frames) (timeIn (lineOf l .time)) (boundsOn (lineOf l)) t (d .controls) (d .few) (rw (controls-on, frames-on) at r))

@@ -3,7 +3,8 @@
 use mathlib.Core.Path.{_≡_, refl, sym, ap, _∙_}
 use mathlib.Core.Bool.{Bool, true, false, cond, not, _&&_}
 use mathlib.Core.List.{List, [], _∷_, _++_, map}
-use native.Mathlib.Nat.{zero-add}
+use mathlib.Core.Logic.{_⊎_, inl, inr}
+use native.Mathlib.Nat.{zero-add, eq-or-lt-of-le}
 use native.Mathlib.Numerals.{add-one}
 use native.Mathlib.Omega.{arith}
 use lib.Dec.{eqb, ltb}
@@ -13,7 +14,7 @@ use borrow.Author.Tests.{ltb-true, ltb-false, eqb-true, eqb-false, eq-eqb, not-t
 use Prim.Native.Nat.{ℕ, zero, suc, _+_, _≤_, _<_}
 use Rattle.laws.specs.Lists.{any, tab}
 use Rattle.laws.specs.Loops.{padTo}
-use Rattle.laws.proofs.Lists.{both, both-left, both-right, neither-left, neither-right, true-false, take-tab, length-tab, getD-tab, tab-more, map-tab, length-padTo, getD-padTo}
+use Rattle.laws.proofs.Lists.{both, both-left, both-right, neither-left, neither-right, true-false, any-upTo-hit, take-tab, length-tab, getD-tab, tab-more, map-tab, length-padTo, getD-padTo}
 use Rattle.rules.specs.Frames.{Frame}
 use Rattle.rules.specs.Table.{DataRow}
 use Rattle.rules.specs.Checker.{TableRead, noDataRow, rowAt, isFrameOf, samePair, namedIn, startIn}
@@ -168,13 +169,42 @@ module _ (numbers starts : List ℕ) where
   spread-free zero f h n = getD-replicate 256 f 0 0 h
   spread-free (suc k) f h n = spread-there k f (n k (omega arith)) ∙ spread-free k f h (λ j w. n j (omega arith))
 
+-- rows that name new frames
+module _ (numbers : List ℕ) (frames : ℕ) where
+  pub new-within : (k : ℕ) → isNew numbers frames k ≡ true → getD numbers k 0 < frames
+  unfolding isNew
+  new-within k e = ltb-true (getD numbers k 0) frames (both-left (ltb (getD numbers k 0) frames) (not (getD (marks numbers k) (getD numbers k 0) false)) e)
+
+  -- no row before has the number
+  pub new-other : (j k : ℕ) → frames ≤ 256 → j < k → isNew numbers frames k ≡ true → getD numbers j 0 ≡ getD numbers k 0 → ⊥
+  unfolding isNew names
+  new-other j k room h e q =
+      true-false (sym (any-upTo-hit (names numbers (getD numbers k 0)) k j h (eq-eqb (getD numbers j 0) (getD numbers k 0) q))
+      ∙ sym (marked numbers k (getD numbers k 0) (omega (arith, new-within k e, room)))
+      ∙ not-true (getD (marks numbers k) (getD numbers k 0) false)
+      (both-right (ltb (getD numbers k 0) frames) (not (getD (marks numbers k) (getD numbers k 0) false)) e))
+
+  -- the start at the number of a row is the row's
+  pub spread-row : (starts : List ℕ) → frames ≤ 256 → (count : ℕ) → ((i : ℕ) → i < count → isNew numbers frames i ≡ true)
+      → (k : ℕ) → k < count → getD (spread numbers starts count) (getD numbers k 0) 0 ≡ getD starts k 0
+  spread-row starts room zero new k h = absurd (omega arith)
+  spread-row starts room (suc c) new k h =
+      here (eq-or-lt-of-le (omega arith)) (λ l. spread-row starts room c (λ i u. new i (omega arith)) k l)
+    where
+      here : (k ≡ c) ⊎ (k < c) → (k < c → getD (spread numbers starts c) (getD numbers k 0) 0 ≡ getD starts k 0)
+          → getD (spread numbers starts (suc c)) (getD numbers k 0) 0 ≡ getD starts k 0
+      here (inl e) before =
+          spread-here numbers starts c (getD numbers k 0) (omega (arith, new-within k (new k h), room)) (ap (λ (i : ℕ). getD numbers i 0) (sym e))
+          ∙ ap (λ (i : ℕ). getD starts i 0) (sym e)
+      here (inr l) before =
+          spread-there numbers starts c (getD numbers k 0) (λ q. new-other k c room l (new c (omega arith)) (sym q)) ∙ before l
+
 module _ (tasks releases deadlines : List ℕ) (frames : ℕ) (n : Numbered tasks deadlines frames) (row : ℕ → DataRow) (count : ℕ)
     (numbers : List ℕ) (given : (j : ℕ) → j < count → getD numbers j 0 ≡ numberOf tasks deadlines frames (row j .task) (row j .deadline))
     (starts : List ℕ) (begins : (j : ℕ) → j < count → getD starts j 0 ≡ row j .start)
     (passed : (j : ℕ) → j < count → isNew numbers frames j ≡ true) where
   within : (j : ℕ) → j < count → getD numbers j 0 < frames
-  unfolding isNew
-  within j h = ltb-true (getD numbers j 0) frames (both-left (ltb (getD numbers j 0) frames) (not (getD (marks numbers j) (getD numbers j 0) false)) (passed j h))
+  within j h = new-within numbers frames j (passed j h)
 
   -- no row before names the frame of a row
   first-named : (k : ℕ) → k < count → any (λ s. isFrameOf s (frameIn tasks releases deadlines (getD numbers k 0))) (tab row 0 k) ≡ false

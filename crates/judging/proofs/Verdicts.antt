@@ -2,39 +2,37 @@
 use mathlib.Core.Path.{_≡_, refl, sym, ap, _∙_}
 use mathlib.Core.Bool.{Bool, true, false, _&&_}
 use mathlib.Core.List.{List}
+use mathlib.Core.Logic.{_⊎_, inl, inr}
 use mathlib.Core.Option.{Option, none, some}
 use native.Mathlib.Nat.{zero-add}
 use native.Mathlib.Omega.{arith}
 use lib.Dec.{eqb}
-use lib.ListN.{length, replicate}
-use borrow.Author.Tests.{eqb-true}
+use lib.ListN.{length, getD, replicate}
+use borrow.Author.Tests.{eqb-true, le-leb}
 use Prim.Native.Nat.{ℕ, _+_, _≤_, _<_}
 use Rattle.laws.specs.Res.{Res, ok, refuse, at, _>>_}
 use Rattle.laws.specs.Lists.{firstBad, tab, upTo}
 use Rattle.laws.specs.Loops.{stores}
-use Rattle.laws.proofs.Lists.{length-tab, getD-tab, both-left, both-right}
-use Rattle.laws.proofs.Loops.{firstBad-upTo-passes, firstBad-upTo-within}
+use Rattle.laws.proofs.Res.{refuse≢ok}
+use Rattle.laws.proofs.Lists.{length-tab, getD-tab, both-left, both-right, true-false}
+use Rattle.laws.proofs.Loops.{firstBad-upTo-none, firstBad-upTo-passes, firstBad-upTo-within}
 use Rattle.rules.specs.Frames.{Frame, ControlRow, noControlRow}
 use Rattle.rules.specs.Checker.{TableRead, controlAt}
-use Rattle.answers.specs.declared.Refusal.{Refusal}
-use Rattle.answers.specs.Refusals.{said}
 use Rattle.tableread.specs.declared.Table.{Table}
 use Rattle.places.specs.declared.Found.{Found}
 use Rattle.places.specs.declared.Found.the-variants.{At, Nothing}
 use Rattle.judging.specs.declared.Bounds.{Bounds}
-use Rattle.answers.specs.declared.Verdict.{Verdict}
-use Rattle.answers.specs.declared.Verdict.the-variants.{Fine, Refused}
 use Rattle.judging.specs.declared.Judgement.{Judgement}
-use Rattle.naming.specs.Places.{beforeIn, Numbered, numberAt, isNew, spread}
+use Rattle.naming.specs.Places.{lookIn, beforeIn, Numbered, numberAt, isNew, spread}
 use Rattle.places.specs.Found.{foundOf}
 use Rattle.tableread.specs.Memory.{controlIn, rowSeen, seen}
 use Rattle.datarows.specs.Rows.{timeKept, releaseKept, dueKept, gapKept}
-use Rattle.judging.specs.Judged.{headerFits, controlFits, rowsJudged, judgedFor, headerSame, controlsSame, frameIn, framesIn, timeIn, startsOn, Right, inOrder, Among}
+use Rattle.judging.specs.Judged.{headerFits, controlFits, rowsJudged, judgedFor, headerSame, controlsSame, frameIn, framesIn, timeIn, NoneEarly, Right, inOrder, onlyWhere, Among}
 use Rattle.answers.specs.Refusals.{heard}
 use Rattle.places.specs.Found.{placeIn}
 use Rattle.laws.proofs.Turns.{same-bad}
-use Rattle.judging.proofs.NamedFrames.{starts-laid}
-use Rattle.judging.proofs.Held.{last-stop, number-given, rows-judged}
+use Rattle.judging.proofs.NamedFrames.{new-within, spread-row, starts-laid}
+use Rattle.judging.proofs.Held.{look-within, last-stop, number-given, rows-judged}
 
 -- ---- what a scan found
 
@@ -57,29 +55,24 @@ pub spot-among : (p : ℕ → Bool) (n room : ℕ) {s : Found} → s ≡ foundOf
 spot-among p n room {s = At k} e h = let w = spot-within p n e refl in omega (arith, w)
 spot-among p n room {s = Nothing} e h = tt
 
+-- also where the scan is not made
+pub spot-only : (early : Bool) (p : ℕ → Bool) (n room : ℕ) {s : Found} → s ≡ foundOf (onlyWhere early (firstBad p (upTo n))) → n ≤ room → Among room s
+spot-only true p n room e h = spot-among p n room e h
+spot-only false p n room e h = rw e tt
+
 pub among-at : (room : ℕ) (s : Found) {k : ℕ} → Among room s → s ≡ At k → k < room
 among-at room s h e = rw e at h
 
 -- where nothing is refused, the first rule refuses nothing
 first-kept : (first : ℕ) (a b c d e : Option ℕ) → inOrder first a b c d e ≡ ok tt → a ≡ none
 first-kept first none b c d e h = refl
-first-kept first (some k) b c d e h = absurd (not-ok h)
-  where
-    isOk : Res (Unit {0}) → ℕ
-    isOk (ok u) = 0
-    isOk (refuse n p) = 1
-
-    not-ok : _≡_ {A = Res (Unit {0})} (refuse 23 (first + k)) (ok tt) → ⊥
-    not-ok q = let z : _≡_ {A = ℕ} 1 0 = ap isOk q in omega (arith, z)
+first-kept first (some k) b c d e h = refuse≢ok h
 
 -- ---- judgements
 
-module _ {says : Res (Unit {0})} (frames : List Frame) (t : TableRead) {j : Judgement} where
-  pub right-refused : {n p : ℕ} → says ≡ refuse n p → (heard (j .verdict) ≡ refuse n p) × (j .starts ≡ replicate 256 0) → Right says frames t j
-  right-refused e h = record { verdict = h .0 ∙ sym e; starts = rw e (h .1) }
-
-  pub right-passed : says ≡ ok tt → j .verdict ≡ Fine → j .starts ≡ startsOn (ok tt) frames t → Right says frames t j
-  right-passed e v s = record { verdict = ap heard v ∙ sym e; starts = rw e s }
+module _ {says : Res (Unit {0})} (frames : List Frame) (t : TableRead) {early : Bool} {releases : List ℕ} {count : ℕ} {j : Judgement} where
+  pub right-refused : {n p : ℕ} → says ≡ refuse n p → heard (j .verdict) ≡ refuse n p → Right early releases count says frames t j
+  right-refused e h = record { verdict = λ _. h ∙ sym e; starts = λ q. refuse≢ok (sym e ∙ q) }
 
 -- ---- rules 23 to 27
 
@@ -89,10 +82,6 @@ module _ (tasks releases deadlines times : List ℕ) (frames : ℕ) (n : Numbere
   -- the frames by number
   abbrev wanted : List Frame
   wanted = framesIn tasks releases deadlines frames
-
-  -- a judgement by rules 23 to 27
-  abbrev JudgedRows : Judgement → Type 0
-  JudgedRows j = Right (rowsJudged wanted (timeIn times) b (seen t)) wanted (seen t) j
 
   -- what each scan looks for
   abbrev nameOk : ℕ → Bool
@@ -118,40 +107,64 @@ module _ (tasks releases deadlines times : List ℕ) (frames : ℕ) (n : Numbere
   whole =
       sym (rw numbered (rows-judged tasks releases deadlines times frames n b t room (beforeIn (t .ends) 0 (t .control)) (last-stop t)))
 
+  abbrev firstCrowded : Option ℕ
+  firstCrowded = firstOf (gapOk (beforeIn (t .ends) 0 (t .control)))
+
+  -- where every row names a frame of its own, and no frame is early by number, no row is early
+  none-early : firstOf nameOk ≡ none → NoneEarly releases (spread named (t .starts) (t .rows)) frames → firstOf releaseOk ≡ none
+  unfolding releaseKept
+  none-early all-named h =
+      firstBad-upTo-none releaseOk (t .rows)
+      (λ k l.
+      let new : (i : ℕ) → i < t .rows → nameOk i ≡ true = λ i u. firstBad-upTo-passes nameOk (t .rows) i all-named u in
+      let w : getD named k 0 < frames = new-within named frames k (new k l) in
+      let at-row : getD (spread named (t .starts) (t .rows)) (getD named k 0) 0 ≡ getD (t .starts) k 0 = spread-row named frames (t .starts) (n .room) (t .rows) new k l in
+      le-leb (lookIn 256 releases (getD named k 0)) (getD (t .starts) k 0)
+      (rw (look-within 256 releases (getD named k 0) (omega (arith, w, n .room)), sym at-row) (h (getD named k 0) w)))
+
+  -- rule 25 by the scan of rows, or by the starts by number
+  looked-at : (early : Bool) → (early ≡ true) ⊎ NoneEarly releases (spread named (t .starts) (t .rows)) frames
+      → inOrder (1 + t .control) (firstOf nameOk) (firstOf timeOk) (onlyWhere early (firstOf releaseOk)) (firstOf dueOk) firstCrowded
+      ≡ inOrder (1 + t .control) (firstOf nameOk) (firstOf timeOk) (firstOf releaseOk) (firstOf dueOk) firstCrowded
+  looked-at true h = refl
+  looked-at false (inl e) = true-false (sym e)
+  looked-at false (inr h) = here (firstOf nameOk) refl
+    where
+      here : (o : Option ℕ) → firstOf nameOk ≡ o
+          → inOrder (1 + t .control) o (firstOf timeOk) none (firstOf dueOk) firstCrowded
+          ≡ inOrder (1 + t .control) o (firstOf timeOk) (firstOf releaseOk) (firstOf dueOk) firstCrowded
+      here none e = rw (none-early e h)
+      here (some k) e = refl
+
   -- what the scans found, and what their order makes of it
-  module _ {sa sb sc sd se : Found} (fa : sa ≡ foundOf (firstOf nameOk)) (fb : sb ≡ foundOf (firstOf timeOk))
-      (fc : sc ≡ foundOf (firstOf releaseOk)) (fd : sd ≡ foundOf (firstOf dueOk))
-      {last : ℕ} (isLast : last ≡ beforeIn (t .ends) 0 (t .control)) (fe : se ≡ foundOf (firstOf (gapOk last))) (v : Verdict)
-      (says : heard v ≡ inOrder (1 + t .control) (placeIn sa) (placeIn sb) (placeIn sc) (placeIn sd) (placeIn se)) where
-    as-found : inOrder (1 + t .control) (placeIn sa) (placeIn sb) (placeIn sc) (placeIn sd) (placeIn se)
-        ≡ inOrder (1 + t .control) (firstOf nameOk) (firstOf timeOk) (firstOf releaseOk) (firstOf dueOk) (firstOf (gapOk (beforeIn (t .ends) 0 (t .control))))
-    as-found =
-        rw (
-          spot-found (firstOf nameOk) fa,
-          spot-found (firstOf timeOk) fb,
-          spot-found (firstOf releaseOk) fc,
-          spot-found (firstOf dueOk) fd,
-          spot-found (firstOf (gapOk last)) fe,
-          isLast,
-        )
-
-    judged-rows : heard v ≡ rowsJudged wanted (timeIn times) b (seen t)
-    judged-rows = says ∙ as-found ∙ sym whole
-
-    pub rows-refused : {x : Refusal} {j : Judgement} → v ≡ Refused x → (heard (j .verdict) ≡ said x) × (j .starts ≡ replicate 256 0) → JudgedRows j
-    rows-refused q h = right-refused wanted (seen t) (sym judged-rows ∙ ap heard q) h
-
-    pub rows-passed : {j : Judgement} → v ≡ Fine → j .verdict ≡ Fine → j .starts ≡ spread named (t .starts) (t .rows) → JudgedRows j
-    unfolding seen rowSeen
-    rows-passed q w h =
-        let passed : rowsJudged wanted (timeIn times) b (seen t) ≡ ok tt = sym judged-rows ∙ ap heard q in
-        let all-named : firstOf nameOk ≡ none
-        = first-kept (1 + t .control) (firstOf nameOk) (firstOf timeOk) (firstOf releaseOk) (firstOf dueOk)
-        (firstOf (gapOk (beforeIn (t .ends) 0 (t .control)))) (sym whole ∙ passed) in
-        right-passed wanted (seen t) passed w
-        (h ∙ starts-laid tasks releases deadlines frames n (rowSeen t) (t .rows) named
-        (λ k l. rw numbered (number-given tasks releases deadlines times frames n b t room (beforeIn (t .ends) 0 (t .control)) (last-stop t) k l))
-        (t .starts) (λ k l. refl) (λ k l. firstBad-upTo-passes nameOk (t .rows) k all-named l))
+  pub rows-right : {sa sb sc sd se : Found} {early : Bool} → sa ≡ foundOf (firstOf nameOk) → sb ≡ foundOf (firstOf timeOk)
+      → sc ≡ foundOf (onlyWhere early (firstOf releaseOk)) → sd ≡ foundOf (firstOf dueOk)
+      → {last : ℕ} → last ≡ beforeIn (t .ends) 0 (t .control) → se ≡ foundOf (firstOf (gapOk last)) → (j : Judgement)
+      → heard (j .verdict) ≡ inOrder (1 + t .control) (placeIn sa) (placeIn sb) (placeIn sc) (placeIn sd) (placeIn se)
+      → j .starts ≡ spread named (t .starts) (t .rows) → Right early releases frames (rowsJudged wanted (timeIn times) b (seen t)) wanted (seen t) j
+  unfolding seen rowSeen
+  rows-right {sa} {sb} {sc} {sd} {se} {early} fa fb fc fd {last} isLast fe j says spreads =
+      record {
+        verdict = λ h. says ∙ as-found ∙ looked-at early (rw spreads at h) ∙ sym whole;
+        starts = λ passed.
+            let all-named : firstOf nameOk ≡ none
+            = first-kept (1 + t .control) (firstOf nameOk) (firstOf timeOk) (firstOf releaseOk) (firstOf dueOk) firstCrowded (sym whole ∙ passed) in
+            spreads ∙ starts-laid tasks releases deadlines frames n (rowSeen t) (t .rows) named
+            (λ k l. rw numbered (number-given tasks releases deadlines times frames n b t room (beforeIn (t .ends) 0 (t .control)) (last-stop t) k l))
+            (t .starts) (λ k l. refl) (λ k l. firstBad-upTo-passes nameOk (t .rows) k all-named l);
+      }
+    where
+      as-found : inOrder (1 + t .control) (placeIn sa) (placeIn sb) (placeIn sc) (placeIn sd) (placeIn se)
+          ≡ inOrder (1 + t .control) (firstOf nameOk) (firstOf timeOk) (onlyWhere early (firstOf releaseOk)) (firstOf dueOk) firstCrowded
+      as-found =
+          rw (
+            spot-found (firstOf nameOk) fa,
+            spot-found (firstOf timeOk) fb,
+            spot-found (onlyWhere early (firstOf releaseOk)) fc,
+            spot-found (firstOf dueOk) fd,
+            spot-found (firstOf (gapOk last)) fe,
+            isLast,
+          )
 
 -- ---- rules 21 and 22
 
@@ -183,9 +196,9 @@ module _ (tasks releases deadlines : List ℕ) (frames : ℕ) (time : ℕ → �
         zero-add k,
       )
 
-  pub wrong-header : {r : Bool} {j : Judgement} → r ≡ headerSame (t .header) (t .control) (t .rows) b controls frames → r ≡ false
-      → (heard (j .verdict) ≡ refuse 21 0) × (j .starts ≡ replicate 256 0)
-      → Right (judgedFor fixed asked time b (seen t)) asked (seen t) j
+  pub wrong-header : {early r : Bool} {j : Judgement} → r ≡ headerSame (t .header) (t .control) (t .rows) b controls frames → r ≡ false
+      → heard (j .verdict) ≡ refuse 21 0
+      → Right early releases frames (judgedFor fixed asked time b (seen t)) asked (seen t) j
   unfolding judgedFor
   wrong-header e q h = right-refused asked (seen t) (rw (header-same, sym e, q)) h
 
@@ -223,14 +236,14 @@ module _ (tasks releases deadlines : List ℕ) (frames : ℕ) (time : ℕ → �
         )
 
     module _ {s : Found} (found : s ≡ foundOf (firstBad (controlsSame (controlIn (t .nodes) (t .begins) (t .ends)) (controlIn nodes begins ends)) (upTo controls))) where
-      pub strange-control : {k : ℕ} {j : Judgement} → s ≡ At k → (heard (j .verdict) ≡ refuse 22 (1 + k)) × (j .starts ≡ replicate 256 0)
-          → Right (judgedFor fixed asked time b (seen t)) asked (seen t) j
+      pub strange-control : {early : Bool} {k : ℕ} {j : Judgement} → s ≡ At k → heard (j .verdict) ≡ refuse 22 (1 + k)
+          → Right early releases frames (judgedFor fixed asked time b (seen t)) asked (seen t) j
       strange-control here h =
           let bad = spot-at (firstBad (controlsSame (controlIn (t .nodes) (t .begins) (t .ends)) (controlIn nodes begins ends)) (upTo controls)) found here in
           right-refused asked (seen t) (scanned ∙ rw bad) h
 
-      pub same-controls : {j : Judgement} → s ≡ Nothing → Right (rowsJudged asked time b (seen t)) asked (seen t) j
-          → Right (judgedFor fixed asked time b (seen t)) asked (seen t) j
+      pub same-controls : {early : Bool} {j : Judgement} → s ≡ Nothing → Right early releases frames (rowsJudged asked time b (seen t)) asked (seen t) j
+          → Right early releases frames (judgedFor fixed asked time b (seen t)) asked (seen t) j
       same-controls here h =
           let good = spot-nowhere (firstBad (controlsSame (controlIn (t .nodes) (t .begins) (t .ends)) (controlIn nodes begins ends)) (upTo controls)) found here in
           let same : rowsJudged asked time b (seen t) ≡ judgedFor fixed asked time b (seen t) = sym (scanned ∙ rw good) in

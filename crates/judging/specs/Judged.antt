@@ -1,13 +1,14 @@
 -- Refusals 21 to 27 over the parts that they look at: the fixed control rows, the frames by number, the sending time of each task's
 -- message, and the numbers of the bus. `judged` of the rules is this for the parts of a layout (proofs/Layouts.antt).
 use mathlib.Core.Path.{_≡_}
-use mathlib.Core.Bool.{Bool, not, _&&_}
+use mathlib.Core.Bool.{Bool, true, false, not, _&&_}
 use mathlib.Core.List.{List, map}
+use mathlib.Core.Logic.{_⊎_}
 use mathlib.Core.Option.{Option, none, some}
 use lib.Dec.{eqb, leb}
-use lib.ListN.{length, getD, take, replicate}
-use Prim.Native.Nat.{ℕ, _+_, _<_}
-use Rattle.laws.specs.Res.{Res, ok, refuse, unless, at, _>>_}
+use lib.ListN.{length, getD, take}
+use Prim.Native.Nat.{ℕ, _+_, _≤_, _<_}
+use Rattle.laws.specs.Res.{Res, ok, unless, at, _>>_}
 use Rattle.laws.specs.Lists.{any, firstBad, tab, upTo}
 use Rattle.laws.specs.Loops.{padTo}
 use Rattle.laws.specs.Numbers.{divides}
@@ -25,11 +26,9 @@ use Rattle.rules.specs.Checker.{
   rowsKeep,
   startIn,
 }
-use Rattle.answers.specs.Refusals.{said, heard}
+use Rattle.answers.specs.Refusals.{heard}
 use Rattle.tableread.specs.declared.Header.{Header}
 use Rattle.judging.specs.declared.Bounds.{Bounds}
-use Rattle.answers.specs.declared.Verdict.{Verdict}
-use Rattle.answers.specs.declared.Verdict.the-variants.{Fine, Refused}
 use Rattle.judging.specs.declared.Judgement.{Judgement}
 use Rattle.line.specs.declared.Line.{Line}
 use Rattle.places.specs.declared.Found.{Found}
@@ -37,33 +36,33 @@ use Rattle.places.specs.declared.Found.the-variants.{At, Nothing}
 use Rattle.naming.specs.Places.{lookIn}
 use Rattle.tableread.specs.Memory.{controlIn}
 
--- Refusal 21: "P, a header count, or the number of rows of a kind isn't what the plan gives".
+-- Rule 21: the cycle, both counts of the header, and the number of rows of each kind are the plan's.
 unfoldable pub headerFits : List ControlRow → List Frame → Bounds → TableRead → Bool
 headerFits control frames b t =
     eqb (t .period) (b .period .0)
     && ((eqb (t .controls) (length control) && eqb (t .datas) (length frames))
     && (eqb (length (t .control)) (length control) && eqb (length (t .rows)) (length frames)))
 
--- Refusal 22: "a control row isn't the fixed one".
+-- Rule 22: each control row is the one that the plan fixes.
 unfoldable pub controlFits : List ControlRow → TableRead → ℕ → Bool
 controlFits control t k = sameControl (controlAt (t .control) k) (controlAt control k)
 
--- Refusal 23: "a data row names no frame, or one already named".
+-- Rule 23: a data row names a frame, and none before it names the same.
 unfoldable pub namesNew : List Frame → TableRead → ℕ → Bool
 namesNew frames t k =
     any (isFrameOf (rowAt t k)) frames && not (any (samePair (rowAt t k)) (take k (t .rows)))
 
--- Refusal 24: "stop isn't start plus sending time, or start is off the resolution".
+-- Rule 24: a row stops its sending time after its start, and starts on the resolution.
 unfoldable pub timeFits : List Frame → (ℕ → ℕ) → Bounds → TableRead → ℕ → Bool
 timeFits frames time b t k =
     eqb (rowAt t k .stop) (rowAt t k .start + time (namedIn frames (rowAt t k) .task))
     && divides (b .resolution .0) (rowAt t k .start)
 
--- Refusal 25: "start before release".
+-- Rule 25: no row starts before its frame's release.
 unfoldable pub releaseFits : List Frame → TableRead → ℕ → Bool
 releaseFits frames t k = leb (namedIn frames (rowAt t k) .release) (rowAt t k .start)
 
--- Refusal 27: "a data row starts before the stop plus gap of the row before it, control rows included".
+-- Rule 27: a row starts no earlier than the gap after the stop of the row before it, be that a control row.
 unfoldable pub gapFits : Bounds → TableRead → ℕ → Bool
 gapFits b t k = leb (stopBefore t k + b .gap .0) (rowAt t k .start)
 
@@ -121,11 +120,6 @@ boundsOn l = record { period = l .period; resolution = l .resolution; gap = l .g
 unfoldable pub lineJudged : Line → TableRead → Res (Unit {0})
 lineJudged l t = judgedFor (controlsOn l) (framesOn l) (timeIn (l .time)) (boundsOn l) t
 
--- the start that the table gives to each frame, by number; a refusal leaves zeros
-abbrev pub startsOn : Res (Unit {0}) → List Frame → TableRead → List ℕ
-startsOn (ok u) frames t = padTo 256 0 (map (startIn (t .rows)) frames)
-startsOn (refuse n p) frames t = replicate 256 0
-
 -- what a scan found lies among the first n places
 abbrev pub Among : ℕ → Found → Type 0
 Among n (At k) = k < n
@@ -144,7 +138,16 @@ inOrder first unnamed mistimed early late crowded = do
   at 23 first unnamed
   timesInOrder first mistimed early late crowded
 
--- a judgement is what the rules say, with the starts
-pub record Right (says : Res (Unit {0})) (frames : List Frame) (t : TableRead) (j : Judgement) : Type 0 where
-  pub verdict : heard (j .verdict) ≡ says
-  pub starts : j .starts ≡ startsOn says frames t
+-- what a scan would find, only where it is made
+abbrev pub onlyWhere : Bool → Option ℕ → Option ℕ
+onlyWhere true o = o
+onlyWhere false o = none
+
+-- no frame's start lies before its release, of arrays by number
+abbrev pub NoneEarly : List ℕ → List ℕ → ℕ → Type 0
+NoneEarly releases starts frames = (k : ℕ) → k < frames → getD releases k 0 ≤ getD starts k 0
+
+-- A judgement is what the rules say, where rule 25 was looked at or no frame is early; and where the rules pass the table, its starts are those that the table gives to the frames.
+pub record Right (early-too : Bool) (releases : List ℕ) (count : ℕ) (says : Res (Unit {0})) (frames : List Frame) (t : TableRead) (j : Judgement) : Type 0 where
+  pub verdict : (early-too ≡ true) ⊎ NoneEarly releases (j .starts) count → heard (j .verdict) ≡ says
+  pub starts : says ≡ ok tt → j .starts ≡ padTo 256 0 (map (startIn (t .rows)) frames)

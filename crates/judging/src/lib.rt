@@ -2,15 +2,15 @@
 ghost use mathlib.Core.Path.{_≡_};
 ghost use mathlib.Core.Bool.{_&&_};
 ghost use lib.Dec.{eqb};
-ghost use lib.ListN.{replicate};
 ghost use Prim.Native.Nat.{_+_, _≤_, _<_};
 ghost use Rattle.laws.specs.Lists.{firstBad, upTo};
-ghost use Rattle.answers.specs.Refusals as answers;
+ghost use Rattle.rules.specs.Limits.{mostNodes, mostFrames};
 ghost use Rattle.naming.specs.Places.{Numbered, beforeIn};
 ghost use Rattle.places.specs.Found.{foundOf};
 ghost use Rattle.tableread.specs.Memory.{seen, controlIn};
-ghost use Rattle.judging.specs.Judged.{headerSame, controlsSame, rowsJudged, framesIn, framesOn, timeIn, lineJudged, Right, inOrder, Among};
-ghost use Rattle.answers.specs.Refusals.{heard};
+ghost use Rattle.judging.specs.Judged.{headerSame, controlsSame, rowsJudged, framesIn, framesOn, timeIn, lineJudged, Right, inOrder, onlyWhere, Among};
+ghost use Rattle.answers.specs.Refusals.{said, heard};
+ghost use Rattle.datarows.specs.Rows.{releaseKept};
 ghost use Rattle.places.specs.Found.{placeIn};
 use answers::Refusal;
 use answers::Verdict;
@@ -25,7 +25,10 @@ use naming::starts_by_frame;
 use places::Found;
 use tableread::Header;
 use tableread::Table;
+use units::Frame;
+use units::NodeNo;
 use units::RecordNo;
+use units::TaskNo;
 use units::Ticks;
 
 // What the bus asks of every row.
@@ -35,18 +38,18 @@ pub struct Bounds {
     pub gap: Ticks,
 }
 
-// The verdict, and the start of each frame by number; all 0 where the table is refused.
+// The verdict, and the start that the table gives to each frame, by number; what stands there is meant only where 21 to 23 are kept.
 pub struct Judgement {
     pub verdict: Verdict,
-    pub starts: [u32; 256],
+    pub starts: [u32; Frame::MOST],
 }
 
 fn refused(x: Refusal) -> Judgement
-    ensures { λ r. ⌜ (heard (r .verdict) ≡ answers.said x) × (r .starts ≡ replicate 256 0) ⌝ }
+    ensures { λ r. ⌜ heard (r .verdict) ≡ said x ⌝ }
 {
     Judgement {
         verdict: Verdict::Refused(x),
-        starts: [0; 256],
+        starts: [0; Frame::MOST],
     }
 }
 
@@ -75,34 +78,41 @@ fn header_right(
     rows == frames
 }
 
-fn same_control(node: u8, begin: u32, end: u32, other: u8, opens: u32, closes: u32) -> bool
-    ensures { λ r. ⌜ r ≡ (eqb node other && (eqb begin opens && eqb end closes)) ⌝ }
+fn same_control(
+    node: NodeNo,
+    start: Ticks,
+    stop: Ticks,
+    fixed_node: NodeNo,
+    fixed_start: Ticks,
+    fixed_stop: Ticks,
+) -> bool
+    ensures { λ r. ⌜ r ≡ (eqb (node .0) («fixed_node» .0) && (eqb (start .0) («fixed_start» .0) && eqb (stop .0) («fixed_stop» .0))) ⌝ }
 {
-    node == other && (begin == opens && end == closes)
+    node.0 == fixed_node.0 && (start.0 == fixed_start.0 && stop.0 == fixed_stop.0)
 }
 
 // The first control row that is not the fixed one.
 fn first_strange<'a, 'b>(
-    nodes: &'a [u8; 8],
-    begins: &'a [u32; 8],
-    ends: &'a [u32; 8],
-    senders: &'b [u8; 8],
-    opens: &'b [u32; 8],
-    closes: &'b [u32; 8],
+    control_nodes: &'a [u8; NodeNo::MOST],
+    control_starts: &'a [u32; NodeNo::MOST],
+    control_stops: &'a [u32; NodeNo::MOST],
+    fixed_nodes: &'b [u8; NodeNo::MOST],
+    fixed_starts: &'b [u32; NodeNo::MOST],
+    fixed_stops: &'b [u32; NodeNo::MOST],
     controls: usize,
 ) -> Found
-    requires { ⌜ controls ≤ 8 ⌝ }
-    ensures { λ r. ⌜ r ≡ foundOf (firstBad (controlsSame (controlIn (now (nodes .entry)) (now (begins .entry)) (now (ends .entry))) (controlIn (now (senders .entry)) (now (opens .entry)) (now (closes .entry)))) (upTo controls)) ⌝ }
+    requires { ⌜ controls ≤ mostNodes ⌝ }
+    ensures { λ r. ⌜ r ≡ foundOf (firstBad (controlsSame (controlIn (now («control_nodes» .entry)) (now («control_starts» .entry)) (now («control_stops» .entry))) (controlIn (now («fixed_nodes» .entry)) (now («fixed_starts» .entry)) (now («fixed_stops» .entry)))) (upTo controls)) ⌝ }
 {
     let mut k = 0;
     while k < controls {
         if !same_control(
-            nodes[k],
-            begins[k],
-            ends[k],
-            senders[k],
-            opens[k],
-            closes[k],
+            NodeNo(control_nodes[k]),
+            Ticks(control_starts[k]),
+            Ticks(control_stops[k]),
+            NodeNo(fixed_nodes[k]),
+            Ticks(fixed_starts[k]),
+            Ticks(fixed_stops[k]),
         ) {
             return Found::At(k);
         }
@@ -112,11 +122,31 @@ fn first_strange<'a, 'b>(
 }
 
 // The stop of the last control row.
-fn last_stop(ends: &[u32; 8], control: usize) -> u32
-    requires { ⌜ control ≤ 8 ⌝ }
-    ensures { λ r. ⌜ r ≡ beforeIn (now (ends .entry)) 0 control ⌝ }
+fn last_stop(control_stops: &[u32; NodeNo::MOST], control: usize) -> Ticks
+    requires { ⌜ control ≤ mostNodes ⌝ }
+    ensures { λ r. ⌜ r .0 ≡ beforeIn (now («control_stops» .entry)) 0 control ⌝ }
 {
-    if control == 0 { 0 } else { ends[control - 1] }
+    if control == 0 {
+        return Ticks(0);
+    }
+    Ticks(control_stops[control - 1])
+}
+
+// Rule 25, where it is looked at here: else no row counts as early.
+fn early_in<'a>(
+    early_too: bool,
+    row_starts: &'a [u32; Frame::MOST],
+    releases: &'a [u32; Frame::MOST],
+    numbers: &'a [usize; Frame::MOST],
+    rows: usize,
+) -> Found
+    requires { ⌜ rows ≤ mostFrames ⌝ }
+    ensures { λ r. ⌜ r ≡ foundOf (onlyWhere «early_too» (firstBad (releaseKept (now («row_starts» .entry)) (now (releases .entry)) (now (numbers .entry))) (upTo rows))) ⌝ }
+{
+    if early_too {
+        return first_early(row_starts, releases, numbers, rows);
+    }
+    Found::Nothing
 }
 
 // The record `first + k` of the first row at fault: `first` is the first data row's.
@@ -129,7 +159,7 @@ fn rows_judged(
     crowded: Found,
 ) -> Verdict
     requires { ⌜ first ≤ 9 ⌝ }
-    requires { ⌜ Among 256 unnamed × (Among 256 mistimed × (Among 256 early × (Among 256 late × Among 256 crowded))) ⌝ }
+    requires { ⌜ Among mostFrames unnamed × (Among mostFrames mistimed × (Among mostFrames early × (Among mostFrames late × Among mostFrames crowded))) ⌝ }
     ensures { λ r. ⌜ heard r ≡ inOrder first (placeIn unnamed) (placeIn mistimed) (placeIn early) (placeIn late) (placeIn crowded) ⌝ }
 {
     if let Found::At(k) = unnamed {
@@ -150,57 +180,56 @@ fn rows_judged(
     Verdict::Fine
 }
 
-// Rules 23 to 27.
+// Rules 23 to 27; 25 only where `early_too`.
 fn by_rows<'a>(
     t: Table,
-    tasks: &'a [u8; 256],
-    releases: &'a [u32; 256],
-    deadlines: &'a [u32; 256],
+    tasks: &'a [u8; Frame::MOST],
+    releases: &'a [u32; Frame::MOST],
+    deadlines: &'a [u32; Frame::MOST],
     frames: usize,
-    times: &'a [u32; 32],
+    times: &'a [u32; TaskNo::MOST],
     bounds: Bounds,
+    early_too: bool,
 ) -> Judgement
     requires { ⌜ Numbered (now tasks) (now deadlines) frames ⌝ }
-    requires { ⌜ t .control ≤ 8 ⌝ }
+    requires { ⌜ t .control ≤ mostNodes ⌝ }
     requires { ⌜ t .rows ≡ frames ⌝ }
-    ensures { λ r. ⌜ Right (rowsJudged (framesIn (now (tasks .entry)) (now (releases .entry)) (now (deadlines .entry)) frames) (timeIn (now (times .entry))) bounds (seen t)) (framesIn (now (tasks .entry)) (now (releases .entry)) (now (deadlines .entry)) frames) (seen t) r ⌝ }
+    ensures { λ r. ⌜ Right «early_too» (now (releases .entry)) frames (rowsJudged (framesIn (now (tasks .entry)) (now (releases .entry)) (now (deadlines .entry)) frames) (timeIn (now (times .entry))) bounds (seen t)) (framesIn (now (tasks .entry)) (now (releases .entry)) (now (deadlines .entry)) frames) (seen t) r ⌝ }
 {
-    let count = t.rows;
-    let named = numbers(tasks, deadlines, frames, &t.tasks, &t.deadlines, count);
-    let unnamed = first_unnamed(&named, frames, count);
+    let rows = t.rows;
+    let named = numbers(tasks, deadlines, frames, &t.tasks, &t.deadlines, rows);
+    let unnamed = first_unnamed(&named, frames, rows);
     let mistimed = first_mistimed(
         &t.tasks,
         &t.starts,
         &t.stops,
         times,
         bounds.resolution.0,
-        count,
+        rows,
     );
-    let early = first_early(&t.starts, releases, &named, count);
-    let late = first_late(&t.stops, &t.deadlines, count);
+    let early = early_in(early_too, &t.starts, releases, &named, rows);
+    let late = first_late(&t.stops, &t.deadlines, rows);
     let last = last_stop(&t.ends, t.control);
-    let crowded = first_crowded(&t.starts, &t.stops, last, bounds.gap.0, count);
-    if let Verdict::Refused(x) = rows_judged(
-        1 + t.control,
-        unnamed,
-        mistimed,
-        early,
-        late,
-        crowded,
-    ) {
-        return refused(x);
-    }
+    let crowded = first_crowded(&t.starts, &t.stops, last.0, bounds.gap.0, rows);
     Judgement {
-        verdict: Verdict::Fine,
-        starts: starts_by_frame(&named, &t.starts, count),
+        verdict: rows_judged(
+            1 + t.control,
+            unnamed,
+            mistimed,
+            early,
+            late,
+            crowded,
+        ),
+        starts: starts_by_frame(&named, &t.starts, rows),
     }
 }
 
-// A table judged by what a plan asks of the bus.
-pub fn judge(t: Table, line: Line) -> Judgement
+// A table judged by what a plan asks of the bus. Where `early_too` does not hold, rule 25 is left to the caller: the verdict is then right
+// if no frame's start lies before its release.
+pub fn judge(t: Table, line: Line, early_too: bool) -> Judgement
     requires { ⌜ Numbered (line .task) (line .deadline) (line .frames) ⌝ }
-    requires { ⌜ line .controls ≤ 8 ⌝ }
-    ensures { λ r. ⌜ Right (lineJudged line (seen t)) (framesOn line) (seen t) r ⌝ }
+    requires { ⌜ line .controls ≤ mostNodes ⌝ }
+    ensures { λ r. ⌜ Right «early_too» (line .release) (line .frames) (lineJudged line (seen t)) (framesOn line) (seen t) r ⌝ }
 {
     let head = t.header;
     let period = line.period;
@@ -233,5 +262,6 @@ pub fn judge(t: Table, line: Line) -> Judgement
         line.frames,
         &line.time,
         bounds,
+        early_too,
     )
 }

@@ -1,26 +1,37 @@
--- What `checker::check` answers by value, with the rows filled, is what the rules' `check` leaves.
-use mathlib.Core.Path.{_≡_, refl, sym, _∙_, subst}
-use mathlib.Core.List.{List, map}
+-- What the passes of `check` leave in the lent rows, and its answer, are what the rules' `check` leaves.
+use mathlib.Core.Path.{_≡_, refl, sym, ap, _∙_, subst}
+use mathlib.Core.Bool.{Bool, true, false}
+use mathlib.Core.List.{List, [], map}
 use mathlib.Core.Logic.{_⊎_, inl, inr}
 use lib.Dec.{lit≤}
 use lib.ListN.{length, length-map}
 use Prim.Native.Nat.{ℕ, _≤_, _<_}
 use Rattle.laws.specs.Res.{Res, ok, refuse}
-use Rattle.laws.proofs.Res.{bind-case, then-case, ok-injective}
+use Rattle.laws.proofs.Res.{refuse≢ok, bind-case, then-case, ok-injective}
 use Rattle.laws.proofs.Orders.{le-or-lt}
 use Rattle.rules.specs.Records.{records, tableFollows}
 use Rattle.rules.specs.Plan.{readPlan}
 use Rattle.rules.specs.Frames.{layout}
 use Rattle.rules.specs.Table.{FrameRow}
 use Rattle.rules.specs.Checker.{Passed, tableOf, judged, checkFiles, checkedRow, check}
+use Rattle.rows.specs.Rows.{rowsLaid}
 use Rattle.units.specs.declared.Frame.{Frame}
 use Rattle.framerows.specs.Frames.{rowOf, filled}
+use Rattle.framerows.specs.Passes.{foundAfter, rowsAfter, lookedRow, clearedRow}
 use Rattle.framerows.proofs.Laid.{filled-is}
+use Rattle.framerows.proofs.Scanned.{looked-rows, filled-released, cleared-not, cleared-laid}
+use Rattle.answers.specs.declared.Verdict.{Verdict}
+use Rattle.answers.specs.declared.Verdict.the-variants.{Fine, Refused}
+use Rattle.answers.specs.Refusals.{heard}
 use Rattle.checked.specs.declared.Checked.{Checked}
-use Rattle.checked.specs.Checking.{Checks, rowsOf, lentPassed}
+use Rattle.checked.specs.Checking.{verdict, rowsOf, lentPassed}
 use Rattle.checked.proofs.Rules.{enough-is, short-is, check-answer, check-rows, check-rows-short}
+use Rattle.checker.specs.declared.Settled.{Settled}
+use Rattle.checker.specs.Unscanned.{Judged, refuses, Settles}
 use Rattle.tables.specs.Lent.{ChecksLent}
 use Rattle.tables.proofs.FewFrames.{few-laid}
+
+-- ---- at most 256 rows
 
 few-passed : (plan table : List ℕ) (c : Passed) → checkFiles plan table ≡ ok c → length (c .layout .frames) ≤ 256
 unfolding checkFiles
@@ -42,13 +53,50 @@ few-checked plan table lent = by-lent (le-or-lt 256 lent)
     by-lent (inl h) = rw (enough-is plan table lent h) (few-rows plan table (checkFiles plan table) refl)
     by-lent (inr h) = rw (short-is plan table lent h) (lit≤ tt)
 
-pub checks-lent : (plan table : List ℕ) (ys zs : List Frame) (m : Checked) → zs ≡ filled (m .rows) ys → Checks m (lentPassed plan table (length ys))
-    → ChecksLent (m .answer) plan table ys zs
-checks-lent plan table ys zs m e c =
-    let rows : List FrameRow = map rowOf ys in
-    let n : length rows ≡ length ys = length-map ys rowOf in
-    record {
-      answered = c .answered ∙ sym (rw n at (check-answer plan table rows));
-      left = filled-is (rowsOf (lentPassed plan table (length ys))) (few-checked plan table (length ys)) ys zs (m .rows) (check plan table rows .rows) (c .left) e
-          (λ h. rw n at (check-rows plan table rows (rw n h))) (λ h. check-rows-short plan table rows (rw n h));
-    }
+-- ---- the passes
+
+-- The rows ys were filled (ws), scanned for rule 25 (vs) and cleared where the answer refuses (zs).
+pub record Passes (plan table : List ℕ) (ys : List Frame) (n : Settled) (zs : List Frame) : Type 0 where
+  pub m : Checked
+  pub ws : List Frame
+  pub vs : List Frame
+  pub early : Bool
+  pub judged : Judged false (length ys) m (lentPassed plan table (length ys))
+  pub filledRows : ws ≡ filled (m .rows) ys
+  pub looked : (early ≡ foundAfter lookedRow false ws) × (vs ≡ rowsAfter lookedRow false ws)
+  pub settled : Settles early (m .answer) (lentPassed plan table (length ys)) n
+  pub cleared : zs ≡ rowsAfter clearedRow (n .refused) vs
+
+module _ (plan table : List ℕ) (ys : List Frame) (n : Settled) (zs : List Frame) (h : Passes plan table ys n zs) where
+  -- rule 25 was decided by the scan
+  answer-is : heard (n .answer) ≡ verdict (lentPassed plan table (length ys))
+  answer-is = by-scan (h .early) refl
+    where
+      by-scan : (b : Bool) → h .early ≡ b → heard (n .answer) ≡ verdict (lentPassed plan table (length ys))
+      by-scan true e = h .settled .whole e
+      by-scan false e =
+          ap heard (h .settled .kept e)
+          ∙ h .judged .answered (inr (λ enough. filled-released (h .m .rows) ys enough (h .judged .few) (ap (foundAfter lookedRow false) (sym (h .filledRows)) ∙ sym (h .looked .0) ∙ e)))
+
+  scanned-is : h .vs ≡ filled (h .m .rows) ys
+  scanned-is = h .looked .1 ∙ looked-rows false (h .ws) ∙ h .filledRows
+
+  rows-are : (rule : Res Passed) (a : Verdict) → ((c : Passed) → rule ≡ ok c → h .m .rows ≡ rowsLaid (rowsOf (ok c))) → heard a ≡ verdict rule
+      → rowsAfter clearedRow (refuses a) (filled (h .m .rows) ys) ≡ filled (rowsLaid (rowsOf rule)) ys
+  rows-are (ok c) Fine left e = cleared-not (filled (h .m .rows) ys) ∙ ap (λ r. filled r ys) (left c refl)
+  rows-are (ok c) (Refused x) left e = refuse≢ok e
+  rows-are (refuse k p) Fine left e = refuse≢ok (sym e)
+  rows-are (refuse k p) (Refused x) left e = cleared-laid (h .m .rows) ys
+
+  left-is : zs ≡ filled (rowsLaid (rowsOf (lentPassed plan table (length ys)))) ys
+  left-is = h .cleared ∙ rw (h .settled .refused, scanned-is) (rows-are (lentPassed plan table (length ys)) (n .answer) (h .judged .left) answer-is)
+
+  pub checks-lent : ChecksLent (n .answer) plan table ys zs
+  checks-lent =
+      let rows : List FrameRow = map rowOf ys in
+      let k : length rows ≡ length ys = length-map ys rowOf in
+      record {
+        answered = answer-is ∙ sym (rw k at (check-answer plan table rows));
+        left = filled-is (rowsOf (lentPassed plan table (length ys))) (few-checked plan table (length ys)) ys zs (rowsLaid (rowsOf (lentPassed plan table (length ys)))) (check plan table rows .rows) refl left-is
+            (λ w. rw k at (check-rows plan table rows (rw k w))) (λ w. check-rows-short plan table rows (rw k w));
+      }

@@ -1,5 +1,5 @@
-// The entry points in the form that document 01 names: the frame rows are a lent slice of frame structs. The prover's walk covers no function
-// over such a slice, so each is thin: a covered function answers by value, and `framerows::fill` writes the rows.
+// The entry points over lent frame rows, a slice of frame structs. The prover's walk covers no function over such a slice, so each is thin:
+// covered functions answer by value, and the passes of `framerows` derive the frames into the rows, start them, and scan them there.
 ghost use Rattle.tables.specs.Lent.{ChecksLent, MakesLent};
 use answers::Verdict;
 use units::Frame;
@@ -13,11 +13,15 @@ pub fn make(plan: &[u8], rows: &mut [Frame], buf: &mut [u8]) -> linetable::Answe
     made.answer
 }
 
-// A table file by its plan: refusals 19, 1 to 11 and 20 to 27, or that it passes.
+// A table file by its plan: refusals 19, 1 to 11 and 20 to 27, or that it passes. Rule 25 is decided by the scan of the lent rows; only where
+// that finds an early row are all rules looked at by value, for the lowest record.
 pub fn check(plan: &[u8], table: &[u8], rows: &mut [Frame]) -> Verdict
     ensures { λ r. ⌜ ChecksLent r (now (plan .entry)) (now (table .entry)) (now (rows .entry)) (now (rows .exit)) ⌝ }
 {
-    let checked = checker::check(plan, table, rows.len());
-    framerows::fill(rows, checked.rows);
-    checked.answer
+    let judged = checker::judged(plan, table, rows.len(), false);
+    framerows::fill(rows, judged.rows);
+    let early = framerows::some_early(rows, false);
+    let settled = checker::settled(plan, table, rows.len(), judged.answer, early);
+    framerows::clear(rows, settled.refused);
+    settled.answer
 }

@@ -1,11 +1,10 @@
--- What the five scans found, put in order (`rows_judged`), is what the rules say: `rows-refused` or `rows-passed`.
-use mathlib.Core.Path.{refl}
+-- What the scans found, put in order (`rows_judged`), is what the rules say: `rows-right`.
 use native.Mathlib.Omega.{arith}
 use Prim.Native.Nat.{_≤_}
 use denote.Ref.{now}
 use Rattle.naming.specs.Places.{isNew}
 use Rattle.datarows.specs.Rows.{timeKept, releaseKept, dueKept, gapKept}
-use Rattle.judging.proofs.Verdicts.{spot-among, rows-refused, rows-passed}
+use Rattle.judging.proofs.Verdicts.{spot-among, spot-only, rows-right}
 use borrow.Author.Needs.{needs}
 use Rattle.judging.proofs.by_rows.Statement.{statement}
 use Rattle.judging.proofs.by_rows.Tie as tie
@@ -27,77 +26,42 @@ add-rows-judged c =
 
 rows-judged-requires : tie.Need-rows-judged-requires
 rows-judged-requires c κs =
-    let c1 = c .before .before .before .before in
-    let c2 = c1 .before .before .before in
-    let c3 = c2 .before .before .before .before in
-    let c4 = c3 .before .before .before .before in
-    let c5 = c4 .before .before .before .before .before in
-    let c6 = c5 .before .before in
-    let start = c6 .before .before .before .before in
+    let start = c .before .before .before .before .before .before .before .before .before .before .before .before .before .before .before .before .before .before .before .before .before .before .before .before .before .before in
     let a = start .args in
     let few : a .t1 .rows ≤ 256 = omega (arith, start .pre .0 .room, start .pre .1 .0, start .pre .1 .1) in (
       omega (arith, start .pre .0 .room, start .pre .1 .0, start .pre .1 .1),
       (
-        spot-among (isNew (c6 .numbers .result) (a .frames)) (a .t1 .rows) 256 (c5 .first-unnamed .ensures) few,
+        spot-among (isNew (c .before .before .before .before .before .before .before .before .before .before .before .before .before .before .before .before .before .before .before .before .before .before .numbers .result) (a .frames)) (a .t1 .rows) 256 (c .before .before .before .before .before .before .before .before .before .before .before .before .before .before .before .before .before .before .before .before .first-unnamed .ensures) few,
         (
           spot-among (timeKept (a .t1 .tasks) (a .t1 .starts) (a .t1 .stops) (now (a .times)) (a .bounds .resolution .0))
-              (a .t1 .rows) 256 (c4 .first-mistimed .ensures) few,
+              (a .t1 .rows) 256 (c .before .before .before .before .before .before .before .before .before .before .before .before .before .before .before .first-mistimed .ensures) few,
           (
-            spot-among (releaseKept (a .t1 .starts) (now (a .releases)) (c6 .numbers .result)) (a .t1 .rows) 256 (c3 .first-early .ensures) few,
+            spot-only (a .early-too) (releaseKept (a .t1 .starts) (now (a .releases)) (c .before .before .before .before .before .before .before .before .before .before .before .before .before .before .before .before .before .before .before .before .before .before .numbers .result)) (a .t1 .rows) 256 (c .before .before .before .before .before .before .before .before .before .before .before .early-in .ensures) few,
             (
-              spot-among (dueKept (a .t1 .stops) (a .t1 .deadlines)) (a .t1 .rows) 256 (c2 .first-late .ensures) few,
-              spot-among (gapKept (a .t1 .starts) (a .t1 .stops) (c1 .last-stop .result) (a .bounds .gap .0)) (a .t1 .rows) 256 (c .first-crowded .ensures) few,
+              spot-among (dueKept (a .t1 .stops) (a .t1 .deadlines)) (a .t1 .rows) 256 (c .before .before .before .before .before .before .before .first-late .ensures) few,
+              spot-among (gapKept (a .t1 .starts) (a .t1 .stops) (c .before .before .before .before .last-stop .result .0) (a .bounds .gap .0)) (a .t1 .rows) 256 (c .first-crowded .ensures) few,
             ),
           ),
         ),
       ),
     )
 
-returns : tie.Need-returns
-returns c =
-    let c1 = c .before .before .before .before in
-    let c2 = c1 .before in
-    let c3 = c2 .before .before .before .before in
-    let c4 = c3 .before .before .before in
-    let c5 = c4 .before .before .before .before in
-    let c6 = c5 .before .before .before .before in
-    let c7 = c6 .before .before .before .before .before in
-    let c8 = c7 .before .before in
-    let start = c8 .before .before .before .before in
-    let a = start .args in
-    rows-refused (now (a .tasks)) (now (a .releases)) (now (a .deadlines)) (now (a .times)) (a .frames) (start .pre .0) (a .bounds)
-    (a .t1) (omega (arith, start .pre .0 .room, start .pre .1 .0, start .pre .1 .1))
-    (c8 .numbers .ensures) (c7 .first-unnamed .ensures) (c6 .first-mistimed .ensures) (c5 .first-early .ensures) (c4 .first-late .ensures)
-    (c3 .last-stop .ensures) (c2 .first-crowded .ensures) _
-    (c1 .rows-judged .ensures) (c .before .before .x .given .1) (c .refused .ensures)
-
 starts-by-frame-requires : tie.Need-starts-by-frame-requires
 starts-by-frame-requires c κs =
-    let start = c .before .before .before .before .before .before .before .before .before .before .before .before .before .before .before .before .before .before .before .before .before .before .before .before .before .before .before .before .before .before .before .before in
+    let start = c .before .before .before .before .before .before .before .before .before .before .before .before .before .before .before .before .before .before .before .before .before .before .before .before .before .before .before .before .before .before in
     omega (arith, start .pre .0 .room, start .pre .1 .0, start .pre .1 .1)
 
-returns-2 : tie.Need-returns-2
-returns-2 c =
-    let c1 = c .before .before .before .before in
-    let c2 = c1 .before .before in
-    let c3 = c2 .before in
-    let c4 = c3 .before .before .before .before in
-    let c5 = c4 .before .before .before in
-    let c6 = c5 .before .before .before .before in
-    let c7 = c6 .before .before .before .before in
-    let c8 = c7 .before .before .before .before .before in
-    let c9 = c8 .before .before in
-    let start = c9 .before .before .before .before in
+returns : tie.Need-returns
+returns c =
+    let start = c .before .before .before .before .before .before .before .before .before .before .before .before .before .before .before .before .before .before .before .before .before .before .before .before .before .before .before .before .before .before .before in
     let a = start .args in
-    rows-passed (now (a .tasks)) (now (a .releases)) (now (a .deadlines)) (now (a .times)) (a .frames) (start .pre .0) (a .bounds)
+    rows-right (now (a .tasks)) (now (a .releases)) (now (a .deadlines)) (now (a .times)) (a .frames) (start .pre .0) (a .bounds)
     (a .t1) (omega (arith, start .pre .0 .room, start .pre .1 .0, start .pre .1 .1))
-    (c9 .numbers .ensures) (c8 .first-unnamed .ensures) (c7 .first-mistimed .ensures) (c6 .first-early .ensures) (c5 .first-late .ensures)
-    (c4 .last-stop .ensures) (c3 .first-crowded .ensures) _
-    (c2 .rows-judged .ensures) (c1 .enum-told .given .1) refl (c .starts-by-frame .ensures)
+    (c .before .before .before .before .before .before .before .before .before .before .before .before .before .before .before .before .before .before .before .before .before .before .before .before .before .before .before .numbers .ensures) (c .before .before .before .before .before .before .before .before .before .before .before .before .before .before .before .before .before .before .before .before .before .before .before .before .before .first-unnamed .ensures) (c .before .before .before .before .before .before .before .before .before .before .before .before .before .before .before .before .before .before .before .before .first-mistimed .ensures) (c .before .before .before .before .before .before .before .before .before .before .before .before .before .before .before .before .early-in .ensures) (c .before .before .before .before .before .before .before .before .before .before .before .before .first-late .ensures)
+    (c .before .before .before .before .before .before .before .before .before .last-stop .ensures) (c .before .before .before .before .before .first-crowded .ensures) _ (c .before .before .before .before .rows-judged .ensures) (c .starts-by-frame .ensures)
 
 pub by-rows-spec : {M : Type 1} → statement M
 by-rows-spec =
     tie.close
     (tie.spec (λ c κs. search needs) (λ c κs. search needs) (λ c κs. search needs) (λ c κs. search needs) (λ c κs. search needs)
-    last-stop-requires first-crowded-requires add-rows-judged rows-judged-requires (λ c. search needs) (λ c κs. search needs)
-    returns (λ c. search needs) starts-by-frame-requires returns-2)
+    last-stop-requires first-crowded-requires add-rows-judged rows-judged-requires starts-by-frame-requires returns)

@@ -16,11 +16,11 @@ use Rattle.judging.proofs.first_strange.Statement.{statement}
 use Rattle.judging.proofs.first_strange.Tie as tie
 
 abbrev Inv-loop : tie.InvT-loop
-Inv-loop nodes begins ends senders opens closes controls k₀ k =
-    (k ≤ controls) × (firstBad (controlsSame (controlIn nodes begins ends) (controlIn senders opens closes)) (upTo k) ≡ none)
+Inv-loop nodes starts stops fixed-nodes fixed-starts fixed-stops controls k₀ k =
+    (k ≤ controls) × (firstBad (controlsSame (controlIn nodes starts stops) (controlIn fixed-nodes fixed-starts fixed-stops)) (upTo k) ≡ none)
 
 abbrev μ-loop : tie.MeasureT-loop
-μ-loop nodes begins ends senders opens closes controls k₀ k = controls - k
+μ-loop nodes starts stops fixed-nodes fixed-starts fixed-stops controls k₀ k = controls - k
 
 loop-holds : tie.Need-loop-holds Inv-loop μ-loop
 loop-holds c = (search needs, refl)
@@ -30,8 +30,8 @@ unfolding controlsSame sameControl controlIn
 returns c =
     let c1 = c .before .before .before .before .before .before .before .before in
     let a = c1 .before .before .args in
-    scan-hit (controlsSame (controlIn (now (a .nodes)) (now (a .begins)) (now (a .ends)))
-    (controlIn (now (a .senders)) (now (a .opens)) (now (a .closes)))) (c1 .before .loop .inv .1) (c1 .loop-test .taken)
+    scan-hit (controlsSame (controlIn (now (a .control-nodes)) (now (a .control-starts)) (now (a .control-stops)))
+    (controlIn (now (a .fixed-nodes)) (now (a .fixed-starts)) (now (a .fixed-stops)))) (c1 .before .loop .inv .1) (c1 .loop-test .taken)
     (sym (c .before .same-control .ensures) ∙ not-true _ (c .if1 .taken))
 
 loop-again : tie.Need-loop-again Inv-loop μ-loop
@@ -41,16 +41,16 @@ loop-again c =
     let a = c1 .before .before .args in (
       omega (arith, c1 .loop-test .taken),
       firstBad-upTo-more
-          (controlsSame (controlIn (now (a .nodes)) (now (a .begins)) (now (a .ends)))
-          (controlIn (now (a .senders)) (now (a .opens)) (now (a .closes)))) _ (c1 .before .loop .inv .1)
+          (controlsSame (controlIn (now (a .control-nodes)) (now (a .control-starts)) (now (a .control-stops)))
+          (controlIn (now (a .fixed-nodes)) (now (a .fixed-starts)) (now (a .fixed-stops)))) _ (c1 .before .loop .inv .1)
           (sym (c .before .same-control .ensures) ∙ not-false _ (c .if1 .left)),
     )
 
 returns-2 : tie.Need-returns-2 Inv-loop μ-loop
 returns-2 c =
     let a = c .before .before .args in
-    scan-end (controlsSame (controlIn (now (a .nodes)) (now (a .begins)) (now (a .ends)))
-    (controlIn (now (a .senders)) (now (a .opens)) (now (a .closes)))) (c .before .loop .inv .1) (c .loop-test .left)
+    scan-end (controlsSame (controlIn (now (a .control-nodes)) (now (a .control-starts)) (now (a .control-stops)))
+    (controlIn (now (a .fixed-nodes)) (now (a .fixed-starts)) (now (a .fixed-stops)))) (c .before .loop .inv .1) (c .loop-test .left)
     (c .before .loop .inv .0)
 
 pub first-strange-spec : {M : Type 1} → statement M

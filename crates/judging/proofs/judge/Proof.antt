@@ -24,8 +24,8 @@ first-strange-requires c κs =
     in
     start .pre .1
 
-add-t25 : tie.Need-add-t25
-add-t25 c =
+add-t26 : tie.Need-add-t26
+add-t26 c =
     let c1 = c .before .before .before in
     let start = c1 .before .before .before .before .before .before .before .before .before .before .before .before .before .before .before in
     let a = start .args in
@@ -81,5 +81,5 @@ returns-3 c =
 pub judge-spec : {M : Type 1} → statement M
 judge-spec =
     tie.close
-    (tie.spec (λ c κs. search needs) (λ c κs. search needs) returns first-strange-requires (λ c. search needs) add-t25
+    (tie.spec (λ c κs. search needs) (λ c κs. search needs) returns first-strange-requires (λ c. search needs) add-t26
     (λ c κs. search needs) returns-2 (λ c. search needs) by-rows-requires returns-3)

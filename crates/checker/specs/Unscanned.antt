@@ -1,0 +1,37 @@
+-- A check that leaves rule 25 to a scan of the lent rows.
+use mathlib.Core.Path.{_≡_}
+use mathlib.Core.Bool.{Bool, true, false}
+use mathlib.Core.Logic.{_⊎_}
+use lib.ListN.{getD}
+use Prim.Native.Nat.{ℕ, _≤_, _<_}
+use Rattle.laws.specs.Res.{Res, ok}
+use Rattle.rules.specs.Limits.{mostFrames}
+use Rattle.rules.specs.Checker.{Passed}
+use Rattle.answers.specs.declared.Verdict.{Verdict}
+use Rattle.answers.specs.declared.Verdict.the-variants.{Fine, Refused}
+use Rattle.answers.specs.Refusals.{heard}
+use Rattle.rows.specs.declared.Rows.{Rows}
+use Rattle.rows.specs.Rows.{rowsLaid}
+use Rattle.checked.specs.declared.Checked.{Checked}
+use Rattle.checked.specs.Checking.{verdict, rowsOf}
+use Rattle.checker.specs.declared.Settled.{Settled}
+
+-- no frame row starts before its release
+abbrev pub NoRowEarly : Rows → Type 0
+NoRowEarly r = (k : ℕ) → k < r .frames → getD (r .release) k 0 ≤ getD (r .start) k 0
+
+-- The answer is that of the rules where rule 25 was looked at, or where no frame row is early if enough rows are lent; the rows are those of a table that the rules pass.
+pub record Judged (early-too : Bool) (lent : ℕ) (r : Checked) (rule : Res Passed) : Type 0 where
+  pub answered : (early-too ≡ true) ⊎ (mostFrames ≤ lent → NoRowEarly (r .rows)) → heard (r .answer) ≡ verdict rule
+  pub left : (c : Passed) → rule ≡ ok c → r .rows ≡ rowsLaid (rowsOf (ok c))
+  pub few : r .rows .frames ≤ mostFrames
+
+abbrev pub refuses : Verdict → Bool
+refuses Fine = false
+refuses (Refused x) = true
+
+-- Where a row was early the answer is that of the rules, else the one before; and whether it refuses.
+pub record Settles (early : Bool) (before : Verdict) (rule : Res Passed) (r : Settled) : Type 0 where
+  pub whole : early ≡ true → heard (r .answer) ≡ verdict rule
+  pub kept : early ≡ false → r .answer ≡ before
+  pub refused : r .refused ≡ refuses (r .answer)
