@@ -2,7 +2,7 @@
 -- keep and stands at the rules' first state, at every place of a station; so behind every history of accepted ticks the values shown
 -- are the one board's.
 use mathlib.Core.Path.{_≡_, refl, sym, ap, ap₂, _∙_, subst}
-use mathlib.Core.Bool.{true, false}
+use mathlib.Core.Bool.{Bool, true}
 use mathlib.Core.List.{List}
 use native.Mathlib.Omega.{arith}
 use lib.ListN.{length, getD, replicate, getD-replicate}
@@ -11,6 +11,8 @@ use Rattle.laws.specs.Lists.{tab}
 use Rattle.laws.specs.Res.{Res, ok, refuse}
 use Rattle.laws.proofs.Bus.{table-at}
 use Rattle.laws.proofs.Res.{refuse≢ok}
+use Rattle.places.specs.Flags.{flagAt, flagBytes, isSet}
+use Rattle.places.proofs.Flags.{set-byte}
 use Rattle.rules.specs.Frames.{taskNode}
 use Rattle.rules.specs.History.{boardValue, consumes}
 use Rattle.rules.specs.Plan.{Plan, readPlan}
@@ -39,6 +41,10 @@ run-place k μ t v w =
     let n : (μ * 32 + t) % 32 ≡ t = omega arith in
     table-at 1024 (runLaid k) (μ * 32 + t) 0 (omega arith) ∙ ap₂ (k .run) m n
 
+-- a flag that is kept as a byte
+flag-place : (n : ℕ) (flags : ℕ → Bool) (k : ℕ) → k < n → flagAt (tab (flagBytes flags) 0 n) k ≡ flags k
+flag-place n flags k w = ap isSet (table-at n (flagBytes flags) k 0 w) ∙ set-byte (flags k)
+
 module _ (b : rules.Begun) where
   abbrev k : Kept
   k = b .kept
@@ -53,14 +59,14 @@ module _ (b : rules.Begun) where
         tasks = refl;
         period = refl;
         moduleNode = λ m w. table-at 16 (k .moduleNode) m 0 w;
-        sends = λ m w. table-at 16 (k .sends) m false w;
+        sends = λ m w. flag-place 16 (k .sends) m w;
         modeHome = λ μ w. table-at 32 (k .modeHome) μ 0 w;
         modePeriod = λ μ w. table-at 32 (k .modePeriod) μ 0 w;
         modeSwitch = λ μ w. table-at 32 (k .modeSwitch) μ 0 w;
         taskHome = λ t w. table-at 32 (k .taskHome) t 0 w;
         taskSize = λ t w. table-at 32 (k .taskSize) t 0 w;
         taskWorst = λ t w. table-at 32 (k .taskWorst) t 0 w;
-        isBus = λ t w. table-at 32 (k .isBus) t false w;
+        isBus = λ t w. flag-place 32 (k .isBus) t w;
         run = λ μ v t w. run-place k μ t v w;
         controls = refl;
         controlNode = λ r w. table-at 8 (k .controlNode) r 0 w;

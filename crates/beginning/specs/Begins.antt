@@ -3,6 +3,7 @@ use mathlib.Core.Path.{_≡_}
 use Prim.Native.Nat.{ℕ, _/_, _%_}
 use Rattle.laws.specs.Lists.{tab}
 use Rattle.laws.specs.Res.{Res, ok, refuse}
+use Rattle.places.specs.Flags.{flagBytes}
 use Rattle.rules.specs.Station as rules
 use Rattle.rules.specs.Station.{Kept}
 use Rattle.station.specs.Memory.{laid, notBegun}
@@ -18,7 +19,7 @@ runLaid k j = k .run (j / 32) (j % 32)
 unfoldable pub keptLaid : Kept → Station
 keptLaid k =
     record {
-      modules = record { count = k .modules; sites = tab (k .moduleNode) 0 16; sending = tab (k .sends) 0 16 };
+      modules = record { count = k .modules; sites = tab (k .moduleNode) 0 16; sending = tab (flagBytes (k .sends)) 0 16 };
       modes =
           record {
             count = k .modes;
@@ -32,7 +33,7 @@ keptLaid k =
             homes = tab (k .taskHome) 0 32;
             sizes = tab (k .taskSize) 0 32;
             worsts = tab (k .taskWorst) 0 32;
-            bus = tab (k .isBus) 0 32;
+            bus = tab (flagBytes (k .isBus)) 0 32;
           };
       controls =
           record {

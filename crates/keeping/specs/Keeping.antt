@@ -3,6 +3,7 @@ use mathlib.Core.List.{List}
 use lib.ListN.{length}
 use Prim.Native.Nat.{ℕ, _/_, _%_}
 use Rattle.laws.specs.Lists.{tab}
+use Rattle.places.specs.Flags.{flagBytes}
 use Rattle.rules.specs.Plan.{Plan, Invocation, theMode, theTask}
 use Rattle.rules.specs.Frames.{moduleNode, isBusTask, isSending}
 use Rattle.rules.specs.Playing.{periodAmong}
@@ -35,7 +36,7 @@ taskWorst p t = theTask p t .worst
 
 unfoldable pub modulesOf : Plan → Modules
 modulesOf p =
-    record { count = length (p .modules); sites = tab (moduleNode p) 0 16; sending = tab (isSending p) 0 16 }
+    record { count = length (p .modules); sites = tab (moduleNode p) 0 16; sending = tab (flagBytes (isSending p)) 0 16 }
 
 unfoldable pub modesOf : Plan → Modes
 modesOf p =
@@ -53,7 +54,7 @@ tasksOf p =
       homes = tab (taskHome p) 0 32;
       sizes = tab (taskSize p) 0 32;
       worsts = tab (taskWorst p) 0 32;
-      bus = tab (isBusTask p) 0 32;
+      bus = tab (flagBytes (isBusTask p)) 0 32;
     }
 
 -- the period of mode j / 32 and task j % 32, had the plan only these invocations; and of all its invocations

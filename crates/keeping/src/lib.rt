@@ -7,6 +7,7 @@ ghost use Rattle.plan.specs.Memory.{seen};
 ghost use Rattle.bus.specs.Senders.{byNumber};
 ghost use Rattle.keeping.specs.Keeping.{controlsOf, keptFrom, modesOf, modulesOf, runsOf, tasksOf};
 use bus::Senders;
+use places::flag_byte;
 use plan::Plan;
 use plan::look::invocation_at;
 use plan::look::invocation_count;
@@ -29,12 +30,12 @@ fn modules(p: Plan, senders: [bool; 256]) -> Modules
     ensures { λ r. ⌜ r ≡ modulesOf (seen p) ⌝ }
 {
     let mut sites: [u8; 16] = [0; 16];
-    let mut sending = [false; 16];
+    let mut sending: [u8; 16] = [0; 16];
     let mut m = 0;
     while m < 16 {
         let module = module_at(p, m);
         sites[m] = module.node.0;
-        sending[m] = senders[m];
+        sending[m] = flag_byte(senders[m]);
         m += 1;
     }
     Modules {
@@ -74,14 +75,14 @@ fn tasks(p: Plan, buses: [bool; 256]) -> Tasks
     let mut homes: [u8; 32] = [0; 32];
     let mut sizes: [u8; 32] = [0; 32];
     let mut worsts: [u32; 32] = [0; 32];
-    let mut bus = [false; 32];
+    let mut bus: [u8; 32] = [0; 32];
     let mut t = 0;
     while t < 32 {
         let task = task_at(p, t);
         homes[t] = task.home.0;
         sizes[t] = task.size.0 as u8;
         worsts[t] = task.worst.0;
-        bus[t] = buses[t];
+        bus[t] = flag_byte(buses[t]);
         t += 1;
     }
     Tasks {

@@ -1,11 +1,11 @@
 -- What a tick is given and answers, in the numbers that C has.
 use mathlib.Core.Bool.{cond}
 use mathlib.Core.List.{List}
-use lib.Dec.{eqb}
 use lib.ListN.{getD, replicate}
 use Prim.Native.Nat.{ℕ}
 use Rattle.laws.specs.Res.{ok}
 use Rattle.laws.specs.Loops.{stores}
+use Rattle.places.specs.Flags.{isSet}
 use Rattle.answers.specs.Refusals.{said}
 use Rattle.stationruns.specs.declared.Given.{Given}
 use Rattle.stationruns.specs.declared.Given.the-variants as given
@@ -17,13 +17,13 @@ use Rattle.outward.specs.declared.Answer.{Answer}
 use Rattle.outward.specs.declared.Row.{Row}
 use Rattle.outward.specs.Answers.{answerOf}
 
--- a result counts where its flag is not 0
+-- a result counts where its flag is set
 unfoldable pub givenFor : ℕ → ℕ → Given
-givenFor flag result = cond (eqb flag 0) given.Nothing (given.Result result)
+givenFor flag result = cond (isSet flag) (given.Result result) given.Nothing
 
 -- and so does a change of mode
 unfoldable pub changeFor : ℕ → ℕ → Change
-changeFor flag mode = cond (eqb flag 0) change.Nothing (change.To (record { 0 = mode }))
+changeFor flag mode = cond (isSet flag) (change.To (record { 0 = mode })) change.Nothing
 
 unfoldable pub givenAt : List ℕ → List ℕ → ℕ → Given
 givenAt results flags t = givenFor (getD flags t 0) (getD results t 0)

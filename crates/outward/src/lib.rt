@@ -6,6 +6,7 @@ ghost use Rattle.outward.specs.Answers.{answerOf, madeOf};
 ghost use Rattle.outward.specs.Numbers.{answerSaid, changeFor, changesFor, givenFor, givensFor, rowFor, rowSaid};
 use answers::Refusal;
 use answers::Verdict;
+use places::is_set;
 use stationmoves::Said;
 use stationruns::Change;
 use stationruns::Given;
@@ -64,19 +65,19 @@ pub struct Row {
 fn given_for(given: u8, result: u64) -> Given
     ensures { λ r. ⌜ r ≡ givenFor given result ⌝ }
 {
-    if given == 0 {
-        return Given::Nothing;
+    if is_set(given) {
+        return Given::Result(result);
     }
-    Given::Result(result)
+    Given::Nothing
 }
 
 fn change_for(changed: u8, mode: u8) -> Change
     ensures { λ r. ⌜ r ≡ changeFor changed mode ⌝ }
 {
-    if changed == 0 {
-        return Change::Nothing;
+    if is_set(changed) {
+        return Change::To(ModeNo(mode));
     }
-    Change::To(ModeNo(mode))
+    Change::Nothing
 }
 
 pub fn givens_for(results: &[u64; 32], given: &[u8; 32]) -> [Given; 32]

@@ -11,6 +11,7 @@ use lib.ListN.{getD}
 use Prim.Native.Nat.{ℕ, _+_, _*_, _/_, _%_, _≤_, _<_}
 use Rattle.laws.specs.Loops.{stores}
 use Rattle.laws.proofs.Stores.{stores-same, stores-idle}
+use Rattle.places.specs.Flags.{isSet}
 use Rattle.rules.specs.Station.{
   Kept,
   State,
@@ -91,14 +92,14 @@ home-within k s e t w =
 module _ (st : Station) where
   -- (b)
   landed-by : (n t : ℕ) (o : Option ℕ)
-      → landedRule (landingOf (st .carries) (st .tasks .homes) (st .modules .sites) (st .play .full) (st .play .load) o) n
+      → landedRule (landingOf (st .carries) (st .tasks .homes) (st .modules .sites) (isSet (st .play .full)) (st .play .load) o) n
       (getD (st .nodes) n noNode .landed) t
       ≡ landedBy (keptOf st) (stateOf st) n t o
   unfolding keptOf keptBy stateOf stateBy landsOn homeNode
   landed-by n t none = refl
   landed-by n t (some r) =
       lands-same (st .modules .sites) (st .tasks .homes) (getD (st .nodes) n noNode .landed) (getD (st .carries) r 0) (st .play .load) n t
-      (st .play .full)
+      (isSet (st .play .full))
 
   abbrev landing : Landing
   landing = landingBy (st .modules) (st .tasks) (st .datas) (st .play) (st .carries) (st .stops)

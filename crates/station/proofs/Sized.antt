@@ -1,11 +1,12 @@
 -- The arrays of a station have their lengths, from the beginning on and behind every tick; so the state that is laid into them is
 -- read off them again, at every place of a station.
 use mathlib.Core.Path.{_≡_, refl, ap, ap₂, _∙_}
-use mathlib.Core.Bool.{false}
 use lib.ListN.{length, getD}
 use Prim.Native.Nat.{ℕ, _+_, _*_, _<_}
 use Rattle.laws.proofs.Loops.{length-stores}
 use Rattle.laws.proofs.Stores.{stores-within}
+use Rattle.places.specs.Flags.{flagBytes, isSet}
+use Rattle.places.proofs.Flags.{set-byte}
 use Rattle.rules.specs.Station.{State}
 use Rattle.rules.proofs.StationPlaces.{Agree}
 use Rattle.stationnodes.specs.Nodes.{noNode}
@@ -37,7 +38,7 @@ module _ (st : Station) (z : Sized st) (s : State) where
         running = length-stores (st .play .running) (s .mode) 16 ∙ z .running;
         ages = length-stores (st .play .ages) (s .age) 16 ∙ z .ages;
         bytes = length-stores (st .play .bytes) (s .modeByte) 16 ∙ z .bytes;
-        givens = length-stores (st .play .givens) (s .given) 32 ∙ z .givens;
+        givens = length-stores (st .play .givens) (flagBytes (s .given)) 32 ∙ z .givens;
         out = length-stores (st .play .out) (s .out) 32 ∙ z .out;
         held = length-stores (st .play .held) (heldLaid s) 128 ∙ z .held;
         nodes = length-stores (st .nodes) (nodeLaid (st .nodes) s) 8 ∙ z .nodes;
@@ -56,12 +57,12 @@ module _ (st : Station) (z : Sized st) (s : State) where
         clock = refl;
         mode = λ m w. stores-within (st .play .running) (s .mode) 16 0 (z .running) refl m w;
         age = λ m w. stores-within (st .play .ages) (s .age) 16 0 (z .ages) refl m w;
-        given = λ t w. stores-within (st .play .givens) (s .given) 32 false (z .givens) refl t w;
+        given = λ t w. ap isSet (stores-within (st .play .givens) (flagBytes (s .given)) 32 0 (z .givens) refl t w) ∙ set-byte (s .given t);
         out = λ t w. stores-within (st .play .out) (s .out) 32 0 (z .out) refl t w;
         landed = λ n v t w. ap (λ (x : Node). getD (x .landed) t 0) (node-at n v) ∙ stores-within (getD (st .nodes) n noNode .landed) (s .landed n) 32 0 (z .landed n v) refl t w;
         shown = λ n v t w. ap (λ (x : Node). getD (x .shown) t 0) (node-at n v) ∙ stores-within (getD (st .nodes) n noNode .shown) (s .shown n) 32 0 (z .shown n v) refl t w;
         held = λ n v m w. stores-within (st .play .held) (heldLaid s) 128 0 (z .held) refl (n * 16 + m) (place-within n m v w) ∙ held-place n m w;
-        full = refl;
+        full = set-byte (s .full);
         load = refl;
         modeByte = λ m w. stores-within (st .play .bytes) (s .modeByte) 16 0 (z .bytes) refl m w;
       }

@@ -8,6 +8,7 @@ use lib.ListN.{getD}
 use Prim.Native.Nat.{ℕ, _+_, _*_, _/_, _%_, _<_}
 use Rattle.laws.specs.Loops.{stores}
 use Rattle.laws.proofs.Stores.{stores-same}
+use Rattle.places.specs.Flags.{flagByte, flagBytes, isSet}
 use Rattle.rules.specs.Station.{
   Kept,
   State,
@@ -96,16 +97,16 @@ module _ (st : Station) where
         stores-same (st .play .bytes) (bytes-rule (startingControl k s)) (modeByteAfter k s i) 16
         (λ m w. byte-same (startingControl k s) m)
 
-    given-rule : List Bool → ℕ → Bool
+    given-rule : List Bool → ℕ → ℕ
     given-rule ends = givenRule results changes ends (st .tasks .homes) (st .play .givens)
 
-    given-same : (ends : List Bool) (t : ℕ) → getD ends t false ≡ endsNow k s t → given-rule ends t ≡ givenAfter k s i t
+    given-same : (ends : List Bool) (t : ℕ) → getD ends t false ≡ endsNow k s t → given-rule ends t ≡ flagBytes (givenAfter k s i) t
     unfolding given-rule givenAfter keptOf keptBy stateOf stateBy inputOf
     given-same ends t e = rw e
 
     givens-same : (ends : List Bool) → ((t : ℕ) → t < 32 → getD ends t false ≡ endsNow k s t)
-        → stores (st .play .givens) (given-rule ends) 32 ≡ stores (st .play .givens) (givenAfter k s i) 32
-    givens-same ends e = stores-same (st .play .givens) (given-rule ends) (givenAfter k s i) 32 (λ t w. given-same ends t (e t w))
+        → stores (st .play .givens) (given-rule ends) 32 ≡ stores (st .play .givens) (flagBytes (givenAfter k s i)) 32
+    givens-same ends e = stores-same (st .play .givens) (given-rule ends) (flagBytes (givenAfter k s i)) 32 (λ t w. given-same ends t (e t w))
 
     unfoldable pub held-rule : Option ℕ → ℕ → ℕ
     held-rule = heldRule (st .modules .sending) (st .modules .sites) (st .play .bytes) (st .controls .nodes) (st .play .held)
@@ -124,9 +125,10 @@ module _ (st : Station) where
         (λ j w. held-by (rowWith (k .controlStop) (k .controls) (s .clock)) (j / 16) (j % 16) j refl refl (div-add-mod' j 16))
 
     full-same : (o : Option ℕ)
-        → fullRule (st .tasks .bus) (st .runs) (modeRule changes (st .play .running)) (st .tasks .homes) (st .carries) (st .deadlines)
-        (st .play .full) o
-        ≡ fullBy k s i o
+        → flagByte
+        (fullRule (st .tasks .bus) (st .runs) (modeRule changes (st .play .running)) (st .tasks .homes) (st .carries) (st .deadlines)
+        (isSet (st .play .full)) o)
+        ≡ flagByte (fullBy k s i o)
     unfolding keptOf keptBy stateOf stateBy inputOf hasMessage modeAfter
     full-same none = refl
     full-same (some r) = refl

@@ -1,10 +1,10 @@
 -- How a station stands in memory: what its structs and arrays hold at each place (`keptOf`, `stateOf`), and a state laid into them
 -- (`laid`): each array as it was, with the state's values stored at its places.
-use mathlib.Core.Bool.{Bool, false}
 use mathlib.Core.List.{List}
 use lib.ListN.{getD, replicate}
 use Prim.Native.Nat.{ℕ, _+_, _*_, _/_, _%_}
 use Rattle.laws.specs.Loops.{stores}
+use Rattle.places.specs.Flags.{flagAt, flagByte, flagBytes, isSet}
 use Rattle.rules.specs.Station.{Kept, State}
 use Rattle.stationruns.specs.Runs.{periodAt}
 use Rattle.stationbus.specs.Bus.{numberAt}
@@ -17,9 +17,6 @@ use Rattle.stationrefusals.specs.declared.Tasks.{Tasks}
 use Rattle.stationrefusals.specs.declared.Controls.{Controls}
 use Rattle.stationrefusals.specs.declared.Play.{Play}
 use Rattle.station.specs.declared.Station.{Station}
-
-abbrev pub flagAt : List Bool → ℕ → Bool
-flagAt l k = getD l k false
 
 -- "It keeps its own copy of what it needs"
 unfoldable pub keptBy : Modules → Modes → Tasks → Controls → ℕ → Ticks → List ℕ → List ℕ → List ℕ → List ℕ → List ℕ → Kept
@@ -67,7 +64,7 @@ stateBy play nodes =
       landed = λ n t. getD (getD nodes n noNode .landed) t 0;
       shown = λ n t. getD (getD nodes n noNode .shown) t 0;
       held = λ n m. getD (play .held) (n * 16 + m) 0;
-      full = play .full;
+      full = isSet (play .full);
       load = play .load;
       modeByte = numberAt (play .bytes);
     }
@@ -86,10 +83,10 @@ playLaid old s =
       running = stores (old .running) (s .mode) 16;
       ages = stores (old .ages) (s .age) 16;
       bytes = stores (old .bytes) (s .modeByte) 16;
-      givens = stores (old .givens) (s .given) 32;
+      givens = stores (old .givens) (flagBytes (s .given)) 32;
       out = stores (old .out) (s .out) 32;
       held = stores (old .held) (heldLaid s) 128;
-      full = s .full;
+      full = flagByte (s .full);
       load = s .load;
     }
 
@@ -122,7 +119,7 @@ laid st s =
 unfoldable pub notBegun : Station
 notBegun =
     record {
-      modules = record { count = 0; sites = replicate 16 0; sending = replicate 16 false };
+      modules = record { count = 0; sites = replicate 16 0; sending = replicate 16 0 };
       modes = record { count = 0; homes = replicate 32 0; periods = replicate 32 0; switches = replicate 32 0 };
       tasks =
           record {
@@ -130,7 +127,7 @@ notBegun =
             homes = replicate 32 0;
             sizes = replicate 32 0;
             worsts = replicate 32 0;
-            bus = replicate 32 false;
+            bus = replicate 32 0;
           };
       controls = record { count = 0; nodes = replicate 8 0; starts = replicate 8 0; stops = replicate 8 0 };
       period = record { 0 = 0 };
@@ -146,10 +143,10 @@ notBegun =
             running = replicate 16 0;
             ages = replicate 16 0;
             bytes = replicate 16 0;
-            givens = replicate 32 false;
+            givens = replicate 32 0;
             out = replicate 32 0;
             held = replicate 128 0;
-            full = false;
+            full = 0;
             load = 0;
           };
       nodes = replicate 8 zeroNode;

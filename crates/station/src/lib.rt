@@ -232,7 +232,7 @@ impl Station {
             modules: Modules {
                 count: 0,
                 sites: [0; 16],
-                sending: [false; 16],
+                sending: [0; 16],
             },
             modes: Modes {
                 count: 0,
@@ -245,7 +245,7 @@ impl Station {
                 homes: [0; 32],
                 sizes: [0; 32],
                 worsts: [0; 32],
-                bus: [false; 32],
+                bus: [0; 32],
             },
             controls: Controls {
                 count: 0,
@@ -265,10 +265,10 @@ impl Station {
                 running: [0; 16],
                 ages: [0; 16],
                 bytes: [0; 16],
-                givens: [false; 32],
+                givens: [0; 32],
                 out: [0; 32],
                 held: [0; 128],
-                full: false,
+                full: 0,
                 load: 0,
             },
             nodes: [Node::zero(); 8],

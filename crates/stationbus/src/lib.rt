@@ -60,7 +60,7 @@ pub fn row_with<'a>(times: &'a [u32], count: usize, time: u32) -> Found
 }
 
 // Whether a control frame of the node `sender` has a byte for the module.
-fn is_byte_of<'a>(sends: &'a [bool; 16], nodes: &'a [u8; 16], sender: usize, m: usize) -> bool
+fn is_byte_of<'a>(sends: &'a [u8; 16], nodes: &'a [u8; 16], sender: usize, m: usize) -> bool
     ensures { λ r. ⌜ r ≡ isByteAt (now (sends .entry)) (now (nodes .entry)) sender m ⌝ }
 {
     both(flag_at(sends, m), byte_at(nodes, m) == sender)
@@ -70,7 +70,7 @@ fn held_at<'a>(
     old: u8,
     place: usize,
     sender: usize,
-    sends: &'a [bool; 16],
+    sends: &'a [u8; 16],
     nodes: &'a [u8; 16],
     bytes: &'a [u8; 16],
 ) -> u8
@@ -90,7 +90,7 @@ fn held_at<'a>(
 fn held_from<'a>(
     mut held: [u8; 128],
     sender: usize,
-    sends: &'a [bool; 16],
+    sends: &'a [u8; 16],
     nodes: &'a [u8; 16],
     bytes: &'a [u8; 16],
 ) -> [u8; 128]
@@ -109,7 +109,7 @@ pub fn held_after<'a>(
     held: [u8; 128],
     row: Found,
     senders: &'a [u8; 8],
-    sends: &'a [bool; 16],
+    sends: &'a [u8; 16],
     nodes: &'a [u8; 16],
     bytes: &'a [u8; 16],
 ) -> [u8; 128]
@@ -126,7 +126,7 @@ fn byte_from<'a>(
     old: u8,
     m: usize,
     sender: usize,
-    sends: &'a [bool; 16],
+    sends: &'a [u8; 16],
     nodes: &'a [u8; 16],
     mode: u8,
 ) -> u8
@@ -142,7 +142,7 @@ fn byte_from<'a>(
 fn bytes_from<'a>(
     mut bytes: [u8; 16],
     sender: usize,
-    sends: &'a [bool; 16],
+    sends: &'a [u8; 16],
     nodes: &'a [u8; 16],
     modes: &'a [u8; 16],
 ) -> [u8; 16]
@@ -161,7 +161,7 @@ pub fn bytes_after<'a>(
     bytes: [u8; 16],
     row: Found,
     senders: &'a [u8; 8],
-    sends: &'a [bool; 16],
+    sends: &'a [u8; 16],
     nodes: &'a [u8; 16],
     modes: &'a [u8; 16],
 ) -> [u8; 16]
@@ -175,7 +175,7 @@ pub fn bytes_after<'a>(
 
 // Whether a bus task has a message with this deadline in this mode.
 pub fn has_message<'a>(
-    bus: &'a [bool; 32],
+    bus: &'a [u8; 32],
     runs: &'a [u32; 1024],
     task: usize,
     mode: usize,
@@ -200,7 +200,7 @@ pub fn full_after<'a>(
     deadlines: &'a [u32; 256],
     homes: &'a [u8; 32],
     modes: &'a [u8; 16],
-    bus: &'a [bool; 32],
+    bus: &'a [u8; 32],
     runs: &'a [u32; 1024],
 ) -> bool
     ensures { λ r. ⌜ r ≡ fullRule (now (bus .entry)) (now (runs .entry)) (numberAt (now (modes .entry))) (now (homes .entry)) (now (tasks .entry)) (now (deadlines .entry)) full (placeIn row) ⌝ }

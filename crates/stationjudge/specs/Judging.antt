@@ -11,6 +11,7 @@ use Rattle.laws.specs.Lists.{firstBad, upTo}
 use Rattle.laws.specs.Res.{Res, ok, _>>_, at}
 use Rattle.rules.specs.Playing.{isGiven}
 use Rattle.rules.specs.Station.{fitsIn}
+use Rattle.places.specs.Flags.{flagAt}
 use Rattle.answers.specs.Refusals.{said}
 use Rattle.stationruns.specs.Inputs.{resultAt, changeAt}
 use Rattle.stationruns.specs.Runs.{runAt, awaits, lastChance}
@@ -20,19 +21,19 @@ use Rattle.answers.specs.declared.Verdict.{Verdict}
 use Rattle.answers.specs.declared.Verdict.the-variants as judged
 
 -- 41
-abbrev pub awaitedTest : List Given → ℕ → List ℕ → List ℕ → List ℕ → List ℕ → List Bool → List ℕ → ℕ → Bool
+abbrev pub awaitedTest : List Given → ℕ → List ℕ → List ℕ → List ℕ → List ℕ → List ℕ → List ℕ → ℕ → Bool
 awaitedTest results tasks runs modes ages homes givens worsts t =
-    not (isGiven (resultAt results t)) || awaits (runAt runs modes ages homes t) (ltb t tasks) (getD givens t false) (getD worsts t 0)
+    not (isGiven (resultAt results t)) || awaits (runAt runs modes ages homes t) (ltb t tasks) (flagAt givens t) (getD worsts t 0)
 
 -- 42
 abbrev pub fitsTest : List Given → List ℕ → ℕ → Bool
 fitsTest results sizes t = fitsIn (getD sizes t 0) (resultAt results t)
 
 -- 43
-abbrev pub inTimeTest : List Given → ℕ → List ℕ → List ℕ → List ℕ → List ℕ → List Bool → List ℕ → ℕ → Bool
+abbrev pub inTimeTest : List Given → ℕ → List ℕ → List ℕ → List ℕ → List ℕ → List ℕ → List ℕ → ℕ → Bool
 inTimeTest results tasks runs modes ages homes givens worsts t =
     not (lastChance (runAt runs modes ages homes t) (ltb t tasks) (getD worsts t 0))
-    || (getD givens t false || isGiven (resultAt results t))
+    || (flagAt givens t || isGiven (resultAt results t))
 
 -- 44
 abbrev pub allows : ℕ → ℕ → List ℕ → ℕ → ℕ → ℕ → Option ℕ → Bool
@@ -45,7 +46,7 @@ allowedTest changes modules modes homes switches running ages m =
     allows modules modes homes (getD switches (getD running m 0) 0) (getD ages m 0) m (changeAt changes m)
 
 -- "Refusals, in order, lowest task or module first as place"
-abbrev pub resultsJudged : List Given → ℕ → List ℕ → List ℕ → List ℕ → List ℕ → List Bool → List ℕ → List ℕ → Res (Unit {0})
+abbrev pub resultsJudged : List Given → ℕ → List ℕ → List ℕ → List ℕ → List ℕ → List ℕ → List ℕ → List ℕ → Res (Unit {0})
 resultsJudged results tasks runs modes ages homes givens sizes worsts = do
   at 41 0 (firstBad (awaitedTest results tasks runs modes ages homes givens worsts) (upTo 32))
   at 42 0 (firstBad (fitsTest results sizes) (upTo 32))

@@ -12,6 +12,7 @@ use figures::both;
 use figures::divides;
 use places::Found;
 use places::byte_at;
+use places::flag_at;
 use places::number_at;
 use stationruns::Change;
 use stationruns::Given;
@@ -30,7 +31,7 @@ pub fn not_awaited<'a>(
     modes: &'a [u8; 16],
     ages: &'a [u32; 16],
     homes: &'a [u8; 32],
-    givens: &'a [bool; 32],
+    givens: &'a [u8; 32],
     worsts: &'a [u32; 32],
 ) -> Found
     ensures { λ r. ⌜ placeIn r ≡ firstBad (awaitedTest results tasks (now (runs .entry)) (now (modes .entry)) (now (ages .entry)) (now (homes .entry)) (now (givens .entry)) (now (worsts .entry))) (upTo 32) ⌝ }
@@ -42,7 +43,7 @@ pub fn not_awaited<'a>(
             given,
             run_at(runs, modes, ages, homes, t),
             t < tasks as usize,
-            givens[t],
+            flag_at(givens, t),
             worsts[t],
         ) {
             t += 1;
@@ -77,7 +78,7 @@ pub fn overdue<'a>(
     modes: &'a [u8; 16],
     ages: &'a [u32; 16],
     homes: &'a [u8; 32],
-    givens: &'a [bool; 32],
+    givens: &'a [u8; 32],
     worsts: &'a [u32; 32],
 ) -> Found
     ensures { λ r. ⌜ placeIn r ≡ firstBad (inTimeTest results tasks (now (runs .entry)) (now (modes .entry)) (now (ages .entry)) (now (homes .entry)) (now (givens .entry)) (now (worsts .entry))) (upTo 32) ⌝ }
@@ -89,7 +90,7 @@ pub fn overdue<'a>(
             given,
             run_at(runs, modes, ages, homes, t),
             t < tasks as usize,
-            givens[t],
+            flag_at(givens, t),
             worsts[t],
         ) {
             t += 1;
@@ -153,7 +154,7 @@ pub fn judged_results<'a>(
     modes: &'a [u8; 16],
     ages: &'a [u32; 16],
     homes: &'a [u8; 32],
-    givens: &'a [bool; 32],
+    givens: &'a [u8; 32],
     sizes: &'a [u8; 32],
     worsts: &'a [u32; 32],
 ) -> Verdict

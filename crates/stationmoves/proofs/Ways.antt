@@ -14,7 +14,7 @@ use Rattle.stationmoves.specs.declared.Moved.{Moved}
 use Rattle.stationmoves.specs.declared.Said.{Said}
 
 -- what a tick changes beside the nodes
-pub play-made : {t t′ load load′ : ℕ} {run run′ ages ages′ bytes bytes′ out out′ held held′ : List ℕ} {givens givens′ : List Bool} {full full′ : Bool}
+pub play-made : {t t′ load load′ : ℕ} {run run′ ages ages′ bytes bytes′ givens givens′ out out′ held held′ : List ℕ} {full full′ : ℕ}
     → t ≡ t′ → run ≡ run′ → ages ≡ ages′ → bytes ≡ bytes′ → givens ≡ givens′ → out ≡ out′ → held ≡ held′ → full ≡ full′ → load ≡ load′
     → _≡_ {A = Play}
     (record { clock = record { 0 = t }; running = run; ages = ages; bytes = bytes; givens = givens; out = out; held = held; full = full; load = load })
@@ -23,18 +23,18 @@ play-made h1 h2 h3 h4 h5 h6 h7 h8 h9 = rw (h1, h2, h3, h4, h5, h6, h7, h8, h9)
 
 -- the mode bytes and the data frame take the modes and the out-boxes after the tick
 module _ (f g : ℕ → ℕ) (same : (k : ℕ) → f k ≡ g k) where
-  byte-same : (sends : List Bool) (nodes senders bytes : List ℕ) (o : Option ℕ) (m : ℕ)
+  byte-same : (sends nodes senders bytes : List ℕ) (o : Option ℕ) (m : ℕ)
       → modeByteRule sends nodes f senders bytes o m ≡ modeByteRule sends nodes g senders bytes o m
   byte-same sends nodes senders bytes none m = refl
   byte-same sends nodes senders bytes (some r) m = rw (same m)
 
-  pub bytes-same : (sends : List Bool) (nodes senders bytes : List ℕ) (o : Option ℕ)
+  pub bytes-same : (sends nodes senders bytes : List ℕ) (o : Option ℕ)
       → stores bytes (modeByteRule sends nodes f senders bytes o) 16 ≡ stores bytes (modeByteRule sends nodes g senders bytes o) 16
   bytes-same sends nodes senders bytes o =
       stores-same bytes (modeByteRule sends nodes f senders bytes o) (modeByteRule sends nodes g senders bytes o) 16
       (λ m w. byte-same sends nodes senders bytes o m)
 
-  pub full-same : (isBus : List Bool) (runs homes tasks deadlines : List ℕ) (full : Bool) (o : Option ℕ)
+  pub full-same : (isBus runs homes tasks deadlines : List ℕ) (full : Bool) (o : Option ℕ)
       → fullRule isBus runs f homes tasks deadlines full o ≡ fullRule isBus runs g homes tasks deadlines full o
   full-same isBus runs homes tasks deadlines full none = refl
   full-same isBus runs homes tasks deadlines full (some r) = rw (same (getD homes (getD tasks r 0) 0))

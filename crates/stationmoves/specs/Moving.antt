@@ -7,6 +7,7 @@ use lib.ListN.{getD}
 use Prim.Native.Nat.{ℕ, _%_, _<_}
 use Rattle.laws.specs.Loops.{stores}
 use Rattle.laws.specs.Res.{_>>_}
+use Rattle.places.specs.Flags.{flagByte, isSet}
 use Rattle.rules.specs.Station.{oneOn, rowWith}
 use Rattle.stationruns.specs.declared.Given.{Given}
 use Rattle.stationruns.specs.declared.Change.{Change}
@@ -70,7 +71,7 @@ playBy results changes modules modes tasks controls play period control message 
       givens = stores (play .givens) (givenRule results changes ends (tasks .homes) (play .givens)) 32;
       out = stores (play .out) out 32;
       held = stores (play .held) (heldNow modules controls play) 128;
-      full = fullRule (tasks .bus) runs running (tasks .homes) carries deadlines (play .full) message;
+      full = flagByte (fullRule (tasks .bus) runs running (tasks .homes) carries deadlines (isSet (play .full)) message);
       load = loadRule out carries (play .load) message;
     }
 
@@ -91,7 +92,7 @@ movedBy results changes modules modes tasks controls datas period play ends runs
 -- (b) of the data frame
 abbrev pub landingBy : Modules → Tasks → ℕ → Play → List ℕ → List ℕ → Landing
 landingBy modules tasks datas play carries stops =
-    landingOf carries (tasks .homes) (modules .sites) (play .full) (play .load)
+    landingOf carries (tasks .homes) (modules .sites) (isSet (play .full)) (play .load)
     (rowWith (numberAt stops) datas (play .clock .0))
 
 -- what is read from the arrays just filled

@@ -9,6 +9,8 @@ use answers::Refusal;
 use figures::rest;
 use places::Found;
 use places::byte_at;
+use places::flag_byte;
+use places::is_set;
 use places::number_at;
 use stationbus::bytes_after;
 use stationbus::full_after;
@@ -163,7 +165,7 @@ fn played<'a>(
         &running,
     );
     let full = full_after(
-        play.full,
+        is_set(play.full),
         message,
         carries,
         deadlines,
@@ -181,7 +183,7 @@ fn played<'a>(
         givens,
         out,
         held,
-        full,
+        full: flag_byte(full),
         load,
     }
 }
@@ -251,7 +253,7 @@ pub fn what_lands<'a>(
     let stopped = row_with(stops, datas as usize, play.clock.0);
     lands(
         stopped,
-        play.full,
+        is_set(play.full),
         play.load,
         carries,
         &tasks.homes,

@@ -50,7 +50,7 @@ module _ (l : Landing) (task sender v n : ℕ) (landed : List ℕ) (is : l ≡ V
 pub made : {l x s y : List ℕ} → l ≡ x → s ≡ y → _≡_ {A = Node} (record { landed = l; shown = s }) (record { landed = x; shown = y })
 made e h = rw (h, e)
 
-module _ (ends : List Bool) (homes nodes out held : List ℕ) (isBus : List Bool) (runs : List ℕ) (clock n : ℕ) (old shown : List ℕ) where
+module _ (ends : List Bool) (homes nodes out held isBus runs : List ℕ) (clock n : ℕ) (old shown : List ℕ) where
   shows : (ℕ → ℕ) → ℕ → ℕ
   shows f = shownRule ends homes nodes out held isBus runs clock n f shown
 

@@ -30,16 +30,16 @@ landedRule Nothing n landed t = getD landed t 0
 landedRule (Value task sender v) n landed t = cond (eqb task t && not (eqb sender n)) v (getD landed t 0)
 
 -- (c) by the runs that end, the out-boxes after (a), the landed values and the mode bytes held after (b)
-abbrev pub shownAt : List Bool → List ℕ → List ℕ → List ℕ → List ℕ → List Bool → List ℕ → ℕ → ℕ → (ℕ → ℕ) → ℕ → ℕ → ℕ
+abbrev pub shownAt : List Bool → List ℕ → List ℕ → List ℕ → List ℕ → List ℕ → List ℕ → ℕ → ℕ → (ℕ → ℕ) → ℕ → ℕ → ℕ
 shownAt ends homes nodes out held isBus runs clock n landed t old =
     cond (getD ends t false && eqb (getD nodes (getD homes t 0) 0) n) (getD out t 0)
     (cond (getD ends t false && messageIn isBus runs t (getD held (n * 16 + getD homes t 0) 0) clock) (landed t) old)
 
-abbrev pub shownRule : List Bool → List ℕ → List ℕ → List ℕ → List ℕ → List Bool → List ℕ → ℕ → ℕ → (ℕ → ℕ) → List ℕ → ℕ → ℕ
+abbrev pub shownRule : List Bool → List ℕ → List ℕ → List ℕ → List ℕ → List ℕ → List ℕ → ℕ → ℕ → (ℕ → ℕ) → List ℕ → ℕ → ℕ
 shownRule ends homes nodes out held isBus runs clock n landed shown t =
     shownAt ends homes nodes out held isBus runs clock n landed t (getD shown t 0)
 
-unfoldable pub nodeAt : List Bool → List ℕ → List ℕ → List ℕ → List ℕ → List Bool → List ℕ → ℕ → Landing → ℕ → Node → Node
+unfoldable pub nodeAt : List Bool → List ℕ → List ℕ → List ℕ → List ℕ → List ℕ → List ℕ → ℕ → Landing → ℕ → Node → Node
 nodeAt ends homes nodes out held isBus runs clock landing n node =
     record {
       landed = stores (node .landed) (landedRule landing n (node .landed)) 32;
@@ -48,7 +48,7 @@ nodeAt ends homes nodes out held isBus runs clock landing n node =
           (shownRule ends homes nodes out held isBus runs clock n (landedRule landing n (node .landed)) (node .shown)) 32;
     }
 
-unfoldable pub nodeRule : List Bool → List ℕ → List ℕ → List ℕ → List ℕ → List Bool → List ℕ → ℕ → Landing → List Node → ℕ → Node
+unfoldable pub nodeRule : List Bool → List ℕ → List ℕ → List ℕ → List ℕ → List ℕ → List ℕ → ℕ → Landing → List Node → ℕ → Node
 nodeRule ends homes nodes out held isBus runs clock landing old n =
     nodeAt ends homes nodes out held isBus runs clock landing n (getD old n noNode)
 

@@ -11,7 +11,6 @@ ghost use Rattle.stationnodes.specs.Nodes.{isLanding, landedRule, landin
 use figures::both;
 use places::Found;
 use places::byte_at;
-use places::flag_at;
 use places::value_at;
 use stationbus::has_message;
 
@@ -108,14 +107,14 @@ fn shown_at<'a>(
     out: &'a [u64; 32],
     landed: &'a [u64; 32],
     held: &'a [u8; 128],
-    bus: &'a [bool; 32],
+    bus: &'a [u8; 32],
     runs: &'a [u32; 1024],
     clock: u32,
 ) -> u64
     requires { ⌜ (t < 32) × (n < 8) ⌝ }
     ensures { λ r. ⌜ r ≡ shownAt (now (ends .entry)) (now (homes .entry)) (now (nodes .entry)) (now (out .entry)) (now (held .entry)) (now (bus .entry)) (now (runs .entry)) clock n (numberAt (now (landed .entry))) t old ⌝ }
 {
-    if flag_at(ends, t) {
+    if ends[t] {
         let home = byte_at(homes, t);
         if byte_at(nodes, home) == n {
             return value_at(out, t);
@@ -136,7 +135,7 @@ fn shown_after<'a>(
     out: &'a [u64; 32],
     landed: &'a [u64; 32],
     held: &'a [u8; 128],
-    bus: &'a [bool; 32],
+    bus: &'a [u8; 32],
     runs: &'a [u32; 1024],
     clock: u32,
 ) -> [u64; 32]
@@ -173,7 +172,7 @@ fn node_after<'a>(
     nodes: &'a [u8; 16],
     out: &'a [u64; 32],
     held: &'a [u8; 128],
-    bus: &'a [bool; 32],
+    bus: &'a [u8; 32],
     runs: &'a [u32; 1024],
     clock: u32,
 ) -> Node
@@ -207,7 +206,7 @@ pub fn nodes_after<'a>(
     nodes: &'a [u8; 16],
     out: &'a [u64; 32],
     held: &'a [u8; 128],
-    bus: &'a [bool; 32],
+    bus: &'a [u8; 32],
     runs: &'a [u32; 1024],
     clock: u32,
 ) -> [Node; 8]

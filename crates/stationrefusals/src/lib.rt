@@ -19,7 +19,7 @@ use units::Ticks;
 pub struct Modules {
     pub count: u8,
     pub sites: [u8; 16],
-    pub sending: [bool; 16],
+    pub sending: [u8; 16],
 }
 
 // Of each mode: its module, its period and its switch period.
@@ -38,7 +38,7 @@ pub struct Tasks {
     pub homes: [u8; 32],
     pub sizes: [u8; 32],
     pub worsts: [u32; 32],
-    pub bus: [bool; 32],
+    pub bus: [u8; 32],
 }
 
 // The control rows: node, start and stop.
@@ -59,10 +59,10 @@ pub struct Play {
     pub running: [u8; 16],
     pub ages: [u32; 16],
     pub bytes: [u8; 16],
-    pub givens: [bool; 32],
+    pub givens: [u8; 32],
     pub out: [u64; 32],
     pub held: [u8; 128],
-    pub full: bool,
+    pub full: u8,
     pub load: u64,
 }
 

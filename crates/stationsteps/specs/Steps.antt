@@ -5,6 +5,7 @@ use mathlib.Core.List.{List}
 use mathlib.Core.Option.{Option·getD}
 use lib.ListN.{getD}
 use Prim.Native.Nat.{ℕ}
+use Rattle.places.specs.Flags.{flagAt, flagByte}
 use Rattle.rules.specs.Playing.{isGiven}
 use Rattle.rules.specs.Station.{oneOn}
 use Rattle.stationruns.specs.Inputs.{resultAt, changeAt}
@@ -28,6 +29,7 @@ abbrev pub ageRule : List Change → List ℕ → List ℕ → List ℕ → ℕ 
 ageRule changes modes periods ages m =
     cond (isGiven (changeAt changes m)) 1 (oneOn (getD ages m 0) (getD periods (getD modes m 0) 0))
 
-abbrev pub givenRule : List Given → List Change → List Bool → List ℕ → List Bool → ℕ → Bool
+abbrev pub givenRule : List Given → List Change → List Bool → List ℕ → List ℕ → ℕ → ℕ
 givenRule results changes ends homes givens t =
-    not (getD ends t false || isGiven (changeAt changes (getD homes t 0))) && (getD givens t false || isGiven (resultAt results t))
+    flagByte
+    (not (getD ends t false || isGiven (changeAt changes (getD homes t 0))) && (flagAt givens t || isGiven (resultAt results t)))

@@ -10,6 +10,8 @@ ghost use Rattle.rules.specs.Station.{oneOn};
 ghost use Rattle.stationruns.specs.Inputs.{changeAt, changeOf, resultOf};
 ghost use Rattle.stationsteps.specs.Steps.{ageRule, endsRule, givenRule, modeRule, outRule};
 use places::byte_at;
+use places::flag_byte;
+use places::is_set;
 use places::number_at;
 use stationruns::Change;
 use stationruns::Given;
@@ -143,21 +145,21 @@ fn given_at(given: Given, ends: bool, change: bool, had: bool) -> bool
 pub fn givens_after<'a>(
     results: [Given; 32],
     changes: [Change; 16],
-    mut givens: [bool; 32],
+    mut givens: [u8; 32],
     ends: &'a [bool; 32],
     homes: &'a [u8; 32],
-) -> [bool; 32]
+) -> [u8; 32]
     ensures { λ r. ⌜ r ≡ stores givens (givenRule results changes (now (ends .entry)) (now (homes .entry)) givens) 32 ⌝ }
 {
     let mut t = 0;
     while t < 32 {
         let given = results[t];
-        givens[t] = given_at(
+        givens[t] = flag_byte(given_at(
             given,
             ends[t],
             changed(changes, byte_at(homes, t)),
-            givens[t],
-        );
+            is_set(givens[t]),
+        ));
         t += 1;
     }
     givens

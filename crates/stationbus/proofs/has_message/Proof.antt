@@ -1,10 +1,9 @@
 -- Two cases of the first test: passed, the divisibility decides (`message-yes`); failed, the conjunction is false (`message-no`).
 use mathlib.Core.Path.{_∙_}
-use mathlib.Core.Bool.{false}
 use lib.Dec.{ltb}
-use lib.ListN.{getD}
 use denote.Ref.{now}
 use Rattle.laws.specs.Numbers.{divides}
+use Rattle.places.specs.Flags.{flagAt}
 use Rattle.stationruns.specs.Runs.{periodAt}
 use Rattle.stationbus.proofs.Ways.{message-yes, message-no}
 use borrow.Author.Needs.{needs}
@@ -16,7 +15,7 @@ returns c =
     let c1 = c .before .before .before in
     let c2 = c1 .before .before in
     let a = c2 .before .args in
-    message-yes (getD (now (a .bus)) (a .task) false) (ltb 0 (periodAt (now (a .runs)) (a .mode) (a .task)))
+    message-yes (flagAt (now (a .bus)) (a .task)) (ltb 0 (periodAt (now (a .runs)) (a .mode) (a .task)))
     (divides (periodAt (now (a .runs)) (a .mode) (a .task)) (a .deadline))
     (c .before .before .both .ensures ∙ rw (c1 .flag-at .ensures, c2 .period-at .ensures)) (c .before .if1 .taken)
     (c .divides .ensures ∙ rw (c2 .period-at .ensures))
@@ -25,7 +24,7 @@ returns-2 : tie.Need-returns-2
 returns-2 c =
     let c1 = c .before .before .before .before in
     let a = c1 .before .args in
-    message-no (getD (now (a .bus)) (a .task) false) (ltb 0 (periodAt (now (a .runs)) (a .mode) (a .task)))
+    message-no (flagAt (now (a .bus)) (a .task)) (ltb 0 (periodAt (now (a .runs)) (a .mode) (a .task)))
     (divides (periodAt (now (a .runs)) (a .mode) (a .task)) (a .deadline))
     (c .before .both .ensures ∙ rw (c .before .before .flag-at .ensures, c1 .period-at .ensures)) (c .if1 .left)
 

@@ -4,7 +4,9 @@ use Rattle.stationmoves.proofs.what_lands.Statement.{statement}
 use Rattle.stationmoves.proofs.what_lands.Tie as tie
 
 returns : tie.Need-returns
-returns c = rw (c .lands .ensures, c .before .before .before .before .before .row-with .ensures)
+returns c =
+    let c1 = c .before .before .before .before .before in
+    rw (c .lands .ensures, c1 .is-set .ensures, c1 .before .row-with .ensures)
 
 pub what-lands-spec : {M : Type 1} → statement M
-what-lands-spec = tie.close (tie.spec (λ c κs. search needs) (λ c κs. search needs) returns)
+what-lands-spec = tie.close (tie.spec (λ c κs. search needs) (λ c κs. search needs) (λ c κs. search needs) returns)

@@ -3,7 +3,6 @@ use mathlib.Core.Path.{_∙_}
 use Prim.Native.Nat.{_≤_, _-_}
 use Rattle.laws.proofs.Turns.{Filled, filled-none, filled-turn, filled-next, filled-end}
 use Rattle.stationsteps.specs.Steps.{givenRule}
-use mathlib.Core.Bool.{false}
 use borrow.Author.Needs.{needs}
 use Rattle.stationsteps.proofs.givens_after.Statement.{statement}
 use Rattle.stationsteps.proofs.givens_after.Tie as tie
@@ -20,14 +19,16 @@ loop-holds c = (search needs, filled-none)
 
 loop-again : tie.Need-loop-again Inv-loop μ-loop
 loop-again c =
-    let c1 = c .before .before .before .before .before .before .before in (
+    let c0 = c .before in
+    let c1 = c0 .before .before .before .before .before .before .before .before in (
       search needs,
       filled-turn (c1 .loop .inv .1)
-          (c .given-at .ensures ∙ rw (
-            c .before .changed .ensures,
-            c .before .before .byte-at .ensures .0,
-            filled-next
-                (c1 .loop .inv .1) false,
+          (c .flag-byte .ensures ∙ rw (
+            c0 .given-at .ensures,
+            c0 .before .is-set .ensures,
+            c0 .before .before .changed .ensures,
+            c0 .before .before .before .byte-at .ensures .0,
+            filled-next (c1 .loop .inv .1) 0,
           )),
     )
 
@@ -38,5 +39,5 @@ pub givens-after-spec : {M : Type 1} → statement M
 givens-after-spec =
     tie.close
     (tie.spec Inv-loop μ-loop loop-holds (λ c. search needs) (λ c. search needs) (λ c. search needs) (λ c κs. search needs)
-    (λ c κs. search needs) (λ c. search needs) (λ c κs. search needs) (λ c. search needs) (λ c. search needs) (λ c. search needs)
-    loop-again returns)
+    (λ c κs. search needs) (λ c. search needs) (λ c κs. search needs) (λ c κs. search needs) (λ c κs. search needs) (λ c. search needs)
+    (λ c. search needs) (λ c. search needs) loop-again returns)
