@@ -2,8 +2,8 @@
  *
  * Every function here is proved: for every value of its parameters it ends, stays within the memory that it is lent, and returns
  * what is said below. There is no state behind the functions, no allocation and no lock: calls on different memory may run at the
- * same time. What a caller owes is C's own: each pointer leads to as much memory as its parameter says (a pointer with a length of
- * 0 is not followed, but is not null), and memory that a function writes to is lent to nothing else during the call.
+ * same time. What a caller owes is C's own: each pointer leads to as much memory as its parameter says, and memory that a function
+ * writes to is lent to nothing else during the call. A pointer with a length of 0 is not followed: it may be NULL.
  *
  * Times are in ticks of one microsecond. Files (plans, tables) are rows of records as section 2 of docs/RULES.md has them.
  */
@@ -15,8 +15,6 @@
 
 #ifdef __cplusplus
 extern "C" {
-#else
-#include <stdbool.h>
 #endif
 
 enum {
@@ -78,7 +76,7 @@ typedef struct olbiothar_frame {
 /* Makes the table of a plan by the latest-release rule.
  *
  * `plan`, `plan_length`: any bytes. `rows`, `row_count`: lent frame rows, 256 or more. `table`, `table_length`: lent bytes, with any
- * contents; OLBIOTHAR_LONGEST_TABLE are always enough.
+ * contents; OLBIOTHAR_LONGEST_TABLE are always enough, and NULL with 0 asks for the bytes needed (13, if no other number applies).
  *
  * number 0: the table stands in the first `place` bytes of `table`, and passes olbiothar_check; the bytes behind it are as they
  *   were. The rows are the frames by number, with their starts, then zero rows to the end.
@@ -102,7 +100,8 @@ olbiothar_answer olbiothar_check(const uint8_t *plan, size_t plan_length, const 
 
 /* A played station. It holds its own copy of what it needs of plan and table. All bytes zero, it is a station not begun. Its
  * fields may be read; `nodes[n].shown[t]` is what node n shows of task t after the last accepted tick. Any numbers may stand in a
- * station that is ticked: one outside its range makes the tick answer 40 at 0. A `bool` holds 0 or 1, here as in all of C. */
+ * station that is ticked, also in one that was kept elsewhere and read back: one outside its range makes the tick answer 40 at 0.
+ * `sending`, `bus`, `givens` and `full` are flags: set where the byte is not 0, and stored as 0 or 1. */
 typedef struct olbiothar_node {
     uint64_t landed[OLBIOTHAR_TASKS];
     uint64_t shown[OLBIOTHAR_TASKS];
@@ -112,7 +111,7 @@ typedef struct olbiothar_station {
     struct {
         uint8_t count;
         uint8_t sites[OLBIOTHAR_MODULES];
-        bool sending[OLBIOTHAR_MODULES];
+        uint8_t sending[OLBIOTHAR_MODULES];
     } modules;
     struct {
         uint8_t count;
@@ -125,7 +124,7 @@ typedef struct olbiothar_station {
         uint8_t homes[OLBIOTHAR_TASKS];
         uint8_t sizes[OLBIOTHAR_TASKS];
         uint32_t worsts[OLBIOTHAR_TASKS];
-        bool bus[OLBIOTHAR_TASKS];
+        uint8_t bus[OLBIOTHAR_TASKS];
     } tasks;
     struct {
         uint8_t count;
@@ -136,19 +135,19 @@ typedef struct olbiothar_station {
     uint32_t period;
     uint16_t datas;
     uint32_t runs[OLBIOTHAR_MODES * OLBIOTHAR_TASKS];
-    uint8_t carries[OLBIOTHAR_FRAMES];
-    uint32_t deadlines[OLBIOTHAR_FRAMES];
-    uint32_t starts[OLBIOTHAR_FRAMES];
-    uint32_t stops[OLBIOTHAR_FRAMES];
+    uint8_t row_tasks[OLBIOTHAR_FRAMES];
+    uint32_t row_deadlines[OLBIOTHAR_FRAMES];
+    uint32_t row_starts[OLBIOTHAR_FRAMES];
+    uint32_t row_stops[OLBIOTHAR_FRAMES];
     struct {
         uint32_t clock;
         uint8_t running[OLBIOTHAR_MODULES];
         uint32_t ages[OLBIOTHAR_MODULES];
         uint8_t bytes[OLBIOTHAR_MODULES];
-        bool givens[OLBIOTHAR_TASKS];
+        uint8_t givens[OLBIOTHAR_TASKS];
         uint64_t out[OLBIOTHAR_TASKS];
         uint8_t held[OLBIOTHAR_NODES * OLBIOTHAR_MODULES];
-        bool full;
+        uint8_t full;
         uint64_t load;
     } play;
     olbiothar_node nodes[OLBIOTHAR_NODES];
@@ -195,6 +194,95 @@ typedef struct olbiothar_ticked {
 olbiothar_ticked olbiothar_tick(olbiothar_station *station, const uint64_t results[OLBIOTHAR_TASKS],
                                 const uint8_t given[OLBIOTHAR_TASKS], const uint8_t modes[OLBIOTHAR_MODULES],
                                 const uint8_t changed[OLBIOTHAR_MODULES]);
+
+/* The structs lie in memory as the library has them: a compiler for which one of these fails must not call it. */
+#ifdef __cplusplus
+#define OLBIOTHAR_SAME(is, shall) static_assert((is) == (shall), "the library has it at " #shall)
+#define OLBIOTHAR_ALIGNMENT(type) alignof(type)
+#else
+#define OLBIOTHAR_SAME(is, shall) _Static_assert((is) == (shall), "the library has it at " #shall)
+#define OLBIOTHAR_ALIGNMENT(type) _Alignof(type)
+#endif
+#define OLBIOTHAR_SIZE(type, size, alignment) \
+    OLBIOTHAR_SAME(sizeof(type), size);       \
+    OLBIOTHAR_SAME(OLBIOTHAR_ALIGNMENT(type), alignment)
+#define OLBIOTHAR_AT(type, field, offset, size)    \
+    OLBIOTHAR_SAME(offsetof(type, field), offset); \
+    OLBIOTHAR_SAME(sizeof(((type *)0)->field), size)
+
+OLBIOTHAR_SIZE(olbiothar_answer, 16, 8);
+OLBIOTHAR_AT(olbiothar_answer, number, 0, 4);
+OLBIOTHAR_AT(olbiothar_answer, place, 8, 8);
+
+OLBIOTHAR_SIZE(olbiothar_frame, 16, 4);
+OLBIOTHAR_AT(olbiothar_frame, task, 0, 1);
+OLBIOTHAR_AT(olbiothar_frame, release, 4, 4);
+OLBIOTHAR_AT(olbiothar_frame, deadline, 8, 4);
+OLBIOTHAR_AT(olbiothar_frame, start, 12, 4);
+
+OLBIOTHAR_SIZE(olbiothar_node, 512, 8);
+OLBIOTHAR_AT(olbiothar_node, landed, 0, 256);
+OLBIOTHAR_AT(olbiothar_node, shown, 256, 256);
+
+OLBIOTHAR_SIZE(olbiothar_station, 12696, 8);
+OLBIOTHAR_AT(olbiothar_station, modules, 0, 33);
+OLBIOTHAR_AT(olbiothar_station, modules.count, 0, 1);
+OLBIOTHAR_AT(olbiothar_station, modules.sites, 1, 16);
+OLBIOTHAR_AT(olbiothar_station, modules.sending, 17, 16);
+OLBIOTHAR_AT(olbiothar_station, modes, 36, 292);
+OLBIOTHAR_AT(olbiothar_station, modes.count, 36, 1);
+OLBIOTHAR_AT(olbiothar_station, modes.homes, 37, 32);
+OLBIOTHAR_AT(olbiothar_station, modes.periods, 72, 128);
+OLBIOTHAR_AT(olbiothar_station, modes.switches, 200, 128);
+OLBIOTHAR_AT(olbiothar_station, tasks, 328, 228);
+OLBIOTHAR_AT(olbiothar_station, tasks.count, 328, 1);
+OLBIOTHAR_AT(olbiothar_station, tasks.homes, 329, 32);
+OLBIOTHAR_AT(olbiothar_station, tasks.sizes, 361, 32);
+OLBIOTHAR_AT(olbiothar_station, tasks.worsts, 396, 128);
+OLBIOTHAR_AT(olbiothar_station, tasks.bus, 524, 32);
+OLBIOTHAR_AT(olbiothar_station, controls, 556, 76);
+OLBIOTHAR_AT(olbiothar_station, controls.count, 556, 1);
+OLBIOTHAR_AT(olbiothar_station, controls.nodes, 557, 8);
+OLBIOTHAR_AT(olbiothar_station, controls.starts, 568, 32);
+OLBIOTHAR_AT(olbiothar_station, controls.stops, 600, 32);
+OLBIOTHAR_AT(olbiothar_station, period, 632, 4);
+OLBIOTHAR_AT(olbiothar_station, datas, 636, 2);
+OLBIOTHAR_AT(olbiothar_station, runs, 640, 4096);
+OLBIOTHAR_AT(olbiothar_station, row_tasks, 4736, 256);
+OLBIOTHAR_AT(olbiothar_station, row_deadlines, 4992, 1024);
+OLBIOTHAR_AT(olbiothar_station, row_starts, 6016, 1024);
+OLBIOTHAR_AT(olbiothar_station, row_stops, 7040, 1024);
+OLBIOTHAR_AT(olbiothar_station, play, 8064, 536);
+OLBIOTHAR_AT(olbiothar_station, play.clock, 8064, 4);
+OLBIOTHAR_AT(olbiothar_station, play.running, 8068, 16);
+OLBIOTHAR_AT(olbiothar_station, play.ages, 8084, 64);
+OLBIOTHAR_AT(olbiothar_station, play.bytes, 8148, 16);
+OLBIOTHAR_AT(olbiothar_station, play.givens, 8164, 32);
+OLBIOTHAR_AT(olbiothar_station, play.out, 8200, 256);
+OLBIOTHAR_AT(olbiothar_station, play.held, 8456, 128);
+OLBIOTHAR_AT(olbiothar_station, play.full, 8584, 1);
+OLBIOTHAR_AT(olbiothar_station, play.load, 8592, 8);
+OLBIOTHAR_AT(olbiothar_station, nodes, 8600, 4096);
+
+OLBIOTHAR_SIZE(olbiothar_begun, 12712, 8);
+OLBIOTHAR_AT(olbiothar_begun, answer, 0, 16);
+OLBIOTHAR_AT(olbiothar_begun, station, 16, 12696);
+
+OLBIOTHAR_SIZE(olbiothar_row, 16, 4);
+OLBIOTHAR_AT(olbiothar_row, kind, 0, 1);
+OLBIOTHAR_AT(olbiothar_row, sender, 1, 1);
+OLBIOTHAR_AT(olbiothar_row, deadline, 4, 4);
+OLBIOTHAR_AT(olbiothar_row, start, 8, 4);
+OLBIOTHAR_AT(olbiothar_row, stop, 12, 4);
+
+OLBIOTHAR_SIZE(olbiothar_ticked, 32, 8);
+OLBIOTHAR_AT(olbiothar_ticked, answer, 0, 16);
+OLBIOTHAR_AT(olbiothar_ticked, row, 16, 16);
+
+#undef OLBIOTHAR_AT
+#undef OLBIOTHAR_SIZE
+#undef OLBIOTHAR_ALIGNMENT
+#undef OLBIOTHAR_SAME
 
 #ifdef __cplusplus
 }

@@ -7,6 +7,7 @@ const NOTHING: i32 = 0;
 const READ_AND_WRITE: i32 = 3;
 const PRIVATE_AND_ANONYMOUS: i32 = 0x22;
 
+// SAFETY: the C library's own functions, with the parameters that 64-bit Linux gives them.
 unsafe extern "C" {
     fn mmap(at: *mut u8, length: usize, may: i32, flags: i32, file: i32, offset: i64) -> *mut u8;
     fn mprotect(at: *mut u8, length: usize, may: i32) -> i32;

@@ -20,6 +20,7 @@ use reference::{FrameRow, MOST_FRAMES};
 /// `data` leads to `size` bytes.
 #[unsafe(no_mangle)]
 pub unsafe extern "C" fn LLVMFuzzerTestOneInput(data: *const u8, size: usize) -> i32 {
+    // SAFETY: libFuzzer keeps what this function asks for; where there is no byte the pointer, which may be null, is not used.
     let bytes = if size == 0 { &[] } else { unsafe { std::slice::from_raw_parts(data, size) } };
     run(bytes);
     0

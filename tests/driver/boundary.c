@@ -1,0 +1,179 @@
+/* What the header promises of the boundary itself: parts that are not lent, a station's fields where the header has them, and a
+ * station that holds any bytes. The word on the command line is the plan of job A.
+ *
+ * That the structs have the sizes, alignments and offsets of the library is asserted in the header, which is compiled here.
+ */
+#include "olbiothar.h"
+
+#include <stdio.h>
+#include <stdlib.h>
+#include <string.h>
+
+static void holds(int it_does, const char *what, int line) {
+    if (it_does) return;
+    fprintf(stderr, "boundary.c:%d: not so: %s\n", line, what);
+    exit(1);
+}
+
+#define HOLDS(what) holds(what, #what, __LINE__)
+
+enum { LENGTH = 75, MODE = 1, FRAME_STARTS = 19904, FRAME_STOPS = 20000, VALUE = 7 };
+
+static uint8_t plan[256], table[LENGTH];
+static size_t plan_length;
+static olbiothar_frame rows[OLBIOTHAR_FRAMES];
+static const uint8_t no_modes[OLBIOTHAR_MODULES];
+static const uint8_t modes[OLBIOTHAR_MODULES] = {MODE, 2}, given[OLBIOTHAR_MODULES] = {1, 1};
+
+static int is(olbiothar_answer answer, uint32_t number, uint64_t place) {
+    return answer.number == number && answer.place == place;
+}
+
+static void read_plan(const char *path) {
+    FILE *file = fopen(path, "rb");
+    HOLDS(file != NULL);
+    plan_length = fread(plan, 1, sizeof plan, file);
+    HOLDS(plan_length > 0 && plan_length < sizeof plan);
+    fclose(file);
+}
+
+/* NULL with a length of 0, for every lent part of every function. */
+static void nothing_lent(void) {
+    HOLDS(is(olbiothar_make(NULL, 0, rows, OLBIOTHAR_FRAMES, NULL, 0), OLBIOTHAR_BAD_RECORDS, 0));
+    HOLDS(is(olbiothar_make(plan, plan_length, NULL, 0, NULL, 0), OLBIOTHAR_TOO_FEW_ROWS, OLBIOTHAR_FRAMES));
+    HOLDS(is(olbiothar_make(plan, plan_length, NULL, 0, table, LENGTH), OLBIOTHAR_TOO_FEW_ROWS, OLBIOTHAR_FRAMES));
+    HOLDS(is(olbiothar_check(NULL, 0, NULL, 0, NULL, 0), OLBIOTHAR_TOO_FEW_ROWS, OLBIOTHAR_FRAMES));
+    HOLDS(is(olbiothar_check(NULL, 0, NULL, 0, rows, OLBIOTHAR_FRAMES), OLBIOTHAR_BAD_RECORDS, 0));
+    HOLDS(is(olbiothar_check(plan, plan_length, NULL, 0, rows, OLBIOTHAR_FRAMES), OLBIOTHAR_BAD_TABLE_RECORDS, 0));
+    HOLDS(is(olbiothar_begin(NULL, 0, NULL, 0, no_modes, no_modes).answer, OLBIOTHAR_BAD_RECORDS, 0));
+    HOLDS(is(olbiothar_begin(plan, plan_length, NULL, 0, modes, given).answer, OLBIOTHAR_BAD_TABLE_RECORDS, 0));
+    /* A caller asks for the bytes needed, and lends so many. */
+    olbiothar_answer asked = olbiothar_make(plan, plan_length, rows, OLBIOTHAR_FRAMES, NULL, 0);
+    HOLDS(is(asked, OLBIOTHAR_BUFFER_TOO_SHORT, LENGTH));
+    HOLDS(is(olbiothar_make(plan, plan_length, rows, OLBIOTHAR_FRAMES, table, asked.place), OLBIOTHAR_DONE, LENGTH));
+}
+
+/* Each field of a station that has begun with job A, read where the header has it; what is not named is 0. */
+static olbiothar_station begun_by_hand(void) {
+    olbiothar_station s;
+    memset(&s, 0, sizeof s);
+    s.modules.count = 2, s.modules.sites[1] = 1, s.modules.sending[0] = 1;
+    s.modes.count = 3, s.modes.homes[2] = 1;
+    for (size_t mode = 0; mode < 3; mode++) s.modes.periods[mode] = s.modes.switches[mode] = 60000;
+    s.tasks.count = 2, s.tasks.homes[1] = 1, s.tasks.bus[0] = 1;
+    for (size_t task = 0; task < 2; task++) s.tasks.sizes[task] = 4, s.tasks.worsts[task] = 1000;
+    s.controls.count = 1, s.controls.stops[0] = 72;
+    s.period = 60000, s.datas = 4;
+    s.runs[0] = 30000, s.runs[OLBIOTHAR_TASKS] = 20000, s.runs[2 * OLBIOTHAR_TASKS + 1] = 60000;
+    const uint32_t deadlines[] = {20000, 30000, 40000, 60000};
+    for (size_t row = 0; row < 4; row++) {
+        s.row_deadlines[row] = s.row_stops[row] = deadlines[row];
+        s.row_starts[row] = deadlines[row] - 96;
+    }
+    s.play.running[0] = MODE, s.play.running[1] = 2;
+    return s;
+}
+
+#define SAME(field) (memcmp(&a->field, &b->field, sizeof a->field) == 0)
+
+static int same_kept(const olbiothar_station *a, const olbiothar_station *b) {
+    return SAME(modules.count) && SAME(modules.sites) && SAME(modules.sending) && SAME(modes.count) && SAME(modes.homes) &&
+           SAME(modes.periods) && SAME(modes.switches) && SAME(tasks.count) && SAME(tasks.homes) && SAME(tasks.sizes) &&
+           SAME(tasks.worsts) && SAME(tasks.bus) && SAME(controls.count) && SAME(controls.nodes) && SAME(controls.starts) &&
+           SAME(controls.stops) && SAME(period) && SAME(datas) && SAME(runs) && SAME(row_tasks) && SAME(row_deadlines) &&
+           SAME(row_starts) && SAME(row_stops);
+}
+
+static int same_state(const olbiothar_station *a, const olbiothar_station *b) {
+    return SAME(play.clock) && SAME(play.running) && SAME(play.ages) && SAME(play.bytes) && SAME(play.givens) && SAME(play.out) &&
+           SAME(play.held) && SAME(play.full) && SAME(play.load) && SAME(nodes);
+}
+
+/* A tick; both tasks get their result at time 1. */
+static olbiothar_ticked play(olbiothar_station *station, uint32_t time) {
+    const uint64_t results[OLBIOTHAR_TASKS] = {VALUE, VALUE + 1};
+    const uint8_t now[OLBIOTHAR_TASKS] = {time == 1, time == 1};
+    return olbiothar_tick(station, results, now, no_modes, no_modes);
+}
+
+static void fields(olbiothar_station *station) {
+    olbiothar_begun begun = olbiothar_begin(plan, plan_length, table, LENGTH, modes, given);
+    olbiothar_station by_hand = begun_by_hand();
+    HOLDS(is(begun.answer, OLBIOTHAR_DONE, 0));
+    HOLDS(same_kept(&begun.station, &by_hand) && same_state(&begun.station, &by_hand));
+    *station = begun.station;
+    for (uint32_t time = 0; time < FRAME_STARTS; time++) HOLDS(is(play(station, time).answer, OLBIOTHAR_DONE, 0));
+    olbiothar_station sent = *station;
+    olbiothar_row row = play(&sent, FRAME_STARTS).row;
+    HOLDS(row.kind == 18 && row.sender == 0 && row.deadline == FRAME_STOPS && row.start == FRAME_STARTS && row.stop == FRAME_STOPS);
+    for (uint32_t time = FRAME_STARTS + 1; time <= FRAME_STOPS; time++) HOLDS(is(play(&sent, time).answer, OLBIOTHAR_DONE, 0));
+    by_hand.play.clock = FRAME_STOPS + 1;
+    for (size_t module = 0; module < OLBIOTHAR_MODULES; module++) by_hand.play.ages[module] = FRAME_STOPS + 1;
+    by_hand.play.bytes[0] = MODE;
+    by_hand.play.out[0] = by_hand.play.load = VALUE, by_hand.play.out[1] = VALUE + 1;
+    by_hand.play.givens[1] = by_hand.play.full = 1;
+    /* The frames have landed on every node but their sender's, 0. */
+    by_hand.nodes[0].shown[0] = VALUE;
+    for (size_t node = 1; node < OLBIOTHAR_NODES; node++) {
+        by_hand.play.held[node * OLBIOTHAR_MODULES] = MODE;
+        by_hand.nodes[node].landed[0] = by_hand.nodes[node].shown[0] = VALUE;
+    }
+    HOLDS(same_kept(&sent, &by_hand) && same_state(&sent, &by_hand));
+}
+
+/* Every byte but 0 sets a flag, and a tick stores 0 or 1. `station` stands where the data frame starts. */
+static void flags(const olbiothar_station *station) {
+    olbiothar_station full = *station;
+    full.play.full = 1;
+    olbiothar_station one = full;
+    HOLDS(is(play(&one, FRAME_STARTS).answer, OLBIOTHAR_DONE, 0));
+    for (unsigned byte = 2; byte < 256; byte++) {
+        olbiothar_station other = full;
+        other.modules.sending[0] = other.tasks.bus[0] = other.play.givens[1] = other.play.full = (uint8_t)byte;
+        HOLDS(is(play(&other, FRAME_STARTS).answer, OLBIOTHAR_DONE, 0));
+        HOLDS(same_state(&one, &other));
+        HOLDS(other.modules.sending[0] == byte && other.tasks.bus[0] == byte);
+    }
+    olbiothar_station empty = full;
+    empty.tasks.bus[0] = 0;
+    HOLDS(is(play(&empty, FRAME_STARTS).answer, OLBIOTHAR_DONE, 0));
+    HOLDS(one.play.full == 1 && empty.play.full == 0);
+}
+
+static uint64_t seed = 1;
+
+static uint8_t any_byte(void) {
+    seed = seed * 6364136223846793005u + 1442695040888963407u;
+    return (uint8_t)(seed >> 56);
+}
+
+/* Any bytes may stand in a station: the tick ends, is accepted or refused as a tick is, and a refusal leaves every byte. */
+static void any_station(const olbiothar_station *station) {
+    static olbiothar_station ticked, before;
+    for (unsigned tried = 0; tried < 4000; tried++) {
+        ticked = *station;
+        uint8_t *bytes = (uint8_t *)&ticked;
+        size_t changed = tried % 2 == 0 ? sizeof ticked : 1u + any_byte() % 8u;
+        for (size_t k = 0; k < changed; k++) {
+            size_t at = changed == sizeof ticked ? k : (any_byte() * 65536u + any_byte() * 256u + any_byte()) % sizeof ticked;
+            bytes[at] = any_byte();
+        }
+        before = ticked;
+        olbiothar_answer answer = play(&ticked, FRAME_STARTS).answer;
+        HOLDS(answer.number == OLBIOTHAR_DONE || (answer.number >= OLBIOTHAR_NOT_BEGUN && answer.number <= OLBIOTHAR_CHANGE_NOT_ALLOWED));
+        if (changed == sizeof ticked) HOLDS(is(answer, OLBIOTHAR_NOT_BEGUN, 0));
+        if (answer.number != OLBIOTHAR_DONE) HOLDS(same_kept(&ticked, &before) && same_state(&ticked, &before));
+    }
+}
+
+int main(int count, char **words) {
+    static olbiothar_station station;
+    HOLDS(count == 2);
+    read_plan(words[1]);
+    nothing_lent();
+    fields(&station);
+    flags(&station);
+    any_station(&station);
+    puts("boundary: as the header says");
+    return 0;
+}
