@@ -11,11 +11,12 @@ use Rattle.laws.specs.Lists.{tab}
 use Rattle.laws.specs.Loops.{padTo}
 use Rattle.laws.proofs.Members.{pairs-getD}
 use Rattle.laws.proofs.Lists.{length-tab, getD-tab, padTo-none, getD-padTo}
+use Rattle.rules.specs.Limits.{mostFrames}
 use Rattle.rules.specs.Frames.{Frame, framesOf}
 use Rattle.rules.proofs.FramesOf.{before-case, frames-of}
 use Rattle.rules.proofs.Grid.{frame}
 use Rattle.frames.specs.declared.laid.Frames.{Frames}
-use Rattle.frames.specs.Walk.{most, taskOf, releaseOf, deadlineOf, Derived}
+use Rattle.frames.specs.Walk.{taskOf, releaseOf, deadlineOf, Derived}
 use Rattle.frames.specs.Laid.{column, framesLaid, frameIn, framesSeen}
 
 -- ---- laid into zeros
@@ -37,11 +38,11 @@ laid-in-zeros n l =
     sets-eq (take n l) (replicate n 0) 0 (rw (length-replicate {A = ℕ} n 0, z) h)
     ∙ ap (λ (k : ℕ). take n l ++ drop k (replicate n 0)) z ∙ sym (padded n l)
 
-column-is : (number : Frame → ℕ) (fs : List Frame) → sets (replicate most 0) 0 (map number (take most fs)) ≡ column number fs
+column-is : (number : Frame → ℕ) (fs : List Frame) → sets (replicate mostFrames 0) 0 (map number (take mostFrames fs)) ≡ column number fs
 unfolding column
-column-is number fs = ap (sets (replicate most 0) 0) (map-take number most fs) ∙ laid-in-zeros most (map number fs)
+column-is number fs = ap (sets (replicate mostFrames 0) 0) (map-take number mostFrames fs) ∙ laid-in-zeros mostFrames (map number fs)
 
-pub laid-is : {tasks releases deadlines : List ℕ} {n : ℕ} {fs : List Frame} → Derived (replicate most 0) (replicate most 0) (replicate most 0) fs tasks releases deadlines n
+pub laid-is : {tasks releases deadlines : List ℕ} {n : ℕ} {fs : List Frame} → Derived (replicate mostFrames 0) (replicate mostFrames 0) (replicate mostFrames 0) fs tasks releases deadlines n
     → _≡_ {A = Frames} (record { count = n; tasks = tasks; releases = releases; deadlines = deadlines }) (framesLaid fs)
 unfolding framesLaid
 laid-is {fs = fs} d =
@@ -49,14 +50,14 @@ laid-is {fs = fs} d =
 
 -- ---- the struct stands for what was laid
 
-column-at : (number : Frame → ℕ) (fs : List Frame) (k : ℕ) → number (frame 0 0 0) ≡ 0 → length fs ≤ most → k < length fs → getD (column number fs) k 0 ≡ number (getD fs k (frame 0 0 0))
+column-at : (number : Frame → ℕ) (fs : List Frame) (k : ℕ) → number (frame 0 0 0) ≡ 0 → length fs ≤ mostFrames → k < length fs → getD (column number fs) k 0 ≡ number (getD fs k (frame 0 0 0))
 unfolding column
 column-at number fs k z h w =
-    getD-padTo most 0 (map number fs) k (omega arith) ∙ ap (getD (map number fs) k) (sym z) ∙ List·getD-map number fs k (frame 0 0 0)
+    getD-padTo mostFrames 0 (map number fs) k (omega arith) ∙ ap (getD (map number fs) k) (sym z) ∙ List·getD-map number fs k (frame 0 0 0)
 
-pub laid-seen : (fs : List Frame) → length fs ≤ most → framesSeen (framesLaid fs) ≡ fs
+pub laid-seen : (fs : List Frame) → length fs ≤ mostFrames → framesSeen (framesLaid fs) ≡ fs
 unfolding framesSeen framesLaid frameIn
-laid-seen fs h = let e : min (suc most) (length fs) ≡ length fs = omega arith in ap (tab (frameIn (framesLaid fs)) 0) e ∙ ext-getD (frame 0 0 0) (tab at 0 (length fs)) fs (length-tab at 0 (length fs)) (λ k w. here k (rw (length-tab at 0 (length fs)) at w))
+laid-seen fs h = let e : min (suc mostFrames) (length fs) ≡ length fs = omega arith in ap (tab (frameIn (framesLaid fs)) 0) e ∙ ext-getD (frame 0 0 0) (tab at 0 (length fs)) fs (length-tab at 0 (length fs)) (λ k w. here k (rw (length-tab at 0 (length fs)) at w))
   where
     at : ℕ → Frame
     at = frameIn (framesLaid fs)
@@ -68,7 +69,7 @@ laid-seen fs h = let e : min (suc most) (length fs) ≡ length fs = omega arith 
 
 -- ---- the deadlines rise
 
-pub deadlines-rise : (ms : List Frame) → length (framesOf ms) ≤ most → (i j : ℕ) → i ≤ j → j < length (framesOf ms) → getD (framesLaid (framesOf ms) .deadlines) i 0 ≤ getD (framesLaid (framesOf ms) .deadlines) j 0
+pub deadlines-rise : (ms : List Frame) → length (framesOf ms) ≤ mostFrames → (i j : ℕ) → i ≤ j → j < length (framesOf ms) → getD (framesLaid (framesOf ms) .deadlines) i 0 ≤ getD (framesLaid (framesOf ms) .deadlines) j 0
 unfolding framesLaid
 deadlines-rise ms h i j a b = which (eq-or-lt-of-le a)
   where

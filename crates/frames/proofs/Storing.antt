@@ -9,55 +9,56 @@ use Prim.Native.Nat.{ℕ, zero, suc, _+_, _-_, _≤_, _<_, min}
 use Rattle.laws.proofs.Lists.{map-append}
 use Rattle.laws.proofs.Laid.{sets-append}
 use Rattle.laws.proofs.Orders.{le-or-lt}
+use Rattle.rules.specs.Limits.{mostFrames}
 use Rattle.rules.specs.Frames.{Frame}
 use Rattle.rules.proofs.Grid.{frame, cell}
-use Rattle.frames.specs.Walk.{most, frameAt, taskOf, releaseOf, deadlineOf, stored, Stored, Derived}
+use Rattle.frames.specs.Walk.{frameAt, taskOf, releaseOf, deadlineOf, stored, Stored, Derived}
 
 -- ---- one number of each frame
 
 module _ (number : Frame → ℕ) where
   none-stored : (old : List ℕ) (n : ℕ) → old ≡ stored number old n []
   unfolding stored
-  none-stored old n = rw (take-nil {A = Frame} (most - n))
+  none-stored old n = rw (take-nil {A = Frame} (mostFrames - n))
 
-  one-stored : (old : List ℕ) (n : ℕ) (f : Frame) → n < most → set old n (number f) ≡ stored number old n (f ∷ [])
+  one-stored : (old : List ℕ) (n : ℕ) (f : Frame) → n < mostFrames → set old n (number f) ≡ stored number old n (f ∷ [])
   unfolding stored
   one-stored old n f h =
-      let e : most - n ≡ suc (most - suc n) = omega arith in
-      rw (e, take-nil {A = Frame} (most - suc n))
+      let e : mostFrames - n ≡ suc (mostFrames - suc n) = omega arith in
+      rw (e, take-nil {A = Frame} (mostFrames - suc n))
 
-  full-stored : (old : List ℕ) (n : ℕ) (fs : List Frame) → most ≤ n → old ≡ stored number old n fs
+  full-stored : (old : List ℕ) (n : ℕ) (fs : List Frame) → mostFrames ≤ n → old ≡ stored number old n fs
   unfolding stored
-  full-stored old n fs h = let e : most - n ≡ 0 = omega arith in rw e
+  full-stored old n fs h = let e : mostFrames - n ≡ 0 = omega arith in rw e
 
   -- what has no place left changes nothing
-  more-stored : (old : List ℕ) (n : ℕ) (fs gs : List Frame) → most ≤ n + length fs → stored number old n (fs ++ gs) ≡ stored number old n fs
+  more-stored : (old : List ℕ) (n : ℕ) (fs gs : List Frame) → mostFrames ≤ n + length fs → stored number old n (fs ++ gs) ≡ stored number old n fs
   unfolding stored
-  more-stored old n fs gs h = rw (take-append-le (most - n) fs gs (omega arith))
+  more-stored old n fs gs h = rw (take-append-le (mostFrames - n) fs gs (omega arith))
 
-  behind-stored : (old : List ℕ) (n : ℕ) (fs gs : List Frame) → n + length fs < most → stored number old n (fs ++ gs) ≡ stored number (stored number old n fs) (n + length fs) gs
+  behind-stored : (old : List ℕ) (n : ℕ) (fs gs : List Frame) → n + length fs < mostFrames → stored number old n (fs ++ gs) ≡ stored number (stored number old n fs) (n + length fs) gs
   unfolding stored
   behind-stored old n fs gs h =
-      let k : most - n ≡ length fs + (most - (n + length fs)) = omega arith in
+      let k : mostFrames - n ≡ length fs + (mostFrames - (n + length fs)) = omega arith in
       ap (λ (j : ℕ). sets old n (map number (take j (fs ++ gs)))) k
-      ∙ ap (λ (l : List Frame). sets old n (map number l)) (take-append-add fs gs (most - (n + length fs)))
-      ∙ ap (sets old n) (map-append number fs (take (most - (n + length fs)) gs))
-      ∙ sets-append old n (map number fs) (map number (take (most - (n + length fs)) gs))
-      ∙ ap₂ (λ (l : List ℕ) (j : ℕ). sets l j (map number (take (most - (n + length fs)) gs)))
-      (ap (λ (l : List Frame). sets old n (map number l)) (sym (take-all (most - n) fs (omega arith))))
+      ∙ ap (λ (l : List Frame). sets old n (map number l)) (take-append-add fs gs (mostFrames - (n + length fs)))
+      ∙ ap (sets old n) (map-append number fs (take (mostFrames - (n + length fs)) gs))
+      ∙ sets-append old n (map number fs) (map number (take (mostFrames - (n + length fs)) gs))
+      ∙ ap₂ (λ (l : List ℕ) (j : ℕ). sets l j (map number (take (mostFrames - (n + length fs)) gs)))
+      (ap (λ (l : List Frame). sets old n (map number l)) (sym (take-all (mostFrames - n) fs (omega arith))))
       (ap (λ (j : ℕ). n + j) (length-map fs number))
 
-  then-stored : (old : List ℕ) (n : ℕ) (fs gs : List Frame) → stored number old n (fs ++ gs) ≡ stored number (stored number old n fs) (min (suc most) (n + length fs)) gs
-  then-stored old n fs gs = which (le-or-lt most (n + length fs))
+  then-stored : (old : List ℕ) (n : ℕ) (fs gs : List Frame) → stored number old n (fs ++ gs) ≡ stored number (stored number old n fs) (min (suc mostFrames) (n + length fs)) gs
+  then-stored old n fs gs = which (le-or-lt mostFrames (n + length fs))
     where
-      which : (most ≤ n + length fs) ⊎ (n + length fs < most) → stored number old n (fs ++ gs) ≡ stored number (stored number old n fs) (min (suc most) (n + length fs)) gs
-      which (inl h) = more-stored old n fs gs h ∙ full-stored (stored number old n fs) (min (suc most) (n + length fs)) gs (omega arith)
-      which (inr h) = let e : min (suc most) (n + length fs) ≡ n + length fs = omega arith in rw e (behind-stored old n fs gs h)
+      which : (mostFrames ≤ n + length fs) ⊎ (n + length fs < mostFrames) → stored number old n (fs ++ gs) ≡ stored number (stored number old n fs) (min (suc mostFrames) (n + length fs)) gs
+      which (inl h) = more-stored old n fs gs h ∙ full-stored (stored number old n fs) (min (suc mostFrames) (n + length fs)) gs (omega arith)
+      which (inr h) = let e : min (suc mostFrames) (n + length fs) ≡ n + length fs = omega arith in rw e (behind-stored old n fs gs h)
 
 -- ---- three numbers of each frame, and the count
 
 module _ (task release deadline : List ℕ) (n : ℕ) where
-  pub stored-nothing : n ≤ suc most → Stored task release deadline n [] task release deadline n
+  pub stored-nothing : n ≤ suc mostFrames → Stored task release deadline n [] task release deadline n
   stored-nothing h =
       record {
         tasks = none-stored taskOf task n;
@@ -66,7 +67,7 @@ module _ (task release deadline : List ℕ) (n : ℕ) where
         count = omega arith;
       }
 
-  pub stored-one : (f : Frame) → n < most → Stored task release deadline n (f ∷ []) (set task n (f .task)) (set release n (f .release)) (set deadline n (f .deadline)) (n + 1)
+  pub stored-one : (f : Frame) → n < mostFrames → Stored task release deadline n (f ∷ []) (set task n (f .task)) (set release n (f .release)) (set deadline n (f .deadline)) (n + 1)
   stored-one f h =
       record {
         tasks = one-stored taskOf task n f h;
@@ -75,7 +76,7 @@ module _ (task release deadline : List ℕ) (n : ℕ) where
         count = omega arith;
       }
 
-  pub stored-full : (f : Frame) → n ≡ most → Stored task release deadline n (f ∷ []) task release deadline (n + 1)
+  pub stored-full : (f : Frame) → n ≡ mostFrames → Stored task release deadline n (f ∷ []) task release deadline (n + 1)
   stored-full f h =
       record {
         tasks = full-stored taskOf task n (f ∷ []) (omega arith);
@@ -93,14 +94,14 @@ stored-then {task₀} {release₀} {deadline₀} {n₀ = n₀} {n} {n′} {fs} {
       tasks = b .tasks ∙ ap₂ (λ (l : List ℕ) (k : ℕ). stored taskOf l k gs) (a .tasks) (a .count) ∙ sym (then-stored taskOf task₀ n₀ fs gs);
       releases = b .releases ∙ ap₂ (λ (l : List ℕ) (k : ℕ). stored releaseOf l k gs) (a .releases) (a .count) ∙ sym (then-stored releaseOf release₀ n₀ fs gs);
       deadlines = b .deadlines ∙ ap₂ (λ (l : List ℕ) (k : ℕ). stored deadlineOf l k gs) (a .deadlines) (a .count) ∙ sym (then-stored deadlineOf deadline₀ n₀ fs gs);
-      count = let e : n ≡ min (suc most) (n₀ + length fs) = a .count in let f : n′ ≡ min (suc most) (n + length gs) = b .count in rw (length-append fs gs) (omega arith);
+      count = let e : n ≡ min (suc mostFrames) (n₀ + length fs) = a .count in let f : n′ ≡ min (suc mostFrames) (n + length gs) = b .count in rw (length-append fs gs) (omega arith);
     }
 
 -- behind the one that has no place left nothing is stored and nothing counted
 pub stored-stop : {task₀ release₀ deadline₀ task release deadline : List ℕ} {n₀ n : ℕ} {fs : List Frame} (gs : List Frame)
-    → Stored task₀ release₀ deadline₀ n₀ fs task release deadline n → most < n → Stored task₀ release₀ deadline₀ n₀ (fs ++ gs) task release deadline n
+    → Stored task₀ release₀ deadline₀ n₀ fs task release deadline n → mostFrames < n → Stored task₀ release₀ deadline₀ n₀ (fs ++ gs) task release deadline n
 stored-stop {task₀} {release₀} {deadline₀} {n₀ = n₀} {n} {fs} gs a h =
-    let e : n ≡ min (suc most) (n₀ + length fs) = a .count in
+    let e : n ≡ min (suc mostFrames) (n₀ + length fs) = a .count in
     record {
       tasks = a .tasks ∙ sym (more-stored taskOf task₀ n₀ fs gs (omega arith));
       releases = a .releases ∙ sym (more-stored releaseOf release₀ n₀ fs gs (omega arith));
@@ -116,17 +117,17 @@ derived {n = n} {fs} a =
       tasks = a .tasks;
       releases = a .releases;
       deadlines = a .deadlines;
-      count = let e : n ≡ min (suc most) (0 + length fs) = a .count in omega arith;
+      count = let e : n ≡ min (suc mostFrames) (0 + length fs) = a .count in omega arith;
     }
 
 -- ---- the ways of a place
 
 module _ (tasks releases deadlines : List ℕ) (t d b n : ℕ) where
-  pub put-nothing : b ≡ 0 → n ≤ most → Stored tasks releases deadlines n (frameAt t d b) tasks releases deadlines n
+  pub put-nothing : b ≡ 0 → n ≤ mostFrames → Stored tasks releases deadlines n (frameAt t d b) tasks releases deadlines n
   unfolding frameAt
   put-nothing e h = rw e (stored-nothing tasks releases deadlines n (omega arith))
 
-  pub put-full : (b ≡ 0 → ⊥) → n ≡ most → Stored tasks releases deadlines n (frameAt t d b) tasks releases deadlines (n + 1)
+  pub put-full : (b ≡ 0 → ⊥) → n ≡ mostFrames → Stored tasks releases deadlines n (frameAt t d b) tasks releases deadlines (n + 1)
   unfolding frameAt
   put-full h e = go b h
     where
@@ -134,11 +135,11 @@ module _ (tasks releases deadlines : List ℕ) (t d b n : ℕ) where
       go zero h = absurd (h refl)
       go (suc r) h = stored-full tasks releases deadlines n (frame t r d) e
 
-  pub put-one : (b ≡ 0 → ⊥) → (n ≡ most → ⊥) → n ≤ most → {u : ℕ} → u ≡ t
-      → Stored tasks releases deadlines n (frameAt t d b) (set tasks n u) (set releases n (b - 1)) (set deadlines n d) (n + 1)
+  pub put-one : (b ≡ 0 → ⊥) → (n ≡ mostFrames → ⊥) → n ≤ mostFrames
+      → Stored tasks releases deadlines n (frameAt t d b) (set tasks n t) (set releases n (b - 1)) (set deadlines n d) (n + 1)
   unfolding frameAt
-  put-one h e w {u} q = go b h
+  put-one h e w = go b h
     where
-      go : (b : ℕ) → (b ≡ 0 → ⊥) → Stored tasks releases deadlines n (cell t d b) (set tasks n u) (set releases n (b - 1)) (set deadlines n d) (n + 1)
+      go : (b : ℕ) → (b ≡ 0 → ⊥) → Stored tasks releases deadlines n (cell t d b) (set tasks n t) (set releases n (b - 1)) (set deadlines n d) (n + 1)
       go zero h = absurd (h refl)
-      go (suc r) h = let o : suc r - 1 ≡ r = omega arith in rw (q, o) (stored-one tasks releases deadlines n (frame t r d) (omega arith))
+      go (suc r) h = let o : suc r - 1 ≡ r = omega arith in rw o (stored-one tasks releases deadlines n (frame t r d) (omega arith))

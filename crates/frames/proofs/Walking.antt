@@ -9,10 +9,11 @@ use lib.ListN.{getD}
 use Prim.Native.Nat.{ℕ, zero, suc, _+_, _-_, _*_, _/_, _%_, _≤_, _<_}
 use Rattle.laws.specs.Lists.{all}
 use Rattle.laws.proofs.Lists.{both-left, both-right}
+use Rattle.rules.specs.Limits.{mostFrames}
 use Rattle.rules.specs.Frames.{Run, Frame, messages, framesOf}
 use Rattle.rules.proofs.Grid.{cell, row, grid, latest, below, frames-grid}
 use Rattle.tree.specs.Tree.{Grown}
-use Rattle.frames.specs.Walk.{most, runsIn, isFair, Ready, codeOf, keyOf, limitOf, Planted, Waits, Waiting, CellMet, frameAt, Stored, Derived}
+use Rattle.frames.specs.Walk.{runsIn, isFair, Ready, codeOf, keyOf, limitOf, Planted, Waits, Waiting, CellMet, frameAt, Stored, Derived}
 use Rattle.tree.proofs.Trees.{root-under}
 use Rattle.frames.proofs.Meeting.{fair-run, at-root, waiting-start, nothing-before}
 use Rattle.frames.proofs.Storing.{stored-nothing, stored-then, stored-stop, derived}
@@ -122,7 +123,7 @@ module _ (task period worst : List ℕ) (runs size cycle : ℕ) where
       pub within : at ≤ (cycle + 1) * 32
       pub waiting : Waiting task period runs size cycle at at tree
       pub root-is : root ≡ getD tree 1 0
-      pub room : count ≤ most
+      pub room : count ≤ mostFrames
       pub so-far : Stored tasks₀ releases₀ deadlines₀ 0 (framesTo at) tasks releases deadlines count
 
     pub walked-start : {old tree : List ℕ} {root : ℕ} → Ready task period worst runs size cycle → Planted task period runs size cycle old → Grown old size tree → root ≡ getD tree 1 0
@@ -186,7 +187,7 @@ module _ (task period worst : List ℕ) (runs size cycle : ℕ) where
             let e : framesTo (codeOf d t) ≡ framesTo (w .at) = skipped (codeOf d t) r (w .waiting) (w .begun) reached (omega (arith, code-is, w .root-is)) in
             rw (with-place d t best (place-of .begun) (place-of .short) (m .is), e) (stored-then (w .so-far) s)
 
-        pub walked-turn : count′ ≤ most → Walked tasks′ releases′ deadlines′ tree′ root′ count′
+        pub walked-turn : count′ ≤ mostFrames → Walked tasks′ releases′ deadlines′ tree′ root′ count′
         walked-turn h =
             record {
               at = suc (codeOf d t);
@@ -202,7 +203,7 @@ module _ (task period worst : List ℕ) (runs size cycle : ℕ) where
         pub walk-less : limitOf cycle - root′ < limitOf cycle - root
         walk-less = omega (arith, m .past, code-is)
 
-        pub walked-stop : most < count′ → Derived tasks₀ releases₀ deadlines₀ (framesOf (messages cycle (runsIn task period worst runs))) tasks′ releases′ deadlines′ count′
+        pub walked-stop : mostFrames < count′ → Derived tasks₀ releases₀ deadlines₀ (framesOf (messages cycle (runsIn task period worst runs))) tasks′ releases′ deadlines′ count′
         walked-stop full =
             derived
             (rw (all-frames (r .fair) ∙ framesTo-more (suc (codeOf d t)) ((cycle + 1) * 32) (omega (arith, place-of .begun)) (omega (arith, place-of .inside, place-of .short)))

@@ -4,17 +4,18 @@ use lib.ListN.{length, getD}
 use Prim.Native.Nat.{ℕ, suc, min}
 use Rattle.laws.specs.Lists.{tab}
 use Rattle.laws.specs.Loops.{padTo}
+use Rattle.rules.specs.Limits.{mostFrames}
 use Rattle.rules.specs.Frames.{Frame}
 use Rattle.frames.specs.declared.laid.Frames.{Frames}
-use Rattle.frames.specs.Walk.{most, taskOf, releaseOf, deadlineOf}
+use Rattle.frames.specs.Walk.{taskOf, releaseOf, deadlineOf}
 
 unfoldable pub column : (Frame → ℕ) → List Frame → List ℕ
-column number fs = padTo most 0 (map number fs)
+column number fs = padTo mostFrames 0 (map number fs)
 
 unfoldable pub framesLaid : List Frame → Frames
 framesLaid fs =
     record {
-      count = min (suc most) (length fs);
+      count = min (suc mostFrames) (length fs);
       tasks = column taskOf fs;
       releases = column releaseOf fs;
       deadlines = column deadlineOf fs;

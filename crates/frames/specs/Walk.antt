@@ -7,9 +7,10 @@ use lib.ListN.{getD, length, take}
 use lib.Seq.{sets}
 use Prim.Native.Nat.{ℕ, suc, _+_, _*_, _-_, _≤_, _<_, _∣_, min}
 use Rattle.laws.specs.Lists.{all, tab}
+use Rattle.rules.specs.Limits.{longestTime, mostFrames, mostInvocations, mostTasks}
 use Rattle.rules.specs.Frames.{Run, Frame}
 use Rattle.rules.proofs.Grid.{cell, latest}
-use Rattle.tree.specs.Tree.{Tree}
+use Rattle.tree.specs.Tree.{mostLeaves, treePlaces, Tree}
 
 -- the run whose numbers stand at place i, and the runs at the places below n
 unfoldable pub runAt : List ℕ → List ℕ → List ℕ → ℕ → Run
@@ -18,32 +19,32 @@ runAt task period worst i = record { task = getD task i 0; period = getD period 
 unfoldable pub runsIn : List ℕ → List ℕ → List ℕ → ℕ → List Run
 runsIn task period worst n = tab (runAt task period worst) 0 n
 
--- What a plan that keeps the rules promises of a run: its task is one of 32, its period at least one tick and not above the bus
+-- What a plan that keeps the rules promises of a run: its task is one that a plan can have, its period at least one tick and not above the bus
 -- period, its worst time not above its period.
 unfoldable pub isFair : ℕ → Run → Bool
-isFair busPeriod r = (ltb (r .task) 32 && ltb 0 (r .period)) && (leb (r .period) busPeriod && leb (r .worst) (r .period))
+isFair busPeriod r = (ltb (r .task) mostTasks && ltb 0 (r .period)) && (leb (r .period) busPeriod && leb (r .worst) (r .period))
 
 -- What is asked of the runs, and of the tree that has a leaf for each.
 pub record Ready (task period worst : List ℕ) (runs size cycle : ℕ) : Type 0 where
   pub few : runs ≤ size
   pub some : 0 < size
-  pub small : size ≤ 64
-  pub short : cycle ≤ 1000000
+  pub small : size ≤ mostLeaves
+  pub short : cycle ≤ longestTime
   pub fair : all (isFair cycle) (runsIn task period worst runs) ≡ true
 
 -- Messages in the frames' order: the place of deadline d and task t, and the key of its message of run i; behind all keys the limit.
 abbrev pub codeOf : ℕ → ℕ → ℕ
-codeOf d t = d * 32 + t
+codeOf d t = d * mostTasks + t
 
 abbrev pub keyOf : ℕ → ℕ → ℕ → ℕ
-keyOf d t i = codeOf d t * 64 + i
+keyOf d t i = codeOf d t * mostInvocations + i
 
 abbrev pub limitOf : ℕ → ℕ
-limitOf cycle = (cycle + 1) * 2048
+limitOf cycle = (cycle + 1) * (mostTasks * mostInvocations)
 
 -- each run's first message stands at its leaf
 pub record Planted (task period : List ℕ) (runs size cycle : ℕ) (tree : List ℕ) : Type 0 where
-  pub places : length tree ≡ 128
+  pub places : length tree ≡ treePlaces
   pub firsts : (i : ℕ) → i < runs → getD tree (size + i) 0 ≡ keyOf (getD period i 0) (getD task i 0) i
   pub rest : (i : ℕ) → runs ≤ i → i < size → getD tree (size + i) 0 ≡ limitOf cycle
 
@@ -53,7 +54,7 @@ pub record Waits (task period : List ℕ) (lo hi i key : ℕ) : Type 0 where
   pub is : key ≡ keyOf next (getD task i 0) i
   pub multiple : getD period i 0 ∣ next
   pub reached : lo ≤ codeOf next (getD task i 0)
-  pub first : codeOf next (getD task i 0) < hi + 32 * getD period i 0
+  pub first : codeOf next (getD task i 0) < hi + mostTasks * getD period i 0
 
 -- so each run waits at its leaf of a tree
 pub record Waiting (task period : List ℕ) (runs size cycle lo hi : ℕ) (tree : List ℕ) : Type 0 where
@@ -66,15 +67,11 @@ pub record CellMet (task period worst : List ℕ) (runs size cycle d t : ℕ) (t
   pub is : best ≡ latest (runsIn task period worst runs) d t
   pub waiting : Waiting task period runs size cycle (suc (codeOf d t)) (suc (codeOf d t)) tree
   pub root-is : root ≡ getD tree 1 0
-  pub past : suc (codeOf d t) * 64 ≤ root
+  pub past : suc (codeOf d t) * mostInvocations ≤ root
 
 -- the frame of one place
 unfoldable pub frameAt : ℕ → ℕ → ℕ → List Frame
 frameAt t d b = cell t d b
-
--- the places for frames
-abbrev pub most : ℕ
-most = 256
 
 -- a frame's numbers
 abbrev pub taskOf : Frame → ℕ
@@ -88,18 +85,18 @@ deadlineOf f = f .deadline
 
 -- One number of each frame, stored from place n on, as far as the places reach.
 unfoldable pub stored : (Frame → ℕ) → List ℕ → ℕ → List Frame → List ℕ
-stored number old n fs = sets old n (map number (take (most - n) fs))
+stored number old n fs = sets old n (map number (take (mostFrames - n) fs))
 
 -- What is left of three arrays and a count when frames are stored from place n₀ on. The count stops one behind the last place.
 pub record Stored (task₀ release₀ deadline₀ : List ℕ) (n₀ : ℕ) (fs : List Frame) (task release deadline : List ℕ) (n : ℕ) : Type 0 where
   pub tasks : task ≡ stored taskOf task₀ n₀ fs
   pub releases : release ≡ stored releaseOf release₀ n₀ fs
   pub deadlines : deadline ≡ stored deadlineOf deadline₀ n₀ fs
-  pub count : n ≡ min (suc most) (n₀ + length fs)
+  pub count : n ≡ min (suc mostFrames) (n₀ + length fs)
 
 -- The first frames stand in front, as many as there are places; the count is that of all, or one more than there are places.
 pub record Derived (task₀ release₀ deadline₀ : List ℕ) (fs : List Frame) (task release deadline : List ℕ) (n : ℕ) : Type 0 where
-  pub tasks : task ≡ sets task₀ 0 (map taskOf (take most fs))
-  pub releases : release ≡ sets release₀ 0 (map releaseOf (take most fs))
-  pub deadlines : deadline ≡ sets deadline₀ 0 (map deadlineOf (take most fs))
-  pub count : n ≡ min (suc most) (length fs)
+  pub tasks : task ≡ sets task₀ 0 (map taskOf (take mostFrames fs))
+  pub releases : release ≡ sets release₀ 0 (map releaseOf (take mostFrames fs))
+  pub deadlines : deadline ≡ sets deadline₀ 0 (map deadlineOf (take mostFrames fs))
+  pub count : n ≡ min (suc mostFrames) (length fs)

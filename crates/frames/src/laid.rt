@@ -3,6 +3,7 @@ ghost use mathlib.Core.Path.{_≡_};
 ghost use mathlib.Core.Bool.{true};
 ghost use Prim.Native.Nat.{_≤_};
 ghost use Rattle.laws.specs.Lists.{all};
+ghost use Rattle.rules.specs.Limits.{longestTime, mostInvocations};
 ghost use Rattle.rules.specs.Frames.{messages, framesOf};
 ghost use Rattle.cycle.specs.Runs.{runsSeen};
 ghost use Rattle.frames.specs.Walk.{isFair};
@@ -22,8 +23,8 @@ pub struct Frames {
 
 impl Frames {
     pub fn of(runs: Runs, period: Ticks) -> Frames
-        requires { ⌜ runs .count ≤ 64 ⌝ }
-        requires { ⌜ period .0 ≤ 1000000 ⌝ }
+        requires { ⌜ runs .count ≤ mostInvocations ⌝ }
+        requires { ⌜ period .0 ≤ longestTime ⌝ }
         requires { ⌜ all (isFair (period .0)) (runsSeen runs) ≡ true ⌝ }
         ensures { λ r. ⌜ r ≡ framesLaid (framesOf (messages (period .0) (runsSeen runs))) ⌝ }
     {
@@ -36,7 +37,7 @@ impl Frames {
             &runs.periods,
             &runs.worsts,
             n,
-            period.0,
+            period,
             &mut tasks,
             &mut releases,
             &mut deadlines,

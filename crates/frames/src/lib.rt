@@ -5,59 +5,72 @@ ghost use mathlib.Core.Bool.{true};
 ghost use lib.ListN.{getD};
 ghost use Prim.Native.Nat.{suc, _+_, _-_, _*_, _≤_, _<_};
 ghost use Rattle.laws.specs.Lists.{all};
+ghost use Rattle.rules.specs.Limits.{longestTime, mostFrames, mostInvocations, mostTasks};
 ghost use Rattle.rules.specs.Frames.{messages, framesOf};
-ghost use Rattle.frames.specs.Walk.{most, runsIn, isFair, keyOf, Ready, Planted, Waiting, CellMet, frameAt, Stored, Derived};
+ghost use Rattle.frames.specs.Walk.{runsIn, isFair, codeOf, keyOf, Ready, Planted, Waiting, CellMet, frameAt, Stored, Derived};
 
 pub mod laid;
 
 use figures::larger;
+use plan::Invocation;
+use tree::PLACES;
 use tree::grow;
 use tree::leaves;
 use tree::raise;
 use units::Frame;
+use units::TaskNo;
+use units::Ticks;
 
-fn narrow(t: usize) -> u8
-    requires { ⌜ t < 32 ⌝ }
-    ensures { λ r. ⌜ r ≡ t ⌝ }
+// How many keys a task has, one for each run; how many tasks a deadline has; and so how many keys a deadline has.
+const RUNS: u32 = Invocation::MOST as u32;
+
+const TASKS: u32 = TaskNo::MOST as u32;
+
+const CELLS: u32 = TASKS * RUNS;
+
+fn task_no(t: u32) -> TaskNo
+    requires { ⌜ t < mostTasks ⌝ }
+    ensures { λ r. ⌜ r .0 ≡ t ⌝ }
 {
-    t as u8
+    TaskNo(t as u8)
 }
 
 // One tick behind the release of the message that has to be there by `d`.
-fn behind_release(d: u32, period: u32, worst: u32) -> u32
-    requires { ⌜ period ≤ d ⌝ }
-    requires { ⌜ worst ≤ period ⌝ }
-    requires { ⌜ d ≤ 1000000 ⌝ }
-    ensures { λ r. ⌜ r ≡ suc (d - period + worst) ⌝ }
+fn behind_release(d: Ticks, period: Ticks, worst: Ticks) -> Ticks
+    requires { ⌜ period .0 ≤ d .0 ⌝ }
+    requires { ⌜ worst .0 ≤ period .0 ⌝ }
+    requires { ⌜ d .0 ≤ longestTime ⌝ }
+    ensures { λ r. ⌜ r .0 ≡ suc (d .0 - period .0 + worst .0) ⌝ }
 {
-    d - period + worst + 1
+    Ticks(d.0 - period.0 + worst.0 + 1)
 }
 
-// A message waits by its deadline, then by its task, then by its run: 2,048 keys to a deadline, 64 to a task.
-fn key(deadline: u32, task: u8, run: usize) -> u32
-    requires { ⌜ deadline ≤ 1000000 ⌝ }
-    requires { ⌜ run < 64 ⌝ }
-    ensures { λ r. ⌜ r ≡ keyOf deadline task run ⌝ }
+// A message waits by its deadline, then by its task, then by its run.
+fn key(deadline: Ticks, task: TaskNo, run: usize) -> u32
+    requires { ⌜ deadline .0 ≤ longestTime ⌝ }
+    requires { ⌜ run < mostInvocations ⌝ }
+    ensures { λ r. ⌜ r ≡ keyOf (deadline .0) (task .0) run ⌝ }
 {
-    (deadline * 32 + task as u32) * 64 + run as u32
+    (deadline.0 * TASKS + task.0 as u32) * RUNS + run as u32
 }
 
 // The first message of each run, by its key; behind the runs a key that is behind all deadlines.
 fn plant(
-    task: &[u8; 64],
-    period: &[u32; 64],
-    worst: &[u32; 64],
+    task: &[u8; Invocation::MOST],
+    period: &[u32; Invocation::MOST],
+    worst: &[u32; Invocation::MOST],
     runs: usize,
-    cycle: u32,
+    cycle: Ticks,
     size: usize,
-) -> [u32; 128]
-    requires { ⌜ Ready (now task) (now period) (now worst) runs size cycle ⌝ }
-    ensures { λ r. ⌜ Planted (now (task .entry)) (now (period .entry)) runs size cycle r ⌝ }
+) -> [u32; PLACES]
+    requires { ⌜ Ready (now task) (now period) (now worst) runs size (cycle .0) ⌝ }
+    ensures { λ r. ⌜ Planted (now (task .entry)) (now (period .entry)) runs size (cycle .0) r ⌝ }
 {
-    let mut tree = [(cycle + 1) * 2048; 128];
+    let last = cycle.0;
+    let mut tree = [(last + 1) * CELLS; PLACES];
     let mut i = 0;
     while i < runs {
-        tree[size + i] = key(period[i], task[i], i);
+        tree[size + i] = key(Ticks(period[i]), TaskNo(task[i]), i);
         i += 1;
     }
     tree
@@ -65,95 +78,97 @@ fn plant(
 
 // What the messages of one task and deadline come to: one more than their greatest release; and the root behind them.
 struct Met {
-    best: u32,
+    best: Ticks,
     root: u32,
 }
 
 // Takes the messages of task `t` that have to be there by `d`. Each run that ends waits with its next message.
 fn meet(
-    task: &[u8; 64],
-    period: &[u32; 64],
-    worst: &[u32; 64],
+    task: &[u8; Invocation::MOST],
+    period: &[u32; Invocation::MOST],
+    worst: &[u32; Invocation::MOST],
     runs: usize,
-    cycle: u32,
+    cycle: Ticks,
     size: usize,
-    d: u32,
-    t: u32,
+    d: Ticks,
+    t: TaskNo,
     first: u32,
-    tree: &mut [u32; 128],
+    tree: &mut [u32; PLACES],
 ) -> Met
-    requires { ⌜ Ready (now task) (now period) (now worst) runs size cycle ⌝ }
-    requires { ⌜ (0 < d) × (d ≤ cycle) × (t < 32) ⌝ }
-    requires { ⌜ Waiting (now task) (now period) runs size cycle (d * 32 + t) (d * 32 + t) (now tree) ⌝ }
+    requires { ⌜ Ready (now task) (now period) (now worst) runs size (cycle .0) ⌝ }
+    requires { ⌜ (0 < d .0) × (d .0 ≤ cycle .0) × (t .0 < mostTasks) ⌝ }
+    requires { ⌜ Waiting (now task) (now period) runs size (cycle .0) (codeOf (d .0) (t .0)) (codeOf (d .0) (t .0)) (now tree) ⌝ }
     requires { ⌜ first ≡ getD (now tree) 1 0 ⌝ }
-    ensures { λ r. ⌜ CellMet (now (task .entry)) (now (period .entry)) (now (worst .entry)) runs size cycle d t (now (tree .exit)) (r .best) (r .root) ⌝ }
+    ensures { λ r. ⌜ CellMet (now (task .entry)) (now (period .entry)) (now (worst .entry)) runs size (cycle .0) (d .0) (t .0) (now (tree .exit)) (r .best .0) (r .root) ⌝ }
 {
-    let end = (d * 32 + t + 1) * 64;
+    // As numbers: the loop's invariant speaks of them, and a struct that the loop does not read is not there any more.
+    let last = cycle.0;
+    let number = t.0 as u32;
+    let end = (d.0 * TASKS + number + 1) * RUNS;
     let mut root = first;
     let mut best = 0;
     while root < end {
-        let i = (root % 64) as usize;
-        let b = behind_release(d, period[i], worst[i]);
-        best = larger(best, b);
-        root = raise(tree, size, i, root + period[i] * 2048);
+        let i = (root % RUNS) as usize;
+        let b = behind_release(d, Ticks(period[i]), Ticks(worst[i]));
+        best = larger(best, b.0);
+        root = raise(tree, size, i, root + period[i] * CELLS);
     }
     Met {
-        best: best,
+        best: Ticks(best),
         root: root,
     }
 }
 
-// Stores the frame of task `t` at deadline `d` at place `n`, if there is one. The 257th is counted and not stored.
+// Stores the frame of task `t` at deadline `d` at place `n`, if there is one. One more than there are places is counted and not stored.
 fn put(
-    t: usize,
-    d: u32,
-    b: u32,
+    t: TaskNo,
+    d: Ticks,
+    b: Ticks,
     n: usize,
     tasks: &mut [u8; Frame::MOST],
     releases: &mut [u32; Frame::MOST],
     deadlines: &mut [u32; Frame::MOST],
 ) -> usize
-    requires { ⌜ t < 32 ⌝ }
-    requires { ⌜ n ≤ most ⌝ }
-    ensures { λ r. ⌜ Stored (now (tasks .entry)) (now (releases .entry)) (now (deadlines .entry)) n (frameAt t d b) (now (tasks .exit)) (now (releases .exit)) (now (deadlines .exit)) r ⌝ }
+    requires { ⌜ n ≤ mostFrames ⌝ }
+    ensures { λ r. ⌜ Stored (now (tasks .entry)) (now (releases .entry)) (now (deadlines .entry)) n (frameAt (t .0) (d .0) (b .0)) (now (tasks .exit)) (now (releases .exit)) (now (deadlines .exit)) r ⌝ }
 {
-    if b == 0 {
+    if b.0 == 0 {
         return n;
     }
     if n == Frame::MOST {
         return n + 1;
     }
-    tasks[n] = narrow(t);
-    releases[n] = b - 1;
-    deadlines[n] = d;
+    tasks[n] = t.0;
+    releases[n] = b.0 - 1;
+    deadlines[n] = d.0;
     n + 1
 }
 
-// The frames by number. More than 256 are not stored: the count then is 257.
+// The frames by number. Those behind the last place are not stored: the count then is one more than there are places.
 pub fn derive<'a>(
-    task: &'a [u8; 64],
-    period: &'a [u32; 64],
-    worst: &'a [u32; 64],
+    task: &'a [u8; Invocation::MOST],
+    period: &'a [u32; Invocation::MOST],
+    worst: &'a [u32; Invocation::MOST],
     runs: usize,
-    cycle: u32,
+    cycle: Ticks,
     tasks: &mut [u8; Frame::MOST],
     releases: &mut [u32; Frame::MOST],
     deadlines: &mut [u32; Frame::MOST],
 ) -> usize
-    requires { ⌜ runs ≤ 64 ⌝ }
-    requires { ⌜ cycle ≤ 1000000 ⌝ }
-    requires { ⌜ all (isFair cycle) (runsIn (now task) (now period) (now worst) runs) ≡ true ⌝ }
-    ensures { λ r. ⌜ Derived (now (tasks .entry)) (now (releases .entry)) (now (deadlines .entry)) (framesOf (messages cycle (runsIn (now (task .entry)) (now (period .entry)) (now (worst .entry)) runs))) (now (tasks .exit)) (now (releases .exit)) (now (deadlines .exit)) r ⌝ }
+    requires { ⌜ runs ≤ mostInvocations ⌝ }
+    requires { ⌜ cycle .0 ≤ longestTime ⌝ }
+    requires { ⌜ all (isFair (cycle .0)) (runsIn (now task) (now period) (now worst) runs) ≡ true ⌝ }
+    ensures { λ r. ⌜ Derived (now (tasks .entry)) (now (releases .entry)) (now (deadlines .entry)) (framesOf (messages (cycle .0) (runsIn (now (task .entry)) (now (period .entry)) (now (worst .entry)) runs))) (now (tasks .exit)) (now (releases .exit)) (now (deadlines .exit)) r ⌝ }
 {
-    let limit = (cycle + 1) * 2048;
+    let limit = (cycle.0 + 1) * CELLS;
     let size = leaves(runs);
     let mut tree = plant(task, period, worst, runs, cycle, size);
     grow(&mut tree, size);
     let mut root = tree[1];
     let mut count = 0;
     while root < limit {
-        let d = root / 2048;
-        let t = root / 64 % 32;
+        let d = Ticks(root / CELLS);
+        let t = task_no(root / RUNS % TASKS);
         let met = meet(
             task,
             period,
@@ -166,7 +181,7 @@ pub fn derive<'a>(
             root,
             &mut tree,
         );
-        count = put(t as usize, d, met.best, count, tasks, releases, deadlines);
+        count = put(t, d, met.best, count, tasks, releases, deadlines);
         if count > Frame::MOST {
             return count;
         }

@@ -10,15 +10,15 @@ use Rattle.frames.proofs.derive.Tie as tie
 
 abbrev Inv-loop : tie.InvT-loop
 Inv-loop task period worst runs cycle tasks₀ releases₀ deadlines₀ limit size tree₀ root₀ count₀ tasks releases deadlines tree root count =
-    Ready task period worst runs size cycle × Walked task period worst runs size cycle tasks₀ releases₀ deadlines₀ tasks releases
+    Ready task period worst runs size (cycle .0) × Walked task period worst runs size (cycle .0) tasks₀ releases₀ deadlines₀ tasks releases
     deadlines tree root count
 
 abbrev μ-loop : tie.MeasureT-loop
 μ-loop task period worst runs cycle tasks₀ releases₀ deadlines₀ limit size tree₀ root₀ count₀ tasks releases deadlines tree root count =
-    limitOf cycle - root
+    limitOf (cycle .0) - root
 
 plant-requires : tie.Need-plant-requires Inv-loop μ-loop
-plant-requires c κs = ready _ _ _ _ _ _ (c .leaves .ensures) (c .before .pre .1 .0) (c .before .pre .1 .1)
+plant-requires c κs = ready _ _ _ _ _ _ (c .leaves .ensures) (c .before .before .pre .1 .0) (c .before .before .pre .1 .1)
 
 grow-requires : tie.Need-grow-requires Inv-loop μ-loop
 grow-requires c κs =
@@ -28,42 +28,40 @@ grow-requires c κs =
 loop-holds : tie.Need-loop-holds Inv-loop μ-loop
 loop-holds c =
     let c1 = c .before .before .before in
-    let start = c1 .before in
-    let r = ready _ _ _ _ _ _ (c1 .leaves .ensures) (start .pre .1 .0) (start .pre .1 .1) in
+    let r = ready _ _ _ _ _ _ (c1 .leaves .ensures) (c1 .before .before .pre .1 .0) (c1 .before .before .pre .1 .1) in
     (r, walked-start _ _ _ _ _ _ _ _ _ r (c .before .before .plant .ensures) (c .grow .ensures) refl)
 
 meet-requires : tie.Need-meet-requires Inv-loop μ-loop
 meet-requires c κs =
-    let c1 = c .before .before in
-    let p = place-of _ _ _ _ _ _ _ _ _ (c1 .loop .inv .0) (c1 .loop .inv .1) (omega arith) refl refl in
+    let c1 = c .before .before .before in
+    let p = place-of _ _ _ _ _ _ _ _ _ (c1 .loop .inv .0) (c1 .loop .inv .1) (omega arith) refl (c .before .task-no .ensures) in
     (c1 .loop .inv .0, ((p .begun, p .inside, p .short), (p .waiting, c1 .loop .inv .1 .root-is)))
 
 put-requires : tie.Need-put-requires Inv-loop μ-loop
 put-requires c κs =
-    let c1 = c .before .before .before .before .before .before in
-    let p = place-of _ _ _ _ _ _ _ _ _ (c1 .loop .inv .0) (c1 .loop .inv .1) (omega arith) refl refl in
-    (p .short, c1 .loop .inv .1 .room)
+    let c1 = c .before .before .before .before .before .before .before in
+    c1 .loop .inv .1 .room
 
 returns : tie.Need-returns Inv-loop μ-loop
 returns c =
     let c1 = c .before .before .before .before .before in
-    let c2 = c1 .before .before .before in
-    walked-stop _ _ _ _ _ _ _ _ _ (c2 .loop .inv .0) (c2 .loop .inv .1) (omega arith) refl refl (c1 .meet .ensures)
+    let c2 = c1 .before .before .before .before in
+    walked-stop _ _ _ _ _ _ _ _ _ (c2 .loop .inv .0) (c2 .loop .inv .1) (omega arith) refl (c .before .before .before .before .before .before .before .task-no .ensures) (c1 .meet .ensures)
     (c .before .put .ensures) (omega arith)
 
 loop-less : tie.Need-loop-less Inv-loop μ-loop
 loop-less c =
     let c1 = c .before .before .before .before .before in
-    let c2 = c1 .before .before .before in
-    walk-less _ _ _ _ _ _ _ _ _ (c2 .loop .inv .0) (c2 .loop .inv .1) (omega arith) refl refl (c1 .meet .ensures)
+    let c2 = c1 .before .before .before .before in
+    walk-less _ _ _ _ _ _ _ _ _ (c2 .loop .inv .0) (c2 .loop .inv .1) (omega arith) refl (c .before .before .before .before .before .before .before .task-no .ensures) (c1 .meet .ensures)
     (c .before .put .ensures)
 
 loop-again : tie.Need-loop-again Inv-loop μ-loop
 loop-again c =
     let c1 = c .before .before .before .before .before in
-    let c2 = c1 .before .before .before in (
+    let c2 = c1 .before .before .before .before in (
       c2 .loop .inv .0,
-      walked-turn _ _ _ _ _ _ _ _ _ (c2 .loop .inv .0) (c2 .loop .inv .1) (omega arith) refl refl
+      walked-turn _ _ _ _ _ _ _ _ _ (c2 .loop .inv .0) (c2 .loop .inv .1) (omega arith) refl (c .before .before .before .before .before .before .before .task-no .ensures)
           (c1 .meet .ensures) (c .before .put .ensures) (omega arith),
     )
 
@@ -73,5 +71,4 @@ returns-2 c = walked-all _ _ _ _ _ _ _ _ _ (c .before .loop .inv .0) (c .before 
 pub derive-spec : {M : Type 1} → statement M
 derive-spec =
     tie.close
-    (tie.spec Inv-loop μ-loop (λ c. search needs) (λ c. search needs) (λ c κs. search needs) plant-requires grow-requires
-    (λ c. search needs) loop-holds meet-requires (λ c. search needs) put-requires returns loop-less loop-again returns-2)
+    (tie.spec Inv-loop μ-loop (λ c. search needs) (λ c. search needs) (λ c κs. search needs) plant-requires grow-requires (λ c. search needs) loop-holds (λ c κs. search needs) meet-requires put-requires returns loop-less loop-again returns-2)

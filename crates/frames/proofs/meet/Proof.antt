@@ -10,52 +10,52 @@ use Rattle.frames.proofs.meet.Statement.{statement}
 use Rattle.frames.proofs.meet.Tie as tie
 
 abbrev Inv-loop : tie.InvT-loop
-Inv-loop task period worst runs cycle size d t first tree₀ end root₀ best₀ tree root best =
-    Taking task period worst runs size cycle d t tree root best
+Inv-loop task period worst runs size d first tree₀ last number end root₀ best₀ tree root best =
+    Taking task period worst runs size last (d .0) number tree root best
 
 abbrev μ-loop : tie.MeasureT-loop
-μ-loop task period worst runs cycle size d t first tree₀ end root₀ best₀ tree root best = suc (codeOf d t) * 64 - root
+μ-loop task period worst runs size d first tree₀ last number end root₀ best₀ tree root best = suc (codeOf (d .0) number) * 64 - root
 
 loop-holds : tie.Need-loop-holds Inv-loop μ-loop
-loop-holds c = taking-start _ _ _ _ _ _ _ _ (c .pre .0) (c .pre .1 .1 .0) (c .pre .1 .1 .1)
+loop-holds c = taking-start _ _ _ _ _ _ _ _ (c .before .before .pre .0) (c .before .before .pre .1 .1 .0) (c .before .before .pre .1 .1 .1)
 
 behind-release-requires : tie.Need-behind-release-requires Inv-loop μ-loop
 behind-release-requires c κs =
     let c1 = c .before .before .before in
-    let start = c1 .before in
-    let e = ending _ _ _ _ _ _ _ _ (start .pre .0) (start .pre .1 .0 .1) (start .pre .1 .0 .2) (c1 .loop .inv) (omega arith) refl
+    let c2 = c1 .before .before .before in
+    let e = ending _ _ _ _ _ _ _ _ (c2 .pre .0) (c2 .pre .1 .0 .1) (c2 .pre .1 .0 .2) (c1 .loop .inv) (omega arith) refl
     in
-    (le-of-dvd (start .pre .1 .0 .0) (e .multiple), (e .fair .slow, omega (arith, start .pre .1 .0 .1, start .pre .0 .short)))
+    (le-of-dvd (c2 .pre .1 .0 .0) (e .multiple), (e .fair .slow, omega (arith, c2 .pre .1 .0 .1, c2 .pre .0 .short)))
 
-mul-raise-2 : tie.Need-mul-raise-2 Inv-loop μ-loop
-mul-raise-2 c =
+mul-raise-4 : tie.Need-mul-raise-4 Inv-loop μ-loop
+mul-raise-4 c =
     let c1 = c .before .before .before .before .before .before .before in
-    let start = c1 .before in
-    let e = ending _ _ _ _ _ _ _ _ (start .pre .0) (start .pre .1 .0 .1) (start .pre .1 .0 .2) (c1 .loop .inv) (omega arith) refl
+    let c2 = c1 .before .before .before in
+    let e = ending _ _ _ _ _ _ _ _ (c2 .pre .0) (c2 .pre .1 .0 .1) (c2 .pre .1 .0 .2) (c1 .loop .inv) (omega arith) refl
     in
-    omega (arith, e .fair .within, start .pre .0 .short)
+    omega (arith, e .fair .within, c2 .pre .0 .short)
 
 add-raise : tie.Need-add-raise Inv-loop μ-loop
 add-raise c =
     let c1 = c .before .before .before .before .before .before .before in
-    let start = c1 .before in
-    let e = ending _ _ _ _ _ _ _ _ (start .pre .0) (start .pre .1 .0 .1) (start .pre .1 .0 .2) (c1 .loop .inv) (omega arith) refl
+    let c2 = c1 .before .before .before in
+    let e = ending _ _ _ _ _ _ _ _ (c2 .pre .0) (c2 .pre .1 .0 .1) (c2 .pre .1 .0 .2) (c1 .loop .inv) (omega arith) refl
     in
-    omega (arith, e .fair .within, start .pre .1 .0 .1, start .pre .1 .0 .2, start .pre .0 .short)
+    omega (arith, e .fair .within, c2 .pre .1 .0 .1, c2 .pre .1 .0 .2, c2 .pre .0 .short)
 
 raise-requires : tie.Need-raise-requires Inv-loop μ-loop
 raise-requires c κs =
     let c1 = c .before .before .before .before .before .before .before in
-    let start = c1 .before in
-    let e = ending _ _ _ _ _ _ _ _ (start .pre .0) (start .pre .1 .0 .1) (start .pre .1 .0 .2) (c1 .loop .inv) (omega arith) refl
+    let c2 = c1 .before .before .before in
+    let e = ending _ _ _ _ _ _ _ _ (c2 .pre .0) (c2 .pre .1 .0 .1) (c2 .pre .1 .0 .2) (c1 .loop .inv) (omega arith) refl
     in
-    (c1 .loop .inv .waiting .whole, (start .pre .0 .small, omega (arith, e .run, start .pre .0 .few)))
+    (c1 .loop .inv .waiting .whole, (c2 .pre .0 .small, omega (arith, e .run, c2 .pre .0 .few)))
 
 loop-less : tie.Need-loop-less Inv-loop μ-loop
 loop-less c =
-    let c1 = c .before .before .before .before .before .before .before .before in
-    let start = c1 .before in
-    let h = root-rises _ _ _ _ _ _ _ _ (start .pre .0) (start .pre .1 .0 .1) (start .pre .1 .0 .2) (c1 .loop .inv) (omega arith)
+    let c1 = c .before .before .before .before .before .before .before in
+    let c2 = c1 .before .before .before .before in
+    let h = root-rises _ _ _ _ _ _ _ _ (c2 .pre .0) (c2 .pre .1 .0 .1) (c2 .pre .1 .0 .2) (c1 .before .loop .inv) (omega (arith, c1 .loop-test .taken))
     refl (c .raise .ensures) in
     omega (arith, h)
 
@@ -63,16 +63,16 @@ loop-again : tie.Need-loop-again Inv-loop μ-loop
 loop-again c =
     let c1 = c .before .before .before in
     let c2 = c1 .before .before .before .before .before in
-    let start = c2 .before in
-    taking-turn _ _ _ _ _ _ _ _ (start .pre .0) (start .pre .1 .0 .1) (start .pre .1 .0 .2) (c2 .loop .inv) (omega arith) refl
+    let c3 = c2 .before .before .before in
+    taking-turn _ _ _ _ _ _ _ _ (c3 .pre .0) (c3 .pre .1 .0 .1) (c3 .pre .1 .0 .2) (c2 .loop .inv) (omega (arith, c1 .before .before .before .before .loop-test .taken)) refl
     (c .raise .ensures) (c1 .before .behind-release .ensures) (c1 .larger .ensures)
 
 returns : tie.Need-returns Inv-loop μ-loop
-returns c = taking-end _ _ _ _ _ _ _ _ (c .before .before .pre .0) (c .before .loop .inv) (omega arith)
+returns c =
+    let c1 = c .before .before .before .before in
+    taking-end _ _ _ _ _ _ _ _ (c1 .pre .0) (c .before .loop .inv) (omega arith)
 
 pub meet-spec : {M : Type 1} → statement M
 meet-spec =
     tie.close
-    (tie.spec Inv-loop μ-loop (λ c. search needs) (λ c. search needs) (λ c. search needs) (λ c. search needs) loop-holds
-    (λ c. search needs) (λ c. search needs) (λ c. search needs) (λ c. search needs) (λ c. search needs) behind-release-requires
-    (λ c κs. search needs) (λ c. search needs) (λ c. search needs) mul-raise-2 add-raise raise-requires loop-less loop-again returns)
+    (tie.spec Inv-loop μ-loop (λ c. search needs) (λ c. search needs) (λ c. search needs) (λ c. search needs) (λ c. search needs) loop-holds (λ c. search needs) (λ c. search needs) (λ c. search needs) (λ c. search needs) (λ c. search needs) behind-release-requires (λ c κs. search needs) (λ c. search needs) (λ c. search needs) mul-raise-4 add-raise raise-requires loop-less loop-again returns)

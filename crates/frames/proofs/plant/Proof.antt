@@ -8,10 +8,10 @@ use Rattle.frames.proofs.plant.Statement.{statement}
 use Rattle.frames.proofs.plant.Tie as tie
 
 abbrev Inv-loop : tie.InvT-loop
-Inv-loop task period worst runs cycle size tree₀ i₀ tree i = Planting task period worst runs size cycle tree i
+Inv-loop task period worst runs size last tree₀ i₀ tree i = Planting task period worst runs size last tree i
 
 abbrev μ-loop : tie.MeasureT-loop
-μ-loop task period worst runs cycle size tree₀ i₀ tree i = runs - i
+μ-loop task period worst runs size last tree₀ i₀ tree i = runs - i
 
 loop-holds : tie.Need-loop-holds Inv-loop μ-loop
 loop-holds c = planting-none _ _ _ _ _ _ _ refl

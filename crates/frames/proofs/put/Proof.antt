@@ -12,10 +12,9 @@ returns-2 : tie.Need-returns-2
 returns-2 c = put-full _ _ _ _ _ _ _ (c .before .if1 .left) (c .if2 .taken)
 
 returns-3 : tie.Need-returns-3
-returns-3 c = put-one _ _ _ _ _ _ _ (c .before .before .if1 .left) (c .before .if2 .left) (omega arith) (c .narrow .ensures)
+returns-3 c = put-one _ _ _ _ _ _ _ (c .before .before .if1 .left) (c .before .if2 .left) (omega arith)
 
 pub put-spec : {M : Type 1} → statement M
 put-spec =
     tie.close
-    (tie.spec returns (λ c. search needs) returns-2 (λ c κs. search needs) (λ c. search needs) (λ c. search needs)
-    (λ c. search needs) (λ c. search needs) (λ c. search needs) (λ c. search needs) (λ c. search needs) returns-3)
+    (tie.spec returns (λ c. search needs) returns-2 (λ c. search needs) (λ c. search needs) (λ c. search needs) (λ c. search needs) (λ c. search needs) (λ c. search needs) (λ c. search needs) returns-3)
