@@ -48,20 +48,20 @@ fn long(x: u32) -> u64
 
 // The starts by frame number, from the placed frames by start. A number that stands twice would keep its first start.
 pub fn starts_by_number<'a>(
-    number: &'a [u32; Frame::MOST],
-    start: &'a [u32; Frame::MOST],
+    numbers: &'a [u32; Frame::MOST],
+    starts: &'a [u32; Frame::MOST],
     count: usize,
 ) -> [u32; Frame::MOST]
     requires { ⌜ count ≤ mostFrames ⌝ }
-    ensures { λ r. ⌜ r ≡ scattered (now (number .entry)) (now (start .entry)) count (replicate mostFrames 0) ⌝ }
+    ensures { λ r. ⌜ r ≡ scattered (now (numbers .entry)) (now (starts .entry)) count (replicate mostFrames 0) ⌝ }
 {
     let mut by = [0u32; Frame::MOST];
     let mut j = count;
     while 0 < j {
         j -= 1;
-        let k = frame(number[j]).0;
+        let k = frame(numbers[j]).0;
         if k < Frame::MOST {
-            by[k] = start[j];
+            by[k] = starts[j];
         }
     }
     by
@@ -74,68 +74,68 @@ pub struct TableRows {
     pub stop: [u32; Frame::MOST],
 }
 
-fn task_of(task: &[u8; Frame::MOST], number: FrameNo) -> TaskNo
-    requires { ⌜ length (now task) ≡ mostFrames ⌝ }
-    ensures { λ r. ⌜ r .0 ≡ getD (now (task .entry)) (number .0) 0 ⌝ }
+fn task_of(tasks: &[u8; Frame::MOST], number: FrameNo) -> TaskNo
+    requires { ⌜ length (now tasks) ≡ mostFrames ⌝ }
+    ensures { λ r. ⌜ r .0 ≡ getD (now (tasks .entry)) (number .0) 0 ⌝ }
 {
     let k = number.0;
     if k < Frame::MOST {
-        return TaskNo(task[k]);
+        return TaskNo(tasks[k]);
     }
     TaskNo(0)
 }
 
-fn deadline_of(deadline: &[u32; Frame::MOST], number: FrameNo) -> Ticks
-    requires { ⌜ length (now deadline) ≡ mostFrames ⌝ }
-    ensures { λ r. ⌜ r .0 ≡ getD (now (deadline .entry)) (number .0) 0 ⌝ }
+fn deadline_of(deadlines: &[u32; Frame::MOST], number: FrameNo) -> Ticks
+    requires { ⌜ length (now deadlines) ≡ mostFrames ⌝ }
+    ensures { λ r. ⌜ r .0 ≡ getD (now (deadlines .entry)) (number .0) 0 ⌝ }
 {
     let k = number.0;
     if k < Frame::MOST {
-        return Ticks(deadline[k]);
+        return Ticks(deadlines[k]);
     }
     Ticks(0)
 }
 
 // The stop of a frame of this task that starts here. A start within the cycle and a time within it add up without a carry.
-fn stop_of(time: &[u32; TaskNo::MOST], task: TaskNo, start: Ticks) -> Ticks
-    requires { ⌜ length (now time) ≡ mostTasks ⌝ }
-    ensures { λ r. ⌜ r .0 ≡ (start .0 + getD (now (time .entry)) (task .0) 0) % 4294967296 ⌝ }
+fn stop_of(times: &[u32; TaskNo::MOST], task: TaskNo, start: Ticks) -> Ticks
+    requires { ⌜ length (now times) ≡ mostTasks ⌝ }
+    ensures { λ r. ⌜ r .0 ≡ (start .0 + getD (now (times .entry)) (task .0) 0) % 4294967296 ⌝ }
 {
     let t = task.0 as usize;
     if t < TaskNo::MOST {
-        let stop = long(start.0) + long(time[t]);
+        let stop = long(start.0) + long(times[t]);
         return Ticks((stop % 4294967296) as u32);
     }
     start
 }
 
 pub fn table_rows<'a>(
-    task: &'a [u8; Frame::MOST],
-    deadline: &'a [u32; Frame::MOST],
-    time: &'a [u32; TaskNo::MOST],
-    number: &'a [u32; Frame::MOST],
-    start: &'a [u32; Frame::MOST],
+    tasks: &'a [u8; Frame::MOST],
+    deadlines: &'a [u32; Frame::MOST],
+    times: &'a [u32; TaskNo::MOST],
+    numbers: &'a [u32; Frame::MOST],
+    starts: &'a [u32; Frame::MOST],
     count: usize,
 ) -> TableRows
     requires { ⌜ count ≤ mostFrames ⌝ }
-    requires { ⌜ (length (now task) ≡ mostFrames) × (length (now deadline) ≡ mostFrames) × (length (now time) ≡ mostTasks) ⌝ }
-    ensures { λ r. ⌜ r ≡ tableRows (now (task .entry)) (now (deadline .entry)) (now (time .entry)) (now (number .entry)) (now (start .entry)) count ⌝ }
+    requires { ⌜ (length (now tasks) ≡ mostFrames) × (length (now deadlines) ≡ mostFrames) × (length (now times) ≡ mostTasks) ⌝ }
+    ensures { λ r. ⌜ r ≡ tableRows (now (tasks .entry)) (now (deadlines .entry)) (now (times .entry)) (now (numbers .entry)) (now (starts .entry)) count ⌝ }
 {
-    let mut tasks = [0u8; Frame::MOST];
-    let mut deadlines = [0u32; Frame::MOST];
-    let mut stops = [0u32; Frame::MOST];
+    let mut row_tasks = [0u8; Frame::MOST];
+    let mut row_deadlines = [0u32; Frame::MOST];
+    let mut row_stops = [0u32; Frame::MOST];
     let mut j = 0;
     while j < count {
-        let f = frame(number[j]);
-        let t = task_of(task, f);
-        tasks[j] = t.0;
-        deadlines[j] = deadline_of(deadline, f).0;
-        stops[j] = stop_of(time, t, Ticks(start[j])).0;
+        let f = frame(numbers[j]);
+        let t = task_of(tasks, f);
+        row_tasks[j] = t.0;
+        row_deadlines[j] = deadline_of(deadlines, f).0;
+        row_stops[j] = stop_of(times, t, Ticks(starts[j])).0;
         j += 1;
     }
     TableRows {
-        task: tasks,
-        deadline: deadlines,
-        stop: stops,
+        task: row_tasks,
+        deadline: row_deadlines,
+        stop: row_stops,
     }
 }

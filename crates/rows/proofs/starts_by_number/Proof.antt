@@ -22,7 +22,7 @@ loop-again c =
       search needs,
       search needs,
       c1 .before .loop .inv .2 ∙ rw (c .before .before .frame .ensures)
-          (scatter-on (a .number .now) (a .start .now) _ _ (c1 .loop-test .taken)),
+          (scatter-on (a .numbers .now) (a .starts .now) _ _ (c1 .loop-test .taken)),
     )
 
 loop-again-2 : tie.Need-loop-again-2 Inv-loop μ-loop
@@ -31,14 +31,14 @@ loop-again-2 c =
     let a = c1 .before .before .args in (
       search needs,
       search needs,
-      c1 .before .loop .inv .2 ∙ scatter-past (a .number .now) (a .start .now) _ _ _ (c1 .loop-test .taken)
+      c1 .before .loop .inv .2 ∙ scatter-past (a .numbers .now) (a .starts .now) _ _ _ (c1 .loop-test .taken)
           (c1 .before .loop .inv .1) (c .before .frame .ensures) (c .if1 .left),
     )
 
 returns : tie.Need-returns Inv-loop μ-loop
 returns c =
     let a = c .before .before .args in
-    scatter-end (a .number .now) (a .start .now) _ _ (c .loop-test .left) ∙ sym (c .before .loop .inv .2)
+    scatter-end (a .numbers .now) (a .starts .now) _ _ (c .loop-test .left) ∙ sym (c .before .loop .inv .2)
 
 pub starts-by-number-spec : {M : Type 1} → statement M
 starts-by-number-spec =

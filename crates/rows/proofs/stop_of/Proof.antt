@@ -6,7 +6,7 @@ use Rattle.rows.proofs.stop_of.Statement.{statement}
 use Rattle.rows.proofs.stop_of.Tie as tie
 
 returns-2 : tie.Need-returns-2
-returns-2 c = stop-past (c .before .before .args .time .now) _ _ 0 (c .before .before .pre) (c .if1 .left) (omega (arith, c .before .before .good))
+returns-2 c = stop-past (c .before .before .args .times .now) _ _ 0 (c .before .before .pre) (c .if1 .left) (omega (arith, c .before .before .good))
 
 pub stop-of-spec : {M : Type 1} → statement M
 stop-of-spec =

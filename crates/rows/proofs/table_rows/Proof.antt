@@ -22,11 +22,11 @@ abbrev μ-loop : tie.MeasureT-loop
 loop-holds : tie.Need-loop-holds Inv-loop μ-loop
 loop-holds c = (
   search needs,
-  stores-none _ (taskAt (c .args .task .now) (c .args .number .now)),
+  stores-none _ (taskAt (c .args .tasks .now) (c .args .numbers .now)),
   stores-none _
-      (taskAt (c .args .deadline .now) (c .args .number .now)),
+      (taskAt (c .args .deadlines .now) (c .args .numbers .now)),
   stores-none _
-      (stopAt (c .args .task .now) (c .args .time .now) (c .args .number .now) (c .args .start .now)),
+      (stopAt (c .args .tasks .now) (c .args .times .now) (c .args .numbers .now) (c .args .starts .now)),
 )
 
 loop-again : tie.Need-loop-again Inv-loop μ-loop
@@ -36,11 +36,11 @@ loop-again c =
     let c2 = c1 .before .before .before .before in
     let a = c2 .before .args in (
       search needs,
-      stores-turn _ (taskAt (a .task .now) (a .number .now)) _ (c2 .loop .inv .1) (rw (c1 .before .frame .ensures) at (c1 .task-of .ensures)),
+      stores-turn _ (taskAt (a .tasks .now) (a .numbers .now)) _ (c2 .loop .inv .1) (rw (c1 .before .frame .ensures) at (c1 .task-of .ensures)),
       stores-turn
-          _ (taskAt (a .deadline .now) (a .number .now)) _ (c2 .loop .inv .2) (rw (c1 .before .frame .ensures) at (c .before .before .deadline-of .ensures)),
+          _ (taskAt (a .deadlines .now) (a .numbers .now)) _ (c2 .loop .inv .2) (rw (c1 .before .frame .ensures) at (c .before .before .deadline-of .ensures)),
       stores-turn
-          _ (stopAt (a .task .now) (a .time .now) (a .number .now) (a .start .now)) _ (c2 .loop .inv .3)
+          _ (stopAt (a .tasks .now) (a .times .now) (a .numbers .now) (a .starts .now)) _ (c2 .loop .inv .3)
           (rw (c .stop-of .ensures, c1 .task-of .ensures, c1 .before .frame .ensures)),
     )
 
