@@ -5,6 +5,7 @@ use Prim.Native.Nat.{ℕ}
 use Rattle.laws.specs.Res.{Res, ok, refuse}
 use Rattle.laws.specs.Lists.{tab}
 use Rattle.laws.specs.Loops.{padTo}
+use Rattle.rules.specs.Limits.{mostFrames, mostNodes, mostTasks}
 use Rattle.rules.specs.Frames.{Frame, Layout, gapTime}
 use Rattle.control.specs.Control.{nodeOf, startOf, stopOf, column}
 use Rattle.payloads.specs.Tests.{taskTime}
@@ -27,15 +28,15 @@ lineOf l =
       resolution = record { 0 = l .plan .bus .resolution };
       gap = record { 0 = gapTime (l .plan .bus) };
       floor = record { 0 = l .afterControl };
-      time = tab (taskTime (l .plan)) 0 32;
+      time = tab (taskTime (l .plan)) 0 mostTasks;
       controls = length (l .control);
       nodes = column nodeOf (l .control);
       starts = column startOf (l .control);
       stops = column stopOf (l .control);
       frames = length (l .frames);
-      task = padTo 256 0 (map taskOf (l .frames));
-      release = padTo 256 0 (map releaseOf (l .frames));
-      deadline = padTo 256 0 (map deadlineOf (l .frames));
+      task = padTo mostFrames 0 (map taskOf (l .frames));
+      release = padTo mostFrames 0 (map releaseOf (l .frames));
+      deadline = padTo mostFrames 0 (map deadlineOf (l .frames));
     }
 
 -- the line of no plan
@@ -46,15 +47,15 @@ noLine =
       resolution = record { 0 = 0 };
       gap = record { 0 = 0 };
       floor = record { 0 = 0 };
-      time = replicate 32 0;
+      time = replicate mostTasks 0;
       controls = 0;
-      nodes = replicate 8 0;
-      starts = replicate 8 0;
-      stops = replicate 8 0;
+      nodes = replicate mostNodes 0;
+      starts = replicate mostNodes 0;
+      stops = replicate mostNodes 0;
       frames = 0;
-      task = replicate 256 0;
-      release = replicate 256 0;
-      deadline = replicate 256 0;
+      task = replicate mostFrames 0;
+      release = replicate mostFrames 0;
+      deadline = replicate mostFrames 0;
     }
 
 -- what `lay_out` leaves of the line: that of the layout, or none where the plan is refused

@@ -3,6 +3,7 @@ ghost use mathlib.Core.Path.{_≡_};
 ghost use mathlib.Core.Bool.{true};
 ghost use lib.ListN.{length};
 ghost use Prim.Native.Nat.{_≤_, _<_, _^_};
+ghost use Rattle.rules.specs.Limits.{longestTime, mostFrames};
 ghost use Rattle.rules.proofs.PlanKept.{PlanKept};
 ghost use Rattle.plan.specs.Memory.{seen};
 ghost use Rattle.rules.specs.Frames.{someBusTask, busPeriod, switchGrid, busRuns, controlEnd, controlRows, layout, layoutOf};
@@ -36,6 +37,8 @@ use plan::look::task_count;
 use times::Span;
 use times::gap_time;
 use units::Frame;
+use units::NodeNo;
+use units::TaskNo;
 use units::Ticks;
 
 // `floor` is C; `time` is by task; `nodes`, `starts` and `stops` are the control rows, `controls` of them; `task`, `release` and
@@ -45,15 +48,15 @@ pub struct Line {
     pub resolution: Ticks,
     pub gap: Ticks,
     pub floor: Ticks,
-    pub time: [u32; 32],
+    pub time: [u32; TaskNo::MOST],
     pub controls: usize,
-    pub nodes: [u8; 8],
-    pub starts: [u32; 8],
-    pub stops: [u32; 8],
+    pub nodes: [u8; NodeNo::MOST],
+    pub starts: [u32; NodeNo::MOST],
+    pub stops: [u32; NodeNo::MOST],
     pub frames: usize,
-    pub task: [u8; 256],
-    pub release: [u32; 256],
-    pub deadline: [u32; 256],
+    pub task: [u8; Frame::MOST],
+    pub release: [u32; Frame::MOST],
+    pub deadline: [u32; Frame::MOST],
 }
 
 impl Line {
@@ -65,15 +68,15 @@ impl Line {
             resolution: Ticks(0),
             gap: Ticks(0),
             floor: Ticks(0),
-            time: [0; 32],
+            time: [0; TaskNo::MOST],
             controls: 0,
-            nodes: [0; 8],
-            starts: [0; 8],
-            stops: [0; 8],
+            nodes: [0; NodeNo::MOST],
+            starts: [0; NodeNo::MOST],
+            stops: [0; NodeNo::MOST],
             frames: 0,
-            task: [0; 256],
-            release: [0; 256],
-            deadline: [0; 256],
+            task: [0; Frame::MOST],
+            release: [0; Frame::MOST],
+            deadline: [0; Frame::MOST],
         }
     }
 }
@@ -96,21 +99,22 @@ fn refused(why: Refusal) -> Laid
 // The line of a plan that passed refusals 1 to 11.
 fn line_of<'a>(
     p: Plan,
-    period: u32,
+    period: Ticks,
     end: Span,
     control: Control,
     count: usize,
-    tasks: &'a [u8; 256],
-    releases: &'a [u32; 256],
-    deadlines: &'a [u32; 256],
+    tasks: &'a [u8; Frame::MOST],
+    releases: &'a [u32; Frame::MOST],
+    deadlines: &'a [u32; Frame::MOST],
 ) -> Line
     requires { ⌜ PlanKept (seen p) ⌝ }
-    requires { ⌜ (period ≡ busPeriod (seen p)) × (end .0 ≡ controlEnd (seen p)) × (end .0 < 2 ^ 32) ⌝ }
+    requires { ⌜ (period .0 ≡ busPeriod (seen p)) × (end .0 ≡ controlEnd (seen p)) × (end .0 < 2 ^ 32) ⌝ }
     requires { ⌜ control ≡ controlLaid (controlRows (seen p)) ⌝ }
-    requires { ⌜ (framesLaid (rules.frames (seen p)) ≡ record { count = count; tasks = now tasks; releases = now releases; deadlines = now deadlines }) × (length (rules.frames (seen p)) ≤ 256) ⌝ }
+    requires { ⌜ (framesLaid (rules.frames (seen p)) ≡ record { count = count; tasks = now tasks; releases = now releases; deadlines = now deadlines }) × (length (rules.frames (seen p)) ≤ mostFrames) ⌝ }
     ensures { λ r. ⌜ r ≡ lineOf (layoutOf (seen p)) ⌝ }
 {
     let bus = p.bus;
+    let resolution = bus.resolution;
     let gap = gap_time(bus).0 as u32;
     let time = message_times(p);
     let nodes = control.nodes;
@@ -120,8 +124,8 @@ fn line_of<'a>(
     let release = *releases;
     let deadline = *deadlines;
     Line {
-        period: Ticks(period),
-        resolution: Ticks(bus.resolution.0),
+        period,
+        resolution,
         gap: Ticks(gap),
         floor: Ticks(end.0 as u32),
         time: time,
@@ -140,16 +144,16 @@ fn line_of<'a>(
 fn closed<'a>(
     p: Plan,
     senders: Senders,
-    period: u32,
+    period: Ticks,
     count: usize,
-    task: &'a [u8; 256],
-    release: &'a [u32; 256],
-    deadline: &'a [u32; 256],
+    task: &'a [u8; Frame::MOST],
+    release: &'a [u32; Frame::MOST],
+    deadline: &'a [u32; Frame::MOST],
 ) -> Laid
     requires { ⌜ PlanKept (seen p) ⌝ }
     requires { ⌜ senders ≡ sendersOf (seen p) ⌝ }
-    requires { ⌜ (period ≡ busPeriod (seen p)) × (period ≤ 1000000) ⌝ }
-    requires { ⌜ (framesLaid (rules.frames (seen p)) ≡ record { count = count; tasks = now task; releases = now release; deadlines = now deadline }) × (length (rules.frames (seen p)) ≤ 256) ⌝ }
+    requires { ⌜ (period .0 ≡ busPeriod (seen p)) × (period .0 ≤ longestTime) ⌝ }
+    requires { ⌜ (framesLaid (rules.frames (seen p)) ≡ record { count = count; tasks = now task; releases = now release; deadlines = now deadline }) × (length (rules.frames (seen p)) ≤ mostFrames) ⌝ }
     requires { ⌜ layout (seen p) ≡ closing (seen p) ⌝ }
     ensures { λ r. ⌜ Lays r (layout (seen p)) ⌝ }
 {
@@ -158,11 +162,12 @@ fn closed<'a>(
     if !messages_fit(p, tasks) {
         return refused(Refusal::PayloadTooLarge);
     }
-    if !controls_fit(payloads, p.counts[2], p.bus.most.0) {
+    let bus = p.bus;
+    if !controls_fit(payloads, p.counts[2], bus.most) {
         return refused(Refusal::PayloadTooLarge);
     }
     let end = control_end(p, payloads);
-    if (period as u64) < end.0 {
+    if (period.0 as u64) < end.0 {
         return refused(Refusal::ControlTooLong);
     }
     let control = control_rows(p, payloads);
@@ -174,14 +179,14 @@ fn closed<'a>(
 }
 
 // Refusals 9 to 11 of a plan to which 6 to 8 do not apply, and its line.
-fn framed(p: Plan, senders: Senders, runs: Runs, period: u32) -> Laid
+fn framed(p: Plan, senders: Senders, runs: Runs, period: Ticks) -> Laid
     requires { ⌜ PlanKept (seen p) ⌝ }
     requires { ⌜ (someBusTask (seen p) ≡ true) × (busPeriod (seen p) ∣ switchGrid (seen p)) ⌝ }
-    requires { ⌜ (senders ≡ sendersOf (seen p)) × (runs ≡ runsLaid (busRuns (seen p))) × (period ≡ busPeriod (seen p)) ⌝ }
+    requires { ⌜ (senders ≡ sendersOf (seen p)) × (runs ≡ runsLaid (busRuns (seen p))) × (period .0 ≡ busPeriod (seen p)) ⌝ }
     requires { ⌜ layout (seen p) ≡ framing (seen p) ⌝ }
     ensures { λ r. ⌜ Lays r (layout (seen p)) ⌝ }
 {
-    let frames = Frames::of(runs, Ticks(period));
+    let frames = Frames::of(runs, period);
     if Frame::MOST < frames.count {
         return refused(Refusal::TooManyFrames);
     }
@@ -213,7 +218,7 @@ fn cycled(p: Plan) -> Laid
         return refused(Refusal::PeriodDoesNotDivide);
     }
     let period = bus_period(runs, grid);
-    if !divides(p.bus.resolution.0, period) {
+    if !divides(p.bus.resolution.0, period.0) {
         return refused(Refusal::PeriodOffResolution);
     }
     framed(p, senders, runs, period)

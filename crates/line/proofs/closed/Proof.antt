@@ -26,83 +26,85 @@ returns c =
 
 controls-fit-requires : tie.Need-controls-fit-requires
 unfolding seen sendersOf countSeen busSeen
-controls-fit-requires c κs = (omega (arith, c .before .before .before .before .before .pre .0 .nodeCount .most))
+controls-fit-requires c κs =
+    let c1 = c .before .before .before .before .before .before in
+    (omega (arith, c1 .pre .0 .nodeCount .most))
 
 returns-2 : tie.Need-returns-2
 unfolding seen sendersOf countSeen busSeen
 returns-2 c =
-    let c1 = c .before .before .before .before in
-    let start = c1 .before .before .before .before in
+    let c1 = c .before .before .before .before .before in
+    let c2 = c1 .before .before .before .before in
     lays-refused PayloadTooLarge _ _ (c .refused2 .ensures)
-    (ten-control (seen (start .args .t1)) _ _ (omega (arith, start .pre .0 .taskCount .most))
-    (omega (arith, start .pre .0 .nodeCount .most)) (ap (λ (x : Senders). x .tasks) (start .pre .1 .0))
-    (ap (λ (x : Senders). x .payloads) (start .pre .1 .0)) (start .pre .1 .1 .1 .1)
+    (ten-control (seen (c2 .args .t1)) _ _ (omega (arith, c2 .pre .0 .taskCount .most))
+    (omega (arith, c2 .pre .0 .nodeCount .most)) (ap (λ (x : Senders). x .tasks) (c2 .pre .1 .0))
+    (ap (λ (x : Senders). x .payloads) (c2 .pre .1 .0)) (c2 .pre .1 .1 .1 .1)
     (sym (c1 .before .messages-fit .ensures) ∙ not-false _ (c1 .if1 .left))
     (sym (c .before .before .controls-fit .ensures) ∙ not-true _ (c .before .if2 .taken)))
 
 control-end-requires : tie.Need-control-end-requires
 unfolding seen sendersOf countSeen busSeen
 control-end-requires c κs =
-    let start = c .before .before .before .before .before .before .before in
-    (start .pre .0 .nodeCount .most, (ap (λ (x : Senders). x .payloads) (start .pre .1 .0)))
+    let c1 = c .before .before .before .before .before .before .before .before in
+    (c1 .pre .0 .nodeCount .most, (ap (λ (x : Senders). x .payloads) (c1 .pre .1 .0)))
 
 returns-3 : tie.Need-returns-3
 unfolding seen sendersOf countSeen busSeen
 returns-3 c =
-    let c1 = c .before .before .before in
-    let c2 = c1 .before .before .before .before in
-    let start = c2 .before .before .before .before in
+    let c1 = c .before .before .before .before in
+    let c2 = c1 .before .before .before .before .before in
+    let c3 = c2 .before .before .before .before in
     lays-refused ControlTooLong _ _ (c .refused3 .ensures)
-    (eleven (seen (start .args .t1)) _ _ (omega (arith, start .pre .0 .taskCount .most))
-    (omega (arith, start .pre .0 .nodeCount .most)) (ap (λ (x : Senders). x .tasks) (start .pre .1 .0))
-    (ap (λ (x : Senders). x .payloads) (start .pre .1 .0)) (start .pre .1 .1 .1 .1)
+    (eleven (seen (c3 .args .t1)) _ _ (omega (arith, c3 .pre .0 .taskCount .most))
+    (omega (arith, c3 .pre .0 .nodeCount .most)) (ap (λ (x : Senders). x .tasks) (c3 .pre .1 .0))
+    (ap (λ (x : Senders). x .payloads) (c3 .pre .1 .0)) (c3 .pre .1 .1 .1 .1)
     (sym (c2 .before .messages-fit .ensures) ∙ not-false _ (c2 .if1 .left))
     (sym (c1 .before .before .controls-fit .ensures) ∙ not-false _ (c1 .before .if2 .left))
-    (omega (arith, c .before .if3 .taken, c1 .control-end .ensures, start .pre .1 .1 .0 .0)))
+    (omega (arith, c .before .if3 .taken, c1 .control-end .ensures, c3 .pre .1 .1 .0 .0)))
 
 control-rows-requires : tie.Need-control-rows-requires
 unfolding seen sendersOf countSeen busSeen
 control-rows-requires c κs =
-    let start = c .before .before .before .before .before .before .before .before .before .before in (
-      start .pre .0 .nodeCount .most,
+    let c1 = c .before .before .before in
+    let c2 = c1 .before .before .before .before .before .before .before .before .before in (
+      c2 .pre .0 .nodeCount .most,
       (
-        (ap (λ (x : Senders). x .payloads) (start .pre .1 .0)),
-        omega (arith, c .if3 .left, c .before .before .control-end .ensures, start .pre .1 .1 .0 .1),
+        (ap (λ (x : Senders). x .payloads) (c2 .pre .1 .0)),
+        omega (arith, c .if3 .left, c1 .control-end .ensures, c2 .pre .1 .1 .0 .1),
       ),
     )
 
 line-of-requires : tie.Need-line-of-requires
 unfolding seen sendersOf countSeen busSeen
 line-of-requires c κs =
-    let c1 = c .before .before .before in
-    let start = c1 .before .before .before .before .before .before .before .before in (
-      start .pre .0,
+    let c1 = c .before .before .before .before in
+    let c2 = c1 .before .before .before .before .before .before .before .before .before in (
+      c2 .pre .0,
       (
         (
-          start .pre .1 .1 .0 .0,
+          c2 .pre .1 .1 .0 .0,
           c1 .control-end .ensures,
-          omega (arith, c .before .if3 .left, start .pre .1 .1 .0 .1),
+          omega (arith, c .before .if3 .left, c2 .pre .1 .1 .0 .1),
         ),
-        (c .control-rows .ensures, start .pre .1 .1 .1 .0),
+        (c .control-rows .ensures, c2 .pre .1 .1 .1 .0),
       ),
     )
 
 returns-4 : tie.Need-returns-4
 unfolding seen sendersOf countSeen busSeen
 returns-4 c =
-    let c1 = c .before .before .before .before in
-    let c2 = c1 .before .before .before .before in
-    let start = c2 .before .before .before .before in
-    let a = start .args in
+    let c1 = c .before .before .before .before .before in
+    let c2 = c1 .before .before .before .before .before in
+    let c3 = c2 .before .before .before .before in
+    let a = c3 .args in
     lays-sound (layoutOf (seen (a .t1))) _ _ (ap (λ (x : Line). record { answer = Fine; line = x }) (c .line-of .ensures))
-    (sound (seen (a .t1)) _ _ (omega (arith, start .pre .0 .taskCount .most)) (omega (arith, start .pre .0 .nodeCount .most))
-    (ap (λ (x : Senders). x .tasks) (start .pre .1 .0)) (ap (λ (x : Senders). x .payloads) (start .pre .1 .0))
-    (start .pre .1 .1 .1 .1) (sym (c2 .before .messages-fit .ensures) ∙ not-false _ (c2 .if1 .left))
+    (sound (seen (a .t1)) _ _ (omega (arith, c3 .pre .0 .taskCount .most)) (omega (arith, c3 .pre .0 .nodeCount .most))
+    (ap (λ (x : Senders). x .tasks) (c3 .pre .1 .0)) (ap (λ (x : Senders). x .payloads) (c3 .pre .1 .0))
+    (c3 .pre .1 .1 .1 .1) (sym (c2 .before .messages-fit .ensures) ∙ not-false _ (c2 .if1 .left))
     (sym (c1 .before .before .controls-fit .ensures) ∙ not-false _ (c1 .before .if2 .left))
-    (omega (arith, c .before .before .if3 .left, c1 .control-end .ensures, start .pre .1 .1 .0 .0)))
+    (omega (arith, c .before .before .if3 .left, c1 .control-end .ensures, c3 .pre .1 .1 .0 .0)))
 
 pub closed-spec : {M : Type 1} → statement M
 closed-spec =
     tie.close
-    (tie.spec (λ c κs. search needs) (λ c κs. search needs) returns (λ c. search needs) controls-fit-requires (λ c κs. search needs)
-    returns-2 control-end-requires (λ c κs. search needs) returns-3 control-rows-requires line-of-requires returns-4)
+    (tie.spec (λ c κs. search needs) (λ c κs. search needs) returns (λ c. search needs) controls-fit-requires (λ c κs. search needs) returns-2 control-end-requires (λ c. search needs) (λ c κs. search needs) returns-3 control-rows-requires line-of-requires returns-4)

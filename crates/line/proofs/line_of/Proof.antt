@@ -10,19 +10,17 @@ use Rattle.line.proofs.line_of.Tie as tie
 cast-gap : tie.Need-cast-gap
 unfolding seen
 cast-gap c =
-    let s = c .before .before .before in
-    record { fits = rw (c .before .gap-time .ensures .0) (gap-small (seen (s .args .p) .bus) (s .pre .0 .bus)) }
+    let c1 = c .before .before .before .before in
+    record { fits = rw (c .before .gap-time .ensures .0) (gap-small (seen (c1 .args .p) .bus) (c1 .pre .0 .bus)) }
 
 returns : tie.Need-returns
 unfolding seen busSeen
 returns c =
     let c1 = c .before .before .before .before .before .before .before in
-    let b = c1 in
-    let g = b .before .before in
-    let s = g .before .before in
-    line-is (seen (s .args .p)) (s .pre .1 .0 .0) (g .gap-time .ensures .0) (s .pre .1 .0 .1) (b .message-times .ensures)
-    (s .pre .1 .1 .0)
-    (sym (s .pre .1 .1 .1 .0)) (s .pre .1 .1 .1 .1)
+    let c2 = c1 .before .before .before .before .before in
+    line-is (seen (c2 .args .p)) (c2 .pre .1 .0 .0) (c1 .before .before .gap-time .ensures .0) (c2 .pre .1 .0 .1) (c1 .message-times .ensures)
+    (c2 .pre .1 .1 .0)
+    (sym (c2 .pre .1 .1 .1 .0)) (c2 .pre .1 .1 .1 .1)
 
 pub line-of-spec : {M : Type 1} → statement M
 line-of-spec = tie.close (tie.spec (λ c κs. search needs) cast-gap (λ c κs. search needs) (λ c. search needs) returns)
