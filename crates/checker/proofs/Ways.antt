@@ -40,7 +40,7 @@ use Rattle.answers.specs.declared.Verdict.{Verdict}
 use Rattle.answers.specs.declared.Verdict.the-variants.{Fine, Refused}
 use Rattle.checked.specs.declared.Checked.{Checked}
 use Rattle.checker.specs.Unscanned.{Judged, refuses, Settles}
-use Rattle.checker.specs.declared.Settled.{Settled}
+use Rattle.checker.specs.declared.Ruling.{Ruling}
 use Rattle.checked.specs.Checking.{Checks, verdict, lentPassed, rowsOn, PassesExactly, RefusesExactly}
 use Rattle.checked.proofs.Rules.{enough-is, short-is}
 use Rattle.checked.proofs.Exact.{passes-exactly, refuses-exactly}
@@ -209,7 +209,7 @@ module _ (plan table : List ℕ) (lent : ℕ) (early : Bool) (r : Checked) where
 
 -- ---- after the scan
 
-module _ (before : Verdict) (rule : Res rules.Passed) (r : Settled) where
+module _ (before : Verdict) (rule : Res rules.Passed) (r : Ruling) where
   pub settles-whole : (lent : ℕ) (all : Checked) → Judged true lent all rule → (r .answer ≡ all .answer) × (r .refused ≡ refuses (all .answer)) → Settles true before rule r
   settles-whole lent all h e = record { whole = λ _. rw (e .0) (h .answered (inl refl)); kept = λ q. true-false q; refused = e .1 ∙ ap refuses (sym (e .0)) }
 

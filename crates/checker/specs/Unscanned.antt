@@ -14,7 +14,7 @@ use Rattle.rows.specs.declared.Rows.{Rows}
 use Rattle.rows.specs.Rows.{rowsLaid}
 use Rattle.checked.specs.declared.Checked.{Checked}
 use Rattle.checked.specs.Checking.{verdict, rowsOf}
-use Rattle.checker.specs.declared.Settled.{Settled}
+use Rattle.checker.specs.declared.Ruling.{Ruling}
 
 -- no frame row starts before its release
 abbrev pub NoRowEarly : Rows → Type 0
@@ -31,7 +31,7 @@ refuses Fine = false
 refuses (Refused x) = true
 
 -- Where a row was early the answer is that of the rules, else the one before; and whether it refuses.
-pub record Settles (early : Bool) (before : Verdict) (rule : Res Passed) (r : Settled) : Type 0 where
+pub record Settles (early : Bool) (before : Verdict) (rule : Res Passed) (r : Ruling) : Type 0 where
   pub whole : early ≡ true → heard (r .answer) ≡ verdict rule
   pub kept : early ≡ false → r .answer ≡ before
   pub refused : r .refused ≡ refuses (r .answer)

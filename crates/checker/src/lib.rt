@@ -34,9 +34,10 @@ pub fn judged(plan: &[u8], table: &[u8], lent: usize, early_too: bool) -> Checke
     }
     let line = laid.line;
     let judgement = judge(reading.table, line, early_too);
+    let verdict = judgement.verdict;
     let starts = judgement.starts;
     Checked {
-        answer: judgement.verdict,
+        answer: verdict,
         rows: rows_on(line, starts),
     }
 }
@@ -56,29 +57,30 @@ pub fn check(plan: &[u8], table: &[u8], lent: usize) -> Checked
 }
 
 // An answer, and whether it refuses.
-pub struct Settled {
+pub struct Ruling {
     pub answer: Verdict,
     pub refused: bool,
 }
 
-fn settled_by(answer: Verdict) -> Settled
+fn settled_by(answer: Verdict) -> Ruling
     ensures { λ r. ⌜ (r .answer ≡ answer) × (r .refused ≡ refuses answer) ⌝ }
 {
     let refused = match answer {
         Verdict::Refused(_) => true,
         Verdict::Fine => false,
     };
-    Settled { answer, refused }
+    Ruling { answer, refused }
 }
 
 // The answer of a check whose lent rows were scanned for rule 25: where one was early, all rules are looked at once more for the lowest
 // record at fault; else the answer without rule 25 stands.
-pub fn settled(plan: &[u8], table: &[u8], lent: usize, answer: Verdict, early: bool) -> Settled
+pub fn settled(plan: &[u8], table: &[u8], lent: usize, answer: Verdict, early: bool) -> Ruling
     ensures { λ r. ⌜ Settles early answer (lentPassed (now (plan .entry)) (now (table .entry)) lent) r ⌝ }
 {
     if early {
         let all = judged(plan, table, lent, true);
-        return settled_by(all.answer);
+        let whole = all.answer;
+        return settled_by(whole);
     }
     settled_by(answer)
 }

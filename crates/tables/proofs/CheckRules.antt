@@ -26,7 +26,7 @@ use Rattle.answers.specs.Refusals.{heard}
 use Rattle.checked.specs.declared.Checked.{Checked}
 use Rattle.checked.specs.Checking.{verdict, rowsOf, lentPassed}
 use Rattle.checked.proofs.Rules.{enough-is, short-is, check-answer, check-rows, check-rows-short}
-use Rattle.checker.specs.declared.Settled.{Settled}
+use Rattle.checker.specs.declared.Ruling.{Ruling}
 use Rattle.checker.specs.Unscanned.{Judged, refuses, Settles}
 use Rattle.tables.specs.Lent.{ChecksLent}
 use Rattle.tables.proofs.FewFrames.{few-laid}
@@ -56,7 +56,7 @@ few-checked plan table lent = by-lent (le-or-lt 256 lent)
 -- ---- the passes
 
 -- The rows ys were filled (ws), scanned for rule 25 (vs) and cleared where the answer refuses (zs).
-pub record Passes (plan table : List ℕ) (ys : List Frame) (n : Settled) (zs : List Frame) : Type 0 where
+pub record Passes (plan table : List ℕ) (ys : List Frame) (n : Ruling) (zs : List Frame) : Type 0 where
   pub m : Checked
   pub ws : List Frame
   pub vs : List Frame
@@ -67,7 +67,7 @@ pub record Passes (plan table : List ℕ) (ys : List Frame) (n : Settled) (zs : 
   pub settled : Settles early (m .answer) (lentPassed plan table (length ys)) n
   pub cleared : zs ≡ rowsAfter clearedRow (n .refused) vs
 
-module _ (plan table : List ℕ) (ys : List Frame) (n : Settled) (zs : List Frame) (h : Passes plan table ys n zs) where
+module _ (plan table : List ℕ) (ys : List Frame) (n : Ruling) (zs : List Frame) (h : Passes plan table ys n zs) where
   -- rule 25 was decided by the scan
   answer-is : heard (n .answer) ≡ verdict (lentPassed plan table (length ys))
   answer-is = by-scan (h .early) refl

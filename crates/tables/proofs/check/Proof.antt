@@ -70,10 +70,10 @@ use Rattle.checked.specs.declared.Checked.{Checked}
 use Rattle.checked.specs.Checking.{lentPassed}
 use Rattle.checked.proofs.Checked as K
 use Rattle.checked.proofs.Checked.Laws as K′
-use Rattle.checker.specs.declared.Settled.{Settled}
+use Rattle.checker.specs.declared.Ruling.{Ruling}
 use Rattle.checker.specs.Unscanned.{Judged, Settles}
-use Rattle.checker.proofs.Settled as Z
-use Rattle.checker.proofs.Settled.Laws as Z′
+use Rattle.checker.proofs.Ruling as Z
+use Rattle.checker.proofs.Ruling.Laws as Z′
 use Rattle.checker.proofs.judged as judged
 use Rattle.checker.proofs.judged.Symbol as judged-def
 use Rattle.checker.proofs.judged.Symbol.{name as #judged}
@@ -120,7 +120,7 @@ module _ {M : Type 1} (𝓤 : URA M) (H : Heap 𝓤) (A : Atoms 𝓤) (W : Given
   typedK : (m : Checked) {v : Val} → Is K.the-row m (v ∷ []) → Holds (hasTy K′.mir v) × WT v
   typedK m is = LL.lawful K.the-type K′.the-laws 𝓤 H A W .typed m _ is .0
 
-  typedZ : (m : Settled) {v : Val} → Is Z.the-row m (v ∷ []) → Holds (hasTy Z′.mir v) × WT v
+  typedZ : (m : Ruling) {v : Val} → Is Z.the-row m (v ∷ []) → Holds (hasTy Z′.mir v) × WT v
   typedZ m is = LL.lawful Z.the-type Z′.the-laws 𝓤 H A W .typed m _ is .0
 
   typedB : (a : Verdict) {v : Val} → Is B.the-row a (v ∷ []) → Holds (hasTy B′.mir v) × WT v
@@ -204,16 +204,16 @@ module _ {M : Type 1} (𝓤 : URA M) (H : Heap 𝓤) (A : Atoms 𝓤) (W : Given
           owned ! B.the-row (Is B.the-row) (EL.makes B.the-type B′.the-plain 𝓤 H A) (m .answer) _ ga $ fjoin ! $ owned ! usize (Is usize) (uint-makes 𝓤 H A W w64) (length ys) _ (refl, gr .0) $ fjoin ! $
           move ! (2 ∷ 0 ∷ []) $ fjoin ! $ move ! (1 ∷ 0 ∷ []) $ fjoin ! $ move ! (1 ∷ 0 ∷ []) $ join ! $ frame ! $ done !
 
-      abbrev SettledSays : Settled → Type 0
+      abbrev SettledSays : Ruling → Type 0
       SettledSays n = Settles early (m .answer) (lentPassed (plan .now) (table .now) (length ys)) n
 
-      said-settled : (n : Settled) → ent 𝓤 (ensured 𝓤 H A settled.ended (settled.clauses 𝓤 H A mem run) (κ₀, (κ₁, tt)) given-settled tt n) (fact 𝓤 (SettledSays n))
+      said-settled : (n : Ruling) → ent 𝓤 (ensured 𝓤 H A settled.ended (settled.clauses 𝓤 H A mem run) (κ₀, (κ₁, tt)) given-settled tt n) (fact 𝓤 (SettledSays n))
       said-settled n = exE 𝓤 _ (λ ws. snd∗ 𝓤 (sem 𝓤 H A (lasts settled.ended (κ₀, (κ₁, tt)) given-settled ws)) (fact 𝓤 (SettledSays n)))
 
     abbrev Had : List Frame → List (Item 𝓤)
     Had zs = ‵ (fobs γ (codedHoleys F.the-row .code (heres F.the-row zs))) ∷ ‵ (fbor κ₂ (Held F.the-row (length zs) b o γ)) ∷ ‵ (flft κ₂ q₂) ∷ Tokens ∷ []
 
-    exits : (n : Settled) (v : Val) (zs : List Frame) → Is B.the-row (n .answer) (v ∷ []) → length zs ≡ length ys → Passes (plan .now) (table .now) ys n zs → ent 𝓤 (⋆ 𝓤 H A (Had zs)) (Post v)
+    exits : (n : Ruling) (v : Val) (zs : List Frame) → Is B.the-row (n .answer) (v ∷ []) → length zs ≡ length ys → Passes (plan .now) (table .now) ys n zs → ent 𝓤 (⋆ 𝓤 H A (Had zs)) (Post v)
     exits n v zs is same e =
         qed W (Had zs) ∵
         suffices ! _ (ends-at 𝓤 H A check.ended stayed (check.clauses 𝓤 H A mem run) W ((κs, qs, tt, x, at), tt) v (n .answer) (tt, (tt, (zs, tt))) (tt, (tt, (same, tt)))) $ says ! (checks-lent (plan .now) (table .now) ys n zs e) $
@@ -251,7 +251,7 @@ module _ {M : Type 1} (𝓤 : URA M) (H : Heap 𝓤) (A : Atoms 𝓤) (W : Given
         assigns ! (of-opd ! (load ! (from ! (fld ! refl (stop !))) (look-in ! 30 (sub ! 1 refl (whole !))))) (from ! (stop !)) (store ! 22 refl (tt, record { fits = gr .0 })) $
         move ! (4 ∷ 5 ∷ []) $ use2 W (raw (Settle .pre (to-settled m (EL.val B.the-type B′.the-laws (m .answer)) (LL.owed K.the-type K′.the-laws m _ is .0) early))) (goes-settled m (EL.val B.the-type B′.the-laws (m .answer)) (LL.owed K.the-type K′.the-laws m _ is .0) early) $
         calls-at ! fm Settle known-settled (to-settled m (EL.val B.the-type B′.the-laws (m .answer)) (LL.owed K.the-type K′.the-laws m _ is .0) early) (and-then ! (load ! (from ! (stop !)) (look ! 33 refl)) (and-then ! (load ! (from ! (stop !)) (look ! 31 refl)) (and-then ! (load ! (from ! (stop !)) (look ! 21 refl)) (and-then ! (load ! (from ! (fld ! refl (stop !))) (look-in ! 27 (sub ! 0 refl (whole !)))) (and-then ! (load ! (from ! (stop !)) (look ! 25 refl)) (no-more !)))))) (λ u.
-        use1 W (later (some (λ (n : Settled). (Tokens ⊛ ‵ (Z.the-row .own n (u ∷ []))) ⊛ raw (ensured 𝓤 H A settled.ended (settled.clauses 𝓤 H A mem run) (κ₀, (κ₁, tt)) (plan, (table, (length ys, (m .answer, (early, tt))))) tt n)))) (id⊢ 𝓤 _) $ await ! tt $ pick ! (λ n.
+        use1 W (later (some (λ (n : Ruling). (Tokens ⊛ ‵ (Z.the-row .own n (u ∷ []))) ⊛ raw (ensured 𝓤 H A settled.ended (settled.clauses 𝓤 H A mem run) (κ₀, (κ₁, tt)) (plan, (table, (length ys, (m .answer, (early, tt))))) tt n)))) (id⊢ 𝓤 _) $ await ! tt $ pick ! (λ n.
         split ! $ move ! (1 ∷ []) $ use1 W (raw (fact 𝓤 (Settles early (m .answer) (lentPassed (plan .now) (table .now) (length ys)) n))) (said-settled m (EL.val B.the-type B′.the-laws (m .answer)) (LL.owed K.the-type K′.the-laws m _ is .0) early n) $
         heard ! (Settles early (m .answer) (lentPassed (plan .now) (table .now) (length ys)) n) (λ en. split ! $ move ! (1 ∷ []) $ facts ! Z.the-row (Is Z.the-row) (shows 𝓤 H A Z.the-row) n (u ∷ []) (λ isn.
         -- [the tokens; the row; the open borrow; obs; auth; _15; …]
