@@ -4,6 +4,8 @@
 use mathlib.Core.Path.{_≡_, refl, sym, ap, ap₂, _∙_, subst}
 use mathlib.Core.Bool.{Bool, true}
 use mathlib.Core.List.{List}
+use mathlib.Core.Logic.{_↔_}
+use mathlib.Core.Option.{Option}
 use native.Mathlib.Omega.{arith}
 use lib.ListN.{length, getD, replicate, getD-replicate}
 use Prim.Native.Nat.{ℕ, _+_, _*_, _/_, _%_, _<_}
@@ -19,14 +21,18 @@ use Rattle.rules.specs.Plan.{Plan, readPlan}
 use Rattle.rules.specs.Playing.{Input}
 use Rattle.rules.specs.Station as rules
 use Rattle.rules.specs.Station.{Kept}
-use Rattle.rules.proofs.StationKept.{SameKept, follows-kept}
-use Rattle.rules.proofs.StationPlaces.{Agree, Follows, transparent-follows, transparent-follows-own}
+use Rattle.rules.specs.StationRange.{ticked}
+use Rattle.rules.specs.Told.{ShowsTold}
+use Rattle.rules.specs.Allowed.{MayTell, Allowed}
+use Rattle.rules.proofs.StationKept.{SameKept, follows-kept, ticked-kept}
+use Rattle.rules.proofs.StationPlaces.{Agree, SameAnswer, answer-ok, Follows, transparent-follows, transparent-follows-own}
+use Rattle.rules.proofs.FollowsTold.{also-ok, follows-shown, follows-allowed, follows-exact}
 use Rattle.stationruns.specs.Inputs.{changeAt}
 use Rattle.stationruns.specs.declared.Change.{Change}
 use Rattle.stationnodes.specs.Nodes.{noNode, zeroNode}
 use Rattle.station.specs.Memory.{keptBy, keptOf, laid, notBegun, stateOf}
 use Rattle.station.specs.declared.Station.{Station}
-use Rattle.station.proofs.Plays.{Plays, plays-follows}
+use Rattle.station.proofs.Plays.{Plays, Behind, plays-follows}
 use Rattle.station.proofs.Sized.{Sized, laid-agrees, sized-laid}
 use Rattle.answers.specs.declared.Verdict.the-variants.{Fine}
 use Rattle.starting.specs.declared.Begun.{Begun}
@@ -117,7 +123,34 @@ begun-by : (r : Begun) (rule : Res rules.Begun) → Begins r rule → r .answer 
 begun-by r (ok b) h e = record { b = b; is = refl; station = h .left }
 begun-by r (refuse n p) h e = refuse≢ok (sym (h .answered) ∙ ap heard e)
 
--- A station that has begun, and a history of accepted ticks: what is seen of the station behind it is
+-- The station of the rules' beginning, any calls, and the history of those that were accepted:
+module _ (plan table : List ℕ) (starting : ℕ → Option ℕ) (b : rules.Begun) (begins : rules.begin plan table starting ≡ ok b)
+    (p : Plan) (reads : readPlan plan ≡ ok p) (history : List Input) (after : Station) (plays : Plays (stationLaid b) history after) where
+  behind : Behind (stationLaid b) history after
+  behind = plays-follows (sized-begun b) plays
+
+  follows : Follows (b .kept) (stateOf (stationLaid b)) history (stateOf after)
+  follows = follows-kept (same-kept b) (behind .follows)
+
+  -- what is seen of the station is told by the history
+  pub shows-told : ShowsTold p starting history (stateOf after .shown)
+  shows-told = follows-shown plan table starting b begins p reads (stateOf (stationLaid b)) (same-state b) history (stateOf after) follows
+
+  -- whose ticks were all given what they may be given
+  pub history-allowed : Allowed p starting history
+  history-allowed = follows-allowed plan table starting b begins p reads (stateOf (stationLaid b)) (same-state b) history (stateOf after) follows
+
+  -- and the next call is accepted exactly when it is, too
+  pub call-exact : (i : Input) → ((t : rules.Ticked) × (ticked (keptOf after) (stateOf after) i ≡ ok t)) ↔ MayTell p starting history i
+  call-exact i =
+      let told = follows-exact plan table starting b begins p reads (stateOf (stationLaid b)) (same-state b) history (stateOf after) follows i in
+      let alike : SameAnswer (ticked (keptOf after) (stateOf after) i) (ticked (b .kept) (stateOf after) i) =
+      rw (behind .kept) (ticked-kept (same-kept b) (stateOf after) i) in (
+        λ h. let o = answer-ok alike (h .1) in told .0 (o .other, o .is),
+        λ m. also-ok alike (told .1 m .1),
+      )
+
+-- The same by the contracts of `begin` and `tick`: what is seen of the station behind the calls is told by the history, and so is
 module _ (plan table : List ℕ) (starting : List Change) (r : Begun) (begins : Begins r (rules.begin plan table (changeAt starting)))
     (started : r .answer ≡ Fine) (p : Plan) (reads : readPlan plan ≡ ok p) (history : List Input) (after : Station)
     (plays : Plays (r .station) history after) where
@@ -127,17 +160,20 @@ module _ (plan table : List ℕ) (starting : List Change) (r : Begun) (begins : 
   played : Plays (stationLaid (by .b)) history after
   played = subst (λ (st : Station). Plays st history after) (by .station) plays
 
-  follows : Follows (by .b .kept) (stateOf (stationLaid (by .b))) history (stateOf after)
-  follows = follows-kept (same-kept (by .b)) (plays-follows (sized-begun (by .b)) played .follows)
+  pub shown-told : ShowsTold p (changeAt starting) history (stateOf after .shown)
+  shown-told = shows-told plan table (changeAt starting) (by .b) (by .is) p reads history after played
+
+  followed : Follows (by .b .kept) (stateOf (stationLaid (by .b))) history (stateOf after)
+  followed = follows plan table (changeAt starting) (by .b) (by .is) p reads history after played
 
   -- the one board's value, on every node that consumes a task of another node
   pub shown-consumed : (n t : ℕ) → consumes p n t ≡ true → stateOf after .shown n t ≡ boardValue p (changeAt starting) t history
   shown-consumed n t c =
       transparent-follows plan table (changeAt starting) (by .b) (by .is) p reads (stateOf (stationLaid (by .b))) (same-state (by .b)) history
-      (stateOf after) follows n t c
+      (stateOf after) followed n t c
 
   -- and on a task's own node
   pub shown-own : (t : ℕ) → t < length (p .tasks) → stateOf after .shown (taskNode p t) t ≡ boardValue p (changeAt starting) t history
   shown-own t w =
       transparent-follows-own plan table (changeAt starting) (by .b) (by .is) p reads (stateOf (stationLaid (by .b))) (same-state (by .b))
-      history (stateOf after) follows t w
+      history (stateOf after) followed t w

@@ -1,2 +1,3 @@
 pub mod Ticking
+pub mod Calls
 pub mod HistoryLines

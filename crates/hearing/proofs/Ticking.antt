@@ -1,38 +1,9 @@
--- The station that a tick leaves, and the one that quiet ticks leave.
+-- The station that quiet ticks leave.
 use mathlib.Core.Path.{_≡_, refl, sym, ap, _∙_}
-use mathlib.Core.Bool.{true}
 use native.Mathlib.Omega.{arith}
 use Prim.Native.Nat.{ℕ, zero, suc, _+_, _-_, _≤_, _<_}
-use Rattle.laws.specs.Res.{Res, ok, refuse}
-use Rattle.laws.proofs.Res.{refuse≢ok, ok-injective}
-use Rattle.rules.specs.Station as rules
-use Rattle.station.specs.Memory.{laid}
-use Rattle.station.specs.Answers.{Answers, outcome, isRefused, answerLaid}
-use Rattle.stationmoves.specs.declared.Said.{Said}
-use Rattle.stationmoves.specs.declared.Said.the-variants.{Control, Data, Quiet, Refused}
 use Rattle.station.specs.declared.Station.{Station}
-use Rattle.station.specs.declared.Ticked.{Ticked}
-use Rattle.hearing.specs.Heard.{afterRule, afterNothing, afterQuiet}
-
--- what an answer leaves is what the rule says
-module _ (st : Station) (r : Ticked) where
-  accepted : (t : rules.Ticked) (w : Said) → outcome w r ≡ answerLaid st (ok t) → r .station ≡ laid st (t .state)
-  accepted t (Control w) e = ap (λ (x : Ticked). x .station) (ok-injective e)
-  accepted t (Data w) e = ap (λ (x : Ticked). x .station) (ok-injective e)
-  accepted t Quiet e = ap (λ (x : Ticked). x .station) (ok-injective e)
-  accepted t (Refused x) e = refuse≢ok e
-
-  refused : (n p : ℕ) (w : Said) → r .said ≡ w → outcome w r ≡ answerLaid st (refuse n p) → (isRefused (r .said) ≡ true → r .station ≡ st) → r .station ≡ st
-  refused n p (Control w) q e h = refuse≢ok (sym e)
-  refused n p (Data w) q e h = refuse≢ok (sym e)
-  refused n p Quiet q e h = refuse≢ok (sym e)
-  refused n p (Refused x) q e h = h (ap isRefused q)
-
-  pub left : (rule : Res rules.Ticked) → Answers st rule r → r .station ≡ afterRule st rule
-  left (ok t) a = accepted t (r .said) (a .says)
-  left (refuse n p) a = refused n p (r .said) refl (a .says) (a .unchanged)
-
--- ---- quiet ticks
+use Rattle.hearing.specs.Heard.{afterNothing, afterQuiet}
 
 still : (st : Station) → afterNothing st ≡ st → (n : ℕ) → afterQuiet st n ≡ st
 unfolding afterQuiet

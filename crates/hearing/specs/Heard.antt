@@ -4,15 +4,14 @@ use mathlib.Core.List.{List, [], _∷_}
 use lib.Dec.{eqb, ltb}
 use lib.ListN.{length, replicate}
 use Prim.Native.Nat.{ℕ, zero, suc}
-use Rattle.laws.specs.Res.{Res, ok, refuse}
-use Rattle.rules.specs.Station as rules
 use Rattle.rules.specs.StationRange.{ticked}
 use Rattle.stationruns.specs.Inputs.{inputOf}
 use Rattle.stationruns.specs.declared.Given.{Given}
 use Rattle.stationruns.specs.declared.Given.the-variants as given
 use Rattle.stationruns.specs.declared.Change.{Change}
 use Rattle.stationruns.specs.declared.Change.the-variants as change
-use Rattle.station.specs.Memory.{keptOf, stateOf, laid}
+use Rattle.station.specs.Memory.{keptOf, stateOf}
+use Rattle.station.specs.Answers.{stationAfter}
 use Rattle.station.specs.declared.Station.{Station}
 use Rattle.history.specs.Reading.{readLine, givenOf, changesOf}
 use Rattle.history.specs.declared.Line.{Line}
@@ -20,13 +19,9 @@ use Rattle.history.specs.declared.What.{What}
 use Rattle.history.specs.declared.What.the-variants.{Begin, Tick, Quiet, Unreadable}
 use Rattle.hearing.specs.declared.Heard.{Heard}
 
--- the station after a tick; a refused tick changes nothing (reading 28)
-abbrev pub afterRule : Station → Res rules.Ticked → Station
-afterRule st (ok t) = laid st (t .state)
-afterRule st (refuse n p) = st
-
+-- the station after a tick
 unfoldable pub afterTick : Station → List Given → List Change → Station
-afterTick st results changes = afterRule st (ticked (keptOf st) (stateOf st) (inputOf results changes))
+afterTick st results changes = stationAfter st (ticked (keptOf st) (stateOf st) (inputOf results changes))
 
 -- the station after a tick at which nothing is given
 unfoldable pub afterNothing : Station → Station

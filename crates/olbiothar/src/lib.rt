@@ -6,8 +6,7 @@ ghost use mathlib.Core.Path.{_≡_};
 ghost use Rattle.olbiothar.specs.Lent.{ChecksRows, MakesRows};
 ghost use Rattle.rules.specs.Station.{begin};
 ghost use Rattle.stationruns.specs.Inputs.{changeAt};
-ghost use Rattle.olbiothar.specs.Playing.{begunBy};
-ghost use Rattle.turning.specs.Turning.{ruled, stationAfter, tickedBy};
+ghost use Rattle.olbiothar.specs.Playing.{Ticks, begunBy};
 ghost use Rattle.outward.specs.Numbers.{changesFor};
 use outward::Answer;
 use outward::changes_for;
@@ -71,8 +70,7 @@ pub extern "C" fn olbiothar_tick(
     modes: &[u8; 16],
     changed: &[u8; 16],
 ) -> Ticked
-    ensures { λ r. ⌜ (r ≡ tickedBy (ruled (now (station .entry)) (now (results .entry)) (now (given .entry)) (now (modes .entry)) (now (changed .entry))))
-        × (now (station .exit) ≡ stationAfter (now (station .entry)) (ruled (now (station .entry)) (now (results .entry)) (now (given .entry)) (now (modes .entry)) (now (changed .entry)))) ⌝ }
+    ensures { λ r. ⌜ Ticks (now (station .entry)) (now (results .entry)) (now (given .entry)) (now (modes .entry)) (now (changed .entry)) r (now (station .exit)) ⌝ }
 {
     let t = turn_for(
         station.modules,

@@ -52,7 +52,7 @@ agree-in {k} {s} {s′} a h =
           byte = rw (a .modeByte m w) (q .byte);
         }
 
-also-ok : {r r′ : Res Ticked} {t : Ticked} → SameAnswer r r′ → r′ ≡ ok t → (a : Ticked) × (r ≡ ok a)
+pub also-ok : {r r′ : Res Ticked} {t : Ticked} → SameAnswer r r′ → r′ ≡ ok t → (a : Ticked) × (r ≡ ok a)
 also-ok (accepted row state) e = (_, refl)
 also-ok (refused n p) e = refuse≢ok e
 

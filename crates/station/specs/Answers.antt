@@ -47,6 +47,11 @@ abbrev pub answerLaid : Station → Res rules.Ticked → Res Ticked
 answerLaid st (ok t) = ok (record { said = rowSaid (t .row); station = laid st (t .state) })
 answerLaid st (refuse n p) = refuse n p
 
+-- the station after a tick: the state after it, laid into the station; a refused tick leaves the station as it was (reading 28)
+abbrev pub stationAfter : Station → Res rules.Ticked → Station
+stationAfter st (ok t) = laid st (t .state)
+stationAfter st (refuse n p) = st
+
 abbrev pub isRefused : Said → Bool
 isRefused (Control w) = false
 isRefused (Data w) = false

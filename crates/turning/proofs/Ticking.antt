@@ -1,6 +1,5 @@
 -- A tick's answer, in the numbers that C has, is what the rules say.
 use mathlib.Core.Path.{_≡_, refl, sym, ap, _∙_}
-use mathlib.Core.Bool.{true}
 use mathlib.Core.List.{List}
 use Prim.Native.Nat.{ℕ}
 use Rattle.laws.specs.Res.{Res, ok, refuse}
@@ -11,10 +10,11 @@ use Rattle.stationmoves.specs.declared.Said.the-variants.{Control, Data, Quiet,
 use Rattle.station.specs.declared.Station.{Station}
 use Rattle.station.specs.declared.Ticked as station
 use Rattle.station.specs.Answers as said
-use Rattle.station.specs.Answers.{Answers, outcome, isRefused}
+use Rattle.station.specs.Answers.{Answers, outcome, stationAfter}
 use Rattle.rules.specs.StationRange.{ticked}
 use Rattle.station.specs.Memory.{keptOf, stateOf}
 use Rattle.station.specs.Turns.{Turns}
+use Rattle.station.proofs.Plays.{leaves}
 use Rattle.station.specs.declared.Turn.{Turn}
 use Rattle.stationruns.specs.declared.Given.{Given}
 use Rattle.stationruns.specs.declared.Change.{Change}
@@ -23,7 +23,7 @@ use Rattle.outward.specs.declared.Answer.{Answer}
 use Rattle.outward.specs.declared.Row.{Row}
 use Rattle.turning.specs.declared.Ticked.{Ticked}
 use Rattle.outward.specs.Answers.{answerOf}
-use Rattle.turning.specs.Turning.{TurnsFor, rowStarted, stationAfter, tickedBy, tickedSaid}
+use Rattle.turning.specs.Turning.{TurnsFor, rowStarted, tickedBy, tickedSaid}
 use Rattle.outward.specs.Numbers.{answerSaid, rowSaid, rowFor}
 
 row-started : (w : rules.Started) → rowSaid (said.rowSaid w) ≡ rowStarted w
@@ -59,20 +59,10 @@ module _ (t : station.Ticked) (n p : ℕ) where
   refused-row Quiet e = refuse≢ok (sym e)
   refused-row (Refused x) e = refl
 
-  refused-is : (s : Said) → outcome s t ≡ refuse n p → isRefused s ≡ true
-  refused-is (Control w) e = refuse≢ok (sym e)
-  refused-is (Data w) e = refuse≢ok (sym e)
-  refused-is Quiet e = refuse≢ok (sym e)
-  refused-is (Refused x) e = refl
-
 answer-is : (st : Station) (rule : Res rules.Ticked) (t : station.Ticked) → Answers st rule t → tickedSaid (t .said) ≡ tickedBy rule
 answer-is st (ok x) t h =
     ap (λ (r : station.Ticked). tickedSaid (r .said)) (accepted (t .said) t _ (h .says)) ∙ rw (row-started (x .row), answer-started (x .row))
 answer-is st (refuse n p) t h = rw (refused-answer t n p (t .said) (h .says), refused-row t n p (t .said) (h .says))
-
-station-is : (st : Station) (rule : Res rules.Ticked) (t : station.Ticked) → Answers st rule t → t .station ≡ stationAfter st rule
-station-is st (ok x) t h = ap (λ (r : station.Ticked). r .station) (accepted (t .said) t _ (h .says))
-station-is st (refuse n p) t h = h .unchanged (refused-is t n p (t .said) (h .says))
 
 -- ---- the parts of an answer, computed one by one
 
@@ -81,8 +71,8 @@ pub turns-for : {st : Station} {g g′ : List Given} {m m′ : List Change} {w :
     → TurnsFor st (ticked (keptOf st) (stateOf st) (inputOf g′ m′)) (record { ticked = record { answer = a; row = b }; turn = t })
 turns-for {st} {g} {g′} {m} {m′} {w} {t} {a} {b} eg em turns ea eb =
     record {
-      idle = λ i. (made ∙ answer-is st _ _ (turns .idle i) ∙ given, station-is st _ _ (turns .idle i) ∙ after);
-      moves = λ i. (made ∙ answer-is st _ _ (turns .moves i) ∙ given, station-is st _ _ (turns .moves i) ∙ after);
+      idle = λ i. (made ∙ answer-is st _ _ (turns .idle i) ∙ given, leaves st _ _ (turns .idle i) ∙ after);
+      moves = λ i. (made ∙ answer-is st _ _ (turns .moves i) ∙ given, leaves st _ _ (turns .moves i) ∙ after);
     }
   where
     made : _≡_ {A = Ticked} (record { answer = a; row = b }) (tickedSaid w)

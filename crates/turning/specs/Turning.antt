@@ -4,13 +4,15 @@ use mathlib.Core.Path.{_≡_}
 use mathlib.Core.List.{List}
 use Prim.Native.Nat.{ℕ}
 use Rattle.laws.specs.Res.{Res, ok, refuse}
+use Rattle.rules.specs.Playing.{Input}
 use Rattle.rules.specs.Station as rules
 use Rattle.rules.specs.StationRange.{ticked}
 use Rattle.stationruns.specs.Inputs.{inputOf}
 use Rattle.stationnodes.specs.declared.Node.{Node}
 use Rattle.stationmoves.specs.declared.Said.{Said}
 use Rattle.station.specs.declared.Station.{Station}
-use Rattle.station.specs.Memory.{laid, keptOf, stateOf}
+use Rattle.station.specs.Memory.{keptOf, stateOf}
+use Rattle.station.specs.Answers.{stationAfter}
 use Rattle.station.specs.Parts.{nodesBy}
 use Rattle.station.specs.Turns.{moved, Valued}
 use Rattle.turning.specs.declared.Answered.{Answered}
@@ -32,15 +34,13 @@ abbrev pub tickedBy : Res rules.Ticked → Ticked
 tickedBy (ok t) = record { answer = answerOf (ok tt); row = rowStarted (t .row) }
 tickedBy (refuse n p) = record { answer = answerOf (refuse n p); row = rowFor 0 0 0 0 0 }
 
--- the station after a tick: the state after it, laid into the station; a refused tick leaves the station as it was (reading 28)
-abbrev pub stationAfter : Station → Res rules.Ticked → Station
-stationAfter st (ok t) = laid st (t .state)
-stationAfter st (refuse n p) = st
+-- what a tick is given by the arrays that a caller lends: a result counts where `given` is not 0, a change where `changed` is not 0
+abbrev pub inputFor : (results given modes changed : List ℕ) → Input
+inputFor results given modes changed = inputOf (givensFor results given) (changesFor modes changed)
 
--- what the rules say of a tick by the arrays that a caller lends: a result counts where `given` is not 0, a change where `changed` is not 0
+-- and what the rules say of it
 abbrev pub ruled : Station → (results given modes changed : List ℕ) → Res rules.Ticked
-ruled st results given modes changed =
-    ticked (keptOf st) (stateOf st) (inputOf (givensFor results given) (changesFor modes changed))
+ruled st results given modes changed = ticked (keptOf st) (stateOf st) (inputFor results given modes changed)
 
 -- What the first part of a tick gives: with the nodes as they were, where the turn is idle, or as the second part makes them, it is the rules' answer.
 pub record TurnsFor (st : Station) (rule : Res rules.Ticked) (r : Answered) : Type 0 where

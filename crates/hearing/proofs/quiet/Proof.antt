@@ -1,6 +1,7 @@
 -- Invariant: the ticks left lead to the same last station (`Going`); behind a refusal they change nothing (`going-refused`).
 use mathlib.Core.Path.{sym, _∙_}
-use Rattle.hearing.proofs.Ticking.{left, Going, going-none, going-turn, going-refused, going-end}
+use Rattle.station.proofs.Plays.{leaves}
+use Rattle.hearing.proofs.Ticking.{Going, going-none, going-turn, going-refused, going-end}
 use Rattle.hearing.specs.Heard.{afterTick, afterNothing}
 use Prim.Native.Nat.{_-_, _≤_}
 use borrow.Author.Needs.{needs}
@@ -20,7 +21,7 @@ returns : tie.Need-returns Inv-loop μ-loop
 unfolding afterTick afterNothing
 returns c =
     let c1 = c .before .before .before .before in
-    going-refused (c1 .before .before .before .loop .inv .1) (left _ _ _ (c1 .tick .ensures))
+    going-refused (c1 .before .before .before .loop .inv .1) (leaves _ _ _ (c1 .tick .ensures))
     (c1 .tick .ensures .unchanged (sym (c .before .say-quiet .ensures) ∙ c .if1 .taken))
 
 loop-again : tie.Need-loop-again Inv-loop μ-loop
@@ -29,7 +30,7 @@ loop-again c =
     let c1 = c .before .before .before .before in (
       search needs,
       going-turn (c1 .before .before .before .loop .inv .1) (c1 .before .before .loop-test .taken)
-          (left _ _ _ (c1 .tick .ensures)),
+          (leaves _ _ _ (c1 .tick .ensures)),
     )
 
 returns-2 : tie.Need-returns-2 Inv-loop μ-loop

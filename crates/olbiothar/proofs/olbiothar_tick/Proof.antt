@@ -74,7 +74,8 @@ use Rattle.station.proofs.nodes_turned as nodes-turned
 use Rattle.station.proofs.nodes_turned.Symbol as move-def
 use Rattle.station.proofs.nodes_turned.Symbol.{name as #move}
 use Rattle.station.proofs.nodes_turned.Met as move-thm
-use Rattle.turning.specs.Turning.{tickedBy, stationAfter, ruled}
+use Rattle.station.specs.Answers.{stationAfter}
+use Rattle.turning.specs.Turning.{tickedBy, ruled}
 use Rattle.turning.specs.declared.Answered.{Answered}
 use Rattle.olbiothar.proofs.Stored.{field, Nodes, nodes-mach, nodes-out, play-stored, nodes-stored}
 use Rattle.turning.proofs.Ticked as K
@@ -311,7 +312,7 @@ module _ {M : Type 1} (𝓤 : URA M) (H : Heap 𝓤) (A : Atoms 𝓤) (W : Given
   exits r is g e stands =
       qed W (Had g) ∵
       suffices ! _ (ends-at 𝓤 H A tick.ended stayed (tick.clauses 𝓤 H A at-mem run) W (((κ₀, (κ₁, (κ₂, (κ₃, (κ₄, tt))))), (q₀, (q₁, (q₂, (q₃, (q₄, tt))))), tt, x, at), tt) _ (r .ticked) (g, (tt, (tt, (tt, (tt, tt))))) (tt, (tt, (tt, (tt, (tt, tt)))))) $
-      says ! (e, stands) $ move ! (2 ∷ 3 ∷ []) $ join ! $ frame ! $
+      says ! (record { answers = e; leaves = stands }) $ move ! (2 ∷ 3 ∷ []) $ join ! $ frame ! $
       nothing ! $ nothing ! $ fjoin ! $ nothing ! $ fjoin ! $ nothing ! $ fjoin ! $ nothing ! $ fjoin ! $ move ! (1 ∷ 2 ∷ []) $ feqI ! (List Val) (vptr b o ∷ []) (vptr b o ∷ []) refl $ fjoin3 ! $ fjoin ! $ frame ! $
       owned ! K.the-row (Is K.the-row) (LL.makes K.the-type K′.the-plain 𝓤 H A) (r .ticked) _ (ticked-is r is) $ done !
 

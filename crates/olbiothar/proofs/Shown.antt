@@ -1,0 +1,121 @@
+-- Demand 3 of the exported functions, by the contracts of `olbiothar_begin` and `olbiothar_tick` alone, for any calls. After a beginning
+-- that answered number 0, the value in the lent station that a node shows of a task of another node that it consumes, and that a task's
+-- own node shows, is the one result of the last run of the task that has ended by the history of the calls that answered number 0.
+use mathlib.Core.Path.{_≡_, refl, sym, ap, _∙_, subst}
+use mathlib.Core.List.{List, [], _∷_}
+use mathlib.Core.Logic.{_↔_}
+use mathlib.Core.Option.{Option}
+use native.Mathlib.Omega.{arith}
+use Prim.Native.Nat.{ℕ}
+use Rattle.laws.specs.Res.{Res, ok, refuse}
+use Rattle.laws.proofs.Refusals.{Gives}
+use Rattle.rules.specs.Plan.{Plan, readPlan}
+use Rattle.rules.specs.Playing.{Input}
+use Rattle.rules.specs.Station as rules
+use Rattle.rules.specs.Station.{begin}
+use Rattle.rules.specs.Told.{ShowsTold}
+use Rattle.rules.specs.Allowed.{MayTell, Allowed}
+use Rattle.rules.proofs.FollowsTold.{numbers-of-any-tick}
+use Rattle.rules.proofs.RefusalNumbers.{passed-gives}
+use Rattle.rules.proofs.StationExact.{begin-checks}
+use Rattle.stationruns.specs.Inputs.{changeAt}
+use Rattle.station.specs.Memory.{keptOf, stateOf}
+use Rattle.station.specs.declared.Station.{Station}
+use Rattle.station.proofs.Plays.{Plays, start, plays-on}
+use Rattle.beginning.specs.Begins.{stationLaid}
+use Rattle.beginning.proofs.Shown.{shows-told, history-allowed, call-exact}
+use Rattle.outward.specs.Numbers.{givensFor, changesFor}
+use Rattle.turning.specs.Turning.{inputFor, ruled, tickedBy}
+use Rattle.turning.specs.declared.Ticked.{Ticked}
+use Rattle.olbiothar.specs.Playing.{Ticks, begunBy}
+use Rattle.olbiothar.specs.declared.Begun.{Begun}
+
+-- ---- calls
+
+-- Any calls on the lent station, each by its contract, and what was given to those that answered number 0, the newest first.
+pub data Calls : Station → List Input → Station → Type 0 where
+  none : {st : Station} → Calls st [] st
+  accepted :
+      {st before after : Station} {past : List Input} {r : Ticked} (results given modes changed : List ℕ) → Calls st past before →
+      Ticks before results given modes changed r after → r .answer .number ≡ 0 →
+      Calls st (inputFor results given modes changed ∷ past) after
+  refused :
+      {st before after : Station} {past : List Input} {r : Ticked} (results given modes changed : List ℕ) → Calls st past before →
+      Ticks before results given modes changed r after → (r .answer .number ≡ 0 → ⊥) → Calls st past after
+
+-- number 0 is no refusal's
+module _ (before : Station) (i : Input) where
+  taken : (rule : Res rules.Ticked) → Gives 40 44 rule → tickedBy rule .answer .number ≡ 0 → (t : rules.Ticked) × (rule ≡ ok t)
+  taken (ok t) g e = (t, refl)
+  taken (refuse n p) g e = absurd (omega (arith, g .number n p refl))
+
+  taken-number : (rule : Res rules.Ticked) (t : rules.Ticked) → rule ≡ ok t → tickedBy rule .answer .number ≡ 0
+  taken-number rule t e = rw e
+
+module _ {before after : Station} {r : Ticked} (results given modes changed : List ℕ) (c : Ticks before results given modes changed r after) where
+  abbrev rule : Res rules.Ticked
+  rule = ruled before results given modes changed
+
+  abbrev i : Input
+  i = inputFor results given modes changed
+
+  number-exact : (r .answer .number ≡ 0) ↔ ((t : rules.Ticked) × (ruled before results given modes changed ≡ ok t))
+  number-exact = (
+    λ e. taken before i rule (numbers-of-any-tick (keptOf before) (stateOf before) i) (rw (c .answers) at e),
+    λ h. rw (c .answers) (taken-number before i rule (h .0) (h .1)),
+  )
+
+  plays-accepted : {st : Station} {past : List Input} → r .answer .number ≡ 0 → Plays st past before → Plays st (inputFor results given modes changed ∷ past) after
+  plays-accepted {st} {past} e p =
+      let h = number-exact .0 e in
+      subst (λ (x : Station). Plays st (i ∷ past) x) (sym (c .leaves ∙ rw (h .1)))
+      (plays-on (givensFor results given) (changesFor modes changed) (ok (h .0)) (h .1) p)
+
+  plays-refused : {st : Station} {past : List Input} → (r .answer .number ≡ 0 → ⊥) → Plays st past before → Plays st past after
+  plays-refused {st} {past} other p = go rule refl
+    where
+      go : (x : Res rules.Ticked) → ruled before results given modes changed ≡ x → Plays st past after
+      go (ok t) q = absurd (other (number-exact .1 (t, q)))
+      go (refuse n k) q = subst (λ (x : Station). Plays st past x) (sym (c .leaves ∙ rw q)) p
+
+calls-play : {st after : Station} {history : List Input} → Calls st history after → Plays st history after
+calls-play none = start
+calls-play (accepted results given modes changed calls c e) = plays-accepted results given modes changed c e (calls-play calls)
+calls-play (refused results given modes changed calls c other) = plays-refused results given modes changed c other (calls-play calls)
+
+-- ---- a beginning that answered number 0
+
+module _ (plan table modes given : List ℕ) (r : Begun) (begins : r ≡ begunBy (begin plan table (changeAt (changesFor modes given))))
+    (fine : r .answer .number ≡ 0) where
+  abbrev starting : ℕ → Option ℕ
+  starting = changeAt (changesFor modes given)
+
+  began : (b : rules.Begun) × (begin plan table starting ≡ ok b)
+  began = go (begin plan table starting) refl (rw begins at fine)
+    where
+      go : (x : Res rules.Begun) → begin plan table starting ≡ x → begunBy x .answer .number ≡ 0
+          → (b : rules.Begun) × (begin plan table starting ≡ ok b)
+      go (ok b) q e = (b, q)
+      go (refuse n p) q e =
+          let other : n ≡ 40 → ⊥ = λ z. absurd (omega arith) in
+          absurd (omega (arith, passed-gives plan table .number n p (begin-checks plan table starting n p other .0 q)))
+
+  module _ (p : Plan) (reads : readPlan plan ≡ ok p) (history : List Input) (after : Station) (calls : Calls (r .station) history after) where
+    played : Plays (stationLaid (began .0)) history after
+    played = subst (λ (st : Station). Plays st history after) (ap (λ (x : Begun). x .station) begins ∙ rw (began .1)) (calls-play calls)
+
+    -- what the lent station shows is told by the history
+    pub calls-shown : ShowsTold p (changeAt (changesFor modes given)) history (stateOf after .shown)
+    calls-shown = shows-told plan table starting (began .0) (began .1) p reads history after played
+
+    -- in which each result came in its time and modes changed at their instants
+    pub calls-allowed : Allowed p (changeAt (changesFor modes given)) history
+    calls-allowed = history-allowed plan table starting (began .0) (began .1) p reads history after played
+
+    -- and the next call answers number 0 exactly when it is given such a tick
+    pub call-answers : {r′ : Ticked} {next : Station} (results given′ modes′ changed : List ℕ) → Ticks after results given′ modes′ changed r′ next
+        → (r′ .answer .number ≡ 0) ↔ MayTell p (changeAt (changesFor modes given)) history (inputFor results given′ modes′ changed)
+    call-answers results given′ modes′ changed c =
+        let number = number-exact results given′ modes′ changed c in
+        let told = call-exact plan table starting (began .0) (began .1) p reads history after played (inputFor results given′ modes′ changed) in
+        (λ e. told .0 (number .0 e), λ m. number .1 (told .1 m))
