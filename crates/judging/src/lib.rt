@@ -212,14 +212,7 @@ fn by_rows<'a>(
     let last = last_stop(&t.ends, t.control);
     let crowded = first_crowded(&t.starts, &t.stops, last.0, bounds.gap.0, rows);
     Judgement {
-        verdict: rows_judged(
-            1 + t.control,
-            unnamed,
-            mistimed,
-            early,
-            late,
-            crowded,
-        ),
+        verdict: rows_judged(1 + t.control, unnamed, mistimed, early, late, crowded),
         starts: starts_by_frame(&named, &t.starts, rows),
     }
 }

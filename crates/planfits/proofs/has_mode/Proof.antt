@@ -34,12 +34,11 @@ returns c =
 loop-again : tie.Need-loop-again Inv-loop μ-loop
 unfolding isHome modeSeen modeLaid
 loop-again c =
-    let c1 = c .before .before .before .before in
-    (
-  search needs,
-  any-part-missed modeSeen (isHome _) _ _ _ (omega (arith, c1 .before .before .good .0 .1 .0 .1)) (modeLaid noMode) (c1 .loop-test .taken) (c1 .before .loop .inv .1)
-      (ne-eqb _ _ (c .if1 .left)),
-)
+    let c1 = c .before .before .before .before in (
+      search needs,
+      any-part-missed modeSeen (isHome _) _ _ _ (omega (arith, c1 .before .before .good .0 .1 .0 .1)) (modeLaid noMode) (c1 .loop-test .taken) (c1 .before .loop .inv .1)
+          (ne-eqb _ _ (c .if1 .left)),
+    )
 
 returns-2 : tie.Need-returns-2 Inv-loop μ-loop
 unfolding hasModeIn
