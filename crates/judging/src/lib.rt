@@ -204,13 +204,13 @@ fn by_rows<'a>(
         &t.starts,
         &t.stops,
         times,
-        bounds.resolution.0,
+        bounds.resolution,
         rows,
     );
     let early = early_in(early_too, &t.starts, releases, &named, rows);
     let late = first_late(&t.stops, &t.deadlines, rows);
     let last = last_stop(&t.ends, t.control);
-    let crowded = first_crowded(&t.starts, &t.stops, last.0, bounds.gap.0, rows);
+    let crowded = first_crowded(&t.starts, &t.stops, last, bounds.gap, rows);
     Judgement {
         verdict: rows_judged(1 + t.control, unnamed, mistimed, early, late, crowded),
         starts: starts_by_frame(&named, &t.starts, rows),
