@@ -23,6 +23,7 @@ use Rattle.payloads.specs.Tests.{taskTime}
 use Rattle.placing.specs.declared.Placing.{Placing}
 use Rattle.placing.specs.declared.Outcome.the-variants.{All, Refused as NotPlaced}
 use Rattle.placing.specs.Placing.{frameAt, timeOf, laid}
+use Rattle.units.specs.declared.FrameNo.{FrameNo}
 use Rattle.rows.specs.declared.Rows.{Rows}
 use Rattle.rows.specs.declared.TableRows.{TableRows}
 use Rattle.rows.specs.Rows.{rowsLaid, scattered, tableRows}
@@ -64,12 +65,12 @@ makes-table l placed n rows before after h e room q s =
 
 -- what the rule says of frames that are all placed, and of one that is not
 module _ (l : Layout) where
-  twelve : (k : ℕ) (rule : Res (List Placed)) → latestRelease l ≡ rule → laid rule .outcome ≡ NotPlaced k → latestRelease l ≡ refuse 12 k
+  twelve : (k : FrameNo) (rule : Res (List Placed)) → latestRelease l ≡ rule → laid rule .outcome ≡ NotPlaced k → latestRelease l ≡ refuse 12 (k .0)
   twelve k (ok placed) e q = let z : _≡_ {A = ℕ} 0 1 = cc in absurd (omega arith)
   twelve k (refuse n f) e q =
-      let same : f ≡ k = cc in
+      let there : _≡_ {A = FrameNo} (record { 0 = f }) k = cc in
       let number : n ≡ 12 = rule-twelve l n f e in
-      e ∙ ap₂ refuse number same
+      e ∙ ap₂ refuse number (ap (λ (x : FrameNo). x .0) there)
 
   pub record Placing-of (placing : Placing) : Type 0 where
     pub placed : List Placed
@@ -79,7 +80,7 @@ module _ (l : Layout) where
   pub all-of : (rule : Res (List Placed)) (placing : Placing) → latestRelease l ≡ rule → placing ≡ laid rule → placing .outcome ≡ All → Placing-of placing
   all-of (ok placed) placing e q o = record { placed = placed; rule = e; is = q }
   all-of (refuse n f) placing e q o =
-      let z : NotPlaced f ≡ All = sym (ap (λ (p : Placing). p .outcome) q) ∙ o in
+      let z : NotPlaced (record { 0 = f }) ≡ All = sym (ap (λ (p : Placing). p .outcome) q) ∙ o in
       let y : _≡_ {A = ℕ} 0 1 = cc in absurd (omega arith)
 
 -- the latest-release rule over the arrays of a line
@@ -123,7 +124,7 @@ module _ (line : Line) (s : Stands line) where
         q ∙ ap laid e
 
     -- 12: a frame found no room
-    pub no-room : (k room : ℕ) → placing .outcome ≡ NotPlaced k → laidTable (s .lay) room ≡ refuse 12 k
+    pub no-room : (k : FrameNo) (room : ℕ) → placing .outcome ≡ NotPlaced k → laidTable (s .lay) room ≡ refuse 12 (k .0)
     unfolding laidTable
     no-room k room o =
         let t = twelve (s .lay) k (latestRelease (s .lay)) refl (sym (ap (λ (p : Placing). p .outcome) placing-is) ∙ o) in
@@ -168,11 +169,11 @@ module _ (line : Line) (placing : Placing) (a : AllPlaced line placing) where
   abbrev bytesFrom : TableRows → List ℕ
   bytesFrom rows =
       tableIn (line .period .0) (tab (controlIn (line .nodes) (line .starts) (line .stops)) 0 (line .controls))
-      (tab (dataIn (rows .task) (rows .deadline) (placing .start) (rows .stop)) 0 (line .frames)) (line .controls) (line .frames)
+      (tab (dataIn (rows .task) (rows .deadline) (placing .starts) (rows .stop)) 0 (line .frames)) (line .controls) (line .frames)
 
   pub written-table : (rows : TableRows) (start before after : List ℕ) (n : ℕ) → needed (line .controls) (line .frames) ≤ length before
-      → rows ≡ tableRows (line .task) (line .deadline) (line .time) (placing .number) (placing .start) (line .frames)
-      → after ≡ sets before 0 (bytesFrom rows) → start ≡ scattered (placing .number) (placing .start) (line .frames) (replicate 256 0)
+      → rows ≡ tableRows (line .task) (line .deadline) (line .time) (placing .numbers) (placing .starts) (line .frames)
+      → after ≡ sets before 0 (bytesFrom rows) → start ≡ scattered (placing .numbers) (placing .starts) (line .frames) (replicate 256 0)
       → n ≡ needed (line .controls) (line .frames)
       → Makes
       (record {

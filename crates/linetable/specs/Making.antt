@@ -25,7 +25,7 @@ abbrev pub rowsOf : Res MadeTable → List FrameRow
 rowsOf (ok t) = t .rows
 rowsOf (refuse n p) = []
 
--- "the table stands at the front of the lent buffer, and the bytes behind it are unchanged"; a refusal leaves it unchanged
+-- the table at the front of the lent buffer, and the bytes behind it as they were; a refusal leaves all as they were
 abbrev pub bufferLeft : Res MadeTable → List ℕ → List ℕ
 bufferLeft (ok t) buffer = t .table ++ drop (length (t .table)) buffer
 bufferLeft (refuse n p) buffer = buffer

@@ -4,6 +4,7 @@ ghost use mathlib.Core.List.{[]};
 ghost use lib.ListN.{length};
 ghost use Prim.Native.Nat.{_≤_};
 ghost use Rattle.laws.specs.Res.{ok};
+ghost use Rattle.rules.specs.Limits.{mostFrames, mostNodes};
 ghost use Rattle.rules.specs.Table.{madeTable};
 ghost use Rattle.rows.specs.Rows.{rowsLaid};
 ghost use Rattle.linetable.specs.Making.{Makes};
@@ -16,7 +17,6 @@ use placing::Placing;
 use placing::Rule;
 use rows::Rows;
 use units::ByteCount;
-use units::FrameNo;
 
 pub enum Answer {
     // The length of the table at the front of the buffer.
@@ -41,7 +41,7 @@ pub fn refused(why: Refusal) -> Making
 
 // The length of the line's table: a header, its rows, and the end.
 fn bytes_needed(controls: usize, frames: usize) -> usize
-    requires { ⌜ (controls ≤ 8) × (frames ≤ 256) ⌝ }
+    requires { ⌜ (controls ≤ mostNodes) × (frames ≤ mostFrames) ⌝ }
     ensures { λ r. ⌜ (r ≡ needed controls frames) × (r ≤ 3673) ⌝ }
 {
     8 + 10 * controls + 14 * frames + 1
@@ -57,24 +57,24 @@ fn written(line: Line, placing: Placing, buf: &mut [u8]) -> Making
         &line.task,
         &line.deadline,
         &line.time,
-        &placing.number,
-        &placing.start,
+        &placing.numbers,
+        &placing.starts,
         line.frames,
     );
     tablebytes::write_table(
         &mut *buf,
-        line.period.0,
+        line.period,
         &line.nodes,
         &line.starts,
         &line.stops,
         line.controls,
         &data.task,
         &data.deadline,
-        &placing.start,
+        &placing.starts,
         &data.stop,
         line.frames,
     );
-    let start = rows::starts_by_number(&placing.number, &placing.start, line.frames);
+    let start = rows::starts_by_number(&placing.numbers, &placing.starts, line.frames);
     let task = line.task;
     let release = line.release;
     let deadline = line.deadline;
@@ -118,6 +118,6 @@ pub fn placed_table(line: Line, buf: &mut [u8]) -> Making
             }
             written(line, placing, &mut *buf)
         }
-        Outcome::Refused(number) => refused(Refusal::NoRoom(FrameNo(number))),
+        Outcome::Refused(number) => refused(Refusal::NoRoom(number)),
     }
 }

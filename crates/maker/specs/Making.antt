@@ -11,7 +11,7 @@ use Rattle.rules.specs.Checker.{check}
 use Rattle.linetable.specs.declared.Answer.{Answer}
 use Rattle.linetable.specs.declared.Answer.the-variants.{Made}
 
--- "19 before all": fewer than 256 frame rows lent.
+-- 19, too few frame rows lent, before all others.
 unfoldable pub lentFor : List ℕ → ℕ → ℕ → Res MadeTable
 lentFor plan lent room = do
   unless 19 mostFrames (leb mostFrames lent)
@@ -20,4 +20,4 @@ lentFor plan lent room = do
 -- A made table passes the checker, whatever rows of the right number are lent to it.
 unfoldable pub PassesCheck : List ℕ → Answer → List ℕ → Type 0
 PassesCheck plan answer buffer =
-    (n : ℕ) → answer ≡ Made n → (rows : List FrameRow) → 256 ≤ length rows → check plan (take n buffer) rows .answer ≡ ok tt
+    (n : ℕ) → answer ≡ Made n → (rows : List FrameRow) → mostFrames ≤ length rows → check plan (take n buffer) rows .answer ≡ ok tt

@@ -19,29 +19,29 @@ table-rows-requires c κs =
 
 write-table-requires : tie.Need-write-table-requires
 write-table-requires c κs =
-    let start = c .before .before .before .before .before .before .before .before .before .before .before .before .before .before .before .before .before .before .before .before in
-    let a = start .args in
-    (few-controls (a .t1) (start .pre .0 .stands), few-frames (a .t1) (start .pre .0 .stands))
+    let c1 = c .before .before .before .before .before .before .before .before .before .before .before .before .before .before .before .before .before .before .before .before .before in
+    let a = c1 .args in
+    (few-controls (a .t1) (c1 .pre .0 .stands), few-frames (a .t1) (c1 .pre .0 .stands))
 
 starts-by-number-requires : tie.Need-starts-by-number-requires
 starts-by-number-requires c κs =
-    let start = c .before .before .before .before .before .before .before .before .before .before .before .before .before .before .before .before .before .before .before .before .before .before .before .before .before .before in
-    few-frames (start .args .t1) (start .pre .0 .stands)
+    let c1 = c .before .before .before .before .before .before .before .before .before .before .before .before .before .before .before .before .before .before .before .before .before .before .before .before .before .before .before in
+    few-frames (c1 .args .t1) (c1 .pre .0 .stands)
 
 bytes-needed-requires : tie.Need-bytes-needed-requires
 bytes-needed-requires c κs =
-    let start = c .before .before .before .before .before .before .before .before .before .before .before .before .before .before .before .before .before .before .before .before .before .before .before .before .before .before .before .before .before .before in
-    let a = start .args in
-    (few-controls (a .t1) (start .pre .0 .stands), few-frames (a .t1) (start .pre .0 .stands))
+    let c1 = c .before .before .before .before .before .before .before .before .before .before .before .before .before .before .before .before .before .before .before .before .before .before .before .before .before .before .before .before .before .before .before in
+    let a = c1 .args in
+    (few-controls (a .t1) (c1 .pre .0 .stands), few-frames (a .t1) (c1 .pre .0 .stands))
 
 returns : tie.Need-returns
 returns c =
     let c1 = c .before .before .before .before in
     let c2 = c1 .before .before .before .before .before .before in
-    let c3 = c2 .before .before .before .before .before .before .before .before .before .before .before .before in
-    let start = c3 .before .before .before .before .before .before .before .before .before in
-    let a = start .args in
-    λ s. written-table (a .t1) (a .t2) s _ _ (a .buf .now) _ _ (start .pre .1) (c3 .table-rows .ensures)
+    let c3 = c2 .before .before .before .before .before .before .before .before .before .before .before .before .before in
+    let c4 = c3 .before .before .before .before .before .before .before .before .before in
+    let a = c4 .args in
+    λ s. written-table (a .t1) (a .t2) s _ _ (a .buf .now) _ _ (c4 .pre .1) (c3 .table-rows .ensures)
     (c2 .write-table .ensures) (c1 .starts-by-number .ensures) (c .bytes-needed .ensures .0)
 
 pub written-spec : {M : Type 1} → statement M
