@@ -12,6 +12,7 @@ use Rattle.laws.specs.Res.{Res, ok, unless, at, _>>_}
 use Rattle.laws.specs.Lists.{any, firstBad, tab, upTo}
 use Rattle.laws.specs.Loops.{padTo}
 use Rattle.laws.specs.Numbers.{divides}
+use Rattle.rules.specs.Limits.{mostTasks, mostFrames}
 use Rattle.rules.specs.Frames.{Frame, ControlRow}
 use Rattle.rules.specs.Checker.{
   TableRead,
@@ -105,7 +106,7 @@ unfoldable pub framesIn : List ℕ → List ℕ → List ℕ → ℕ → List Fr
 framesIn tasks releases deadlines n = tab (frameIn tasks releases deadlines) 0 n
 
 unfoldable pub timeIn : List ℕ → ℕ → ℕ
-timeIn times task = lookIn 32 times task
+timeIn times task = lookIn mostTasks times task
 
 -- the parts of a line: its control rows, its frames, the numbers of its bus; and a table judged by them
 unfoldable pub controlsOn : Line → List ControlRow
@@ -150,4 +151,4 @@ NoneEarly releases starts frames = (k : ℕ) → k < frames → getD releases k 
 -- A judgement is what the rules say, where rule 25 was looked at or no frame is early; and where the rules pass the table, its starts are those that the table gives to the frames.
 pub record Right (early-too : Bool) (releases : List ℕ) (count : ℕ) (says : Res (Unit {0})) (frames : List Frame) (t : TableRead) (j : Judgement) : Type 0 where
   pub verdict : (early-too ≡ true) ⊎ NoneEarly releases (j .starts) count → heard (j .verdict) ≡ says
-  pub starts : says ≡ ok tt → j .starts ≡ padTo 256 0 (map (startIn (t .rows)) frames)
+  pub starts : says ≡ ok tt → j .starts ≡ padTo mostFrames 0 (map (startIn (t .rows)) frames)

@@ -158,7 +158,7 @@ fn rows_judged(
     late: Found,
     crowded: Found,
 ) -> Verdict
-    requires { ⌜ first ≤ 9 ⌝ }
+    requires { ⌜ first ≤ 1 + mostNodes ⌝ }
     requires { ⌜ Among mostFrames unnamed × (Among mostFrames mistimed × (Among mostFrames early × (Among mostFrames late × Among mostFrames crowded))) ⌝ }
     ensures { λ r. ⌜ heard r ≡ inOrder first (placeIn unnamed) (placeIn mistimed) (placeIn early) (placeIn late) (placeIn crowded) ⌝ }
 {

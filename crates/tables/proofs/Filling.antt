@@ -20,7 +20,6 @@ use types.Run.{Opds}
 use sound.WpLaws.{FmC}
 use denote.Laws.{Is}
 use denote.Builtin.{unit}
-use denote.Ref.{RefT}
 use denote.Slice.{sliceVal, MutSlice, finally}
 use denote.Steps.{only, owned, heard, nothing}
 use denote.Struct.Laws as LL
@@ -34,11 +33,9 @@ use Rattle.rows.proofs.Rows.Laws as R′
 use Rattle.units.specs.declared.Frame.{Frame}
 use Rattle.framerows.specs.Frames.{filled}
 use Rattle.units.proofs.Frame as F
+use Rattle.framerows.proofs.Lending.{lentRows}
 use Rattle.framerows.proofs.fill as fill
 use Rattle.framerows.proofs.fill.Symbol.{name as #fill}
-
-abbrev pub lentRows : ℕ → ℕ → GName → List Frame → RefT (List Frame)
-lentRows b o γ ys = record { ptr = (b, o); name = γ; now = ys }
 
 module _ {M : Type 1} (𝓤 : URA M) (H : Heap 𝓤) (A : Atoms 𝓤) (mem : Memory → SProp 𝓤) (run : Routine → Fun 𝓤) where
   abbrev pub Fill : Contract 𝓤

@@ -52,7 +52,7 @@ use Rattle.units.specs.declared.Frame.{Frame}
 use Rattle.units.proofs.Frame as F
 use Rattle.framerows.specs.Frames.{filled}
 use Rattle.framerows.specs.Passes.{lookedRow, clearedRow}
-use Rattle.framerows.proofs.Lending.{Lends, calls-rows}
+use Rattle.framerows.proofs.Lending.{lentRows, Lends, calls-rows}
 use Rattle.framerows.proofs.Carried.{CarriedSays}
 use Rattle.framerows.proofs.fill.Symbol as fill-def
 use Rattle.framerows.proofs.fill.Symbol.{name as #fill}
@@ -82,7 +82,6 @@ use Rattle.checker.proofs.settled as settled
 use Rattle.checker.proofs.settled.Symbol as settled-def
 use Rattle.checker.proofs.settled.Symbol.{name as #settled}
 use Rattle.checker.proofs.settled.Met as settled-thm
-use Rattle.tables.proofs.Filling.{lentRows}
 use Rattle.tables.proofs.CheckRules.{Passes, checks-lent}
 use Rattle.tables.proofs.check.Key.{name as #check}
 use Rattle.tables.proofs.check as check

@@ -59,7 +59,8 @@ use Rattle.maker.proofs.made as made
 use Rattle.maker.proofs.made.Symbol as made-def
 use Rattle.maker.proofs.made.Symbol.{name as #made}
 use Rattle.maker.proofs.made.Met as made-thm
-use Rattle.tables.proofs.Filling.{Fill, lentRows, calls-fill}
+use Rattle.framerows.proofs.Lending.{lentRows}
+use Rattle.tables.proofs.Filling.{Fill, calls-fill}
 use Rattle.tables.proofs.MakeRules.{makes-lent}
 use Rattle.tables.proofs.make.Key.{name as #make}
 use Rattle.tables.proofs.make as make
