@@ -18,6 +18,7 @@ use Rattle.rules.specs.Allowed.{MayTell, Allowed}
 use Rattle.rules.proofs.FollowsTold.{numbers-of-any-tick}
 use Rattle.rules.proofs.RefusalNumbers.{passed-gives}
 use Rattle.rules.proofs.StationExact.{begin-checks}
+use Rattle.rules.proofs.Transparent.{begun}
 use Rattle.stationruns.specs.Inputs.{changeAt}
 use Rattle.station.specs.Memory.{keptOf, stateOf}
 use Rattle.station.specs.declared.Station.{Station}
@@ -44,13 +45,12 @@ pub data Calls : Station → List Input → Station → Type 0 where
       Ticks before results given modes changed r after → (r .answer .number ≡ 0 → ⊥) → Calls st past after
 
 -- number 0 is no refusal's
-module _ (before : Station) (i : Input) where
-  taken : (rule : Res rules.Ticked) → Gives 40 44 rule → tickedBy rule .answer .number ≡ 0 → (t : rules.Ticked) × (rule ≡ ok t)
-  taken (ok t) g e = (t, refl)
-  taken (refuse n p) g e = absurd (omega (arith, g .number n p refl))
+taken : (rule : Res rules.Ticked) → Gives 40 44 rule → tickedBy rule .answer .number ≡ 0 → (t : rules.Ticked) × (rule ≡ ok t)
+taken (ok t) g e = (t, refl)
+taken (refuse n p) g e = absurd (omega (arith, g .number n p refl))
 
-  taken-number : (rule : Res rules.Ticked) (t : rules.Ticked) → rule ≡ ok t → tickedBy rule .answer .number ≡ 0
-  taken-number rule t e = rw e
+taken-number : (rule : Res rules.Ticked) (t : rules.Ticked) → rule ≡ ok t → tickedBy rule .answer .number ≡ 0
+taken-number rule t e = rw e
 
 module _ {before after : Station} {r : Ticked} (results given modes changed : List ℕ) (c : Ticks before results given modes changed r after) where
   abbrev rule : Res rules.Ticked
@@ -61,8 +61,8 @@ module _ {before after : Station} {r : Ticked} (results given modes changed : Li
 
   number-exact : (r .answer .number ≡ 0) ↔ ((t : rules.Ticked) × (ruled before results given modes changed ≡ ok t))
   number-exact = (
-    λ e. taken before i rule (numbers-of-any-tick (keptOf before) (stateOf before) i) (rw (c .answers) at e),
-    λ h. rw (c .answers) (taken-number before i rule (h .0) (h .1)),
+    λ e. taken rule (numbers-of-any-tick (keptOf before) (stateOf before) i) (rw (c .answers) at e),
+    λ h. rw (c .answers) (taken-number rule (h .0) (h .1)),
   )
 
   plays-accepted : {st : Station} {past : List Input} → r .answer .number ≡ 0 → Plays st past before → Plays st (inputFor results given modes changed ∷ past) after
@@ -99,6 +99,10 @@ module _ (plan table modes given : List ℕ) (r : Begun) (begins : r ≡ begunBy
       go (refuse n p) q e =
           let other : n ≡ 40 → ⊥ = λ z. absurd (omega arith) in
           absurd (omega (arith, passed-gives plan table .number n p (begin-checks plan table starting n p other .0 q)))
+
+  -- it had a plan
+  pub began-plan : (p : Plan) × (readPlan plan ≡ ok p)
+  began-plan = let told = begun plan table starting (began .0) (began .1) in (told .read, told .isRead)
 
   module _ (p : Plan) (reads : readPlan plan ≡ ok p) (history : List Input) (after : Station) (calls : Calls (r .station) history after) where
     played : Plays (stationLaid (began .0)) history after

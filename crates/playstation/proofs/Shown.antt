@@ -1,6 +1,6 @@
 -- Demand 3 of the program, by the contract of `play` alone: the station after a history file is the one that calls of `tick` lead to, those
 -- that the lines behind the first ask for, so what it shows is told by the history of those that are accepted.
-use mathlib.Core.Path.{_≡_, sym, ap, _∙_, subst}
+use mathlib.Core.Path.{_≡_}
 use mathlib.Core.List.{List, [], _∷_}
 use Prim.Native.Nat.{ℕ}
 use Rattle.laws.specs.Res.{ok}
@@ -11,7 +11,6 @@ use Rattle.rules.specs.Told.{ShowsTold}
 use Rattle.rules.specs.Allowed.{Allowed}
 use Rattle.stationruns.specs.Inputs.{changeAt}
 use Rattle.station.specs.Memory.{stateOf}
-use Rattle.station.specs.declared.Station.{Station}
 use Rattle.station.proofs.Plays.{Plays, start, acceptedOf, plays-calls}
 use Rattle.beginning.specs.Begins.{stationLaid}
 use Rattle.beginning.proofs.Shown.{shows-told, history-allowed}
