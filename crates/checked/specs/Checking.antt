@@ -41,7 +41,7 @@ lentPassed plan table lent = do
 -- the frames of a line in arrays, with a start for each
 unfoldable pub rowsOn : Line → List ℕ → Rows
 rowsOn l starts =
-    record { frames = l .frames; task = l .task; release = l .release; deadline = l .deadline; start = starts }
+    record { frames = l .frames; task = l .tasks; release = l .releases; deadline = l .deadlines; start = starts }
 
 -- The answer passes exactly the tables of laid out plans that keep every rule.
 unfoldable pub PassesExactly : Verdict → List ℕ → List ℕ → ℕ → Type 0

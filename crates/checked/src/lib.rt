@@ -29,9 +29,9 @@ pub fn refused(why: Refusal) -> Checked
 pub fn rows_on(line: Line, starts: [u32; Frame::MOST]) -> Rows
     ensures { λ r. ⌜ r ≡ rowsOn line starts ⌝ }
 {
-    let task = line.task;
-    let release = line.release;
-    let deadline = line.deadline;
+    let task = line.tasks;
+    let release = line.releases;
+    let deadline = line.deadlines;
     Rows {
         frames: line.frames,
         task: task,

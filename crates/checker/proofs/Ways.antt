@@ -97,7 +97,7 @@ unfolding fileLaid
 file-drawn plan l e = bind-case (readPlan plan) layout e λ p isRead isLaid. drawn plan p l isRead isLaid
 
 module _ (plan : List ℕ) (x : Laid) (h : Lays x (fileLaid plan)) (e : x .answer ≡ Fine) where
-  pub judge-ready : Numbered (x .line .task) (x .line .deadline) (x .line .frames) × (x .line .controls ≤ 8)
+  pub judge-ready : Numbered (x .line .tasks) (x .line .deadlines) (x .line .frames) × (x .line .controls ≤ 8)
   judge-ready =
       laid-sound (fileLaid plan) x h e λ l q same.
       let d = file-drawn plan l q in
@@ -137,7 +137,7 @@ rows-laid l t =
       map-twice (checkedRow t) rowStart (startIn (t .rows)) (l .frames) (λ f. refl),
     ))
 
-module _ (l : Layout) (d : Drawn l) (t : TableRead) (early : Bool) (j : Judgement) (right : Right early (lineOf l .release) (lineOf l .frames) (judged l t) (l .frames) t j) where
+module _ (l : Layout) (d : Drawn l) (t : TableRead) (early : Bool) (j : Judgement) (right : Right early (lineOf l .releases) (lineOf l .frames) (judged l t) (l .frames) t j) where
   -- the rules' answer to the judgement
   passing : (m : Res (Unit {0})) → m ≡ verdict (_>>_ m (ok (record { layout = l; table = t })))
   passing (ok u) = refl
@@ -154,7 +154,7 @@ module _ (l : Layout) (d : Drawn l) (t : TableRead) (early : Bool) (j : Judgemen
         few = rw e (line-numbered l d .room);
       }
     where
-      looked : (early ≡ true) ⊎ (256 ≤ lent → NoneEarly (lineOf l .release) (j .starts) (lineOf l .frames)) → (early ≡ true) ⊎ NoneEarly (lineOf l .release) (j .starts) (lineOf l .frames)
+      looked : (early ≡ true) ⊎ (256 ≤ lent → NoneEarly (lineOf l .releases) (j .starts) (lineOf l .frames)) → (early ≡ true) ⊎ NoneEarly (lineOf l .releases) (j .starts) (lineOf l .frames)
       looked (inl h) = inl h
       looked (inr h) = inr (h enough)
 
@@ -198,13 +198,13 @@ module _ (plan table : List ℕ) (lent : ℕ) (early : Bool) (r : Checked) where
       judged-is l rs laid areRows = enough-is plan table lent enough ∙ bind-case (readPlan plan) layout laid λ q isRead isLaid. rw (isRead, isLaid, areRows)
 
       pub way-judged : reading .outcome ≡ Whole → (j : Judgement)
-          → Right early (x .line .release) (x .line .frames) (lineJudged (x .line) (seen (reading .table))) (framesOn (x .line)) (seen (reading .table)) j
+          → Right early (x .line .releases) (x .line .frames) (lineJudged (x .line) (seen (reading .table))) (framesOn (x .line)) (seen (reading .table)) j
           → (rows : Rows) → rows ≡ rowsOn (x .line) (j .starts) → r ≡ record { answer = j .verdict; rows = rows } → Judged early lent r (lentPassed plan table lent)
       way-judged whole j right rows e same-r =
           laid-sound (fileLaid plan) x h sound λ l laid same.
           reading-whole (records tableFollows 20 table) reading is whole λ rs areRows held.
           let d = file-drawn plan l laid in
-          let seenRight : Right early (lineOf l .release) (lineOf l .frames) (judged l (tableOf rs)) (l .frames) (tableOf rs) j = line-right l d (tableOf rs) (rw (same, held) at right) in
+          let seenRight : Right early (lineOf l .releases) (lineOf l .frames) (judged l (tableOf rs)) (l .frames) (tableOf rs) j = line-right l d (tableOf rs) (rw (same, held) at right) in
           judged-by l d (tableOf rs) early j seenRight lent r (lentPassed plan table lent) enough (judged-is l rs laid areRows) (same-r ∙ ap (λ (z : Rows). record { answer = j .verdict; rows = z }) (e ∙ ap (λ (z : Line). rowsOn z (j .starts)) same))
 
 -- ---- after the scan

@@ -140,7 +140,7 @@ module _ (l : Layout) (d : Drawn l) where
   controls-on = controls-drawn l d
 
   -- The frames of a layout are by number.
-  pub line-numbered : Numbered (lineOf l .task) (lineOf l .deadline) (lineOf l .frames)
+  pub line-numbered : Numbered (lineOf l .tasks) (lineOf l .deadlines) (lineOf l .frames)
   unfolding frameOf keyAt lineOf
   line-numbered =
       record {
@@ -153,10 +153,10 @@ module _ (l : Layout) (d : Drawn l) where
       task-small : (k : ℕ) → k < length (l .frames) → getD (l .frames) k noFrame .task < 32
       task-small k h = all-getD noFrame (d .tasks) k h
 
-      task-at : (k : ℕ) → k < length (l .frames) → getD (lineOf l .task) k 0 ≡ getD (l .frames) k noFrame .task
+      task-at : (k : ℕ) → k < length (l .frames) → getD (lineOf l .tasks) k 0 ≡ getD (l .frames) k noFrame .task
       task-at k h = ap (λ (f : Frame). f .task) (frame-drawn l d k h)
 
-      deadline-at : (k : ℕ) → k < length (l .frames) → getD (lineOf l .deadline) k 0 ≡ getD (l .frames) k noFrame .deadline
+      deadline-at : (k : ℕ) → k < length (l .frames) → getD (lineOf l .deadlines) k 0 ≡ getD (l .frames) k noFrame .deadline
       deadline-at k h = ap (λ (f : Frame). f .deadline) (frame-drawn l d k h)
 
       lower : (f g : Frame) → f .task < 32 → Before f g → f .deadline * 256 + f .task < g .deadline * 256 + g .task
@@ -166,20 +166,20 @@ module _ (l : Layout) (d : Drawn l) where
   unfolding lineOf
   line-controls = d .controls
 
-  time-on : (f : Frame) → f .task < 32 → timeIn (lineOf l .time) (f .task) ≡ timeFor l (f .task)
+  time-on : (f : Frame) → f .task < 32 → timeIn (lineOf l .times) (f .task) ≡ timeFor l (f .task)
   unfolding timeIn lookIn timeFor
   time-on f h = rw (lt-ltb (f .task) 32 h) (time-drawn l d f h)
 
-  parts-judged : (t : TableRead) → judgedFor (l .control) (l .frames) (timeIn (lineOf l .time)) (boundsOn (lineOf l)) t ≡ judged l t
+  parts-judged : (t : TableRead) → judgedFor (l .control) (l .frames) (timeIn (lineOf l .times)) (boundsOn (lineOf l)) t ≡ judged l t
   parts-judged t =
-      times-judged (l .frames) (timeIn (lineOf l .time)) (timeFor l) t (boundsOn (lineOf l)) (all-weaker time-on (d .tasks)) (l .control)
+      times-judged (l .frames) (timeIn (lineOf l .times)) (timeFor l) t (boundsOn (lineOf l)) (all-weaker time-on (d .tasks)) (l .control)
       ∙ judged-parts l t
 
   -- What is judged right by the line of a layout is judged right by the layout.
   pub line-right : (t : TableRead) {early : Bool} {j : Judgement}
-      → Right early (lineOf l .release) (lineOf l .frames) (lineJudged (lineOf l) (seen (layOut t))) (framesOn (lineOf l)) (seen (layOut t)) j
-      → Right early (lineOf l .release) (lineOf l .frames) (judged l t) (l .frames) t j
+      → Right early (lineOf l .releases) (lineOf l .frames) (lineJudged (lineOf l) (seen (layOut t))) (framesOn (lineOf l)) (seen (layOut t)) j
+      → Right early (lineOf l .releases) (lineOf l .frames) (judged l t) (l .frames) t j
   unfolding lineJudged
   line-right t r =
       rw (sym (parts-judged t))
-      (seen-right (l .control) (l .frames) (timeIn (lineOf l .time)) (boundsOn (lineOf l)) t (d .controls) (d .few) (rw (controls-on, frames-on) at r))
+      (seen-right (l .control) (l .frames) (timeIn (lineOf l .times)) (boundsOn (lineOf l)) t (d .controls) (d .few) (rw (controls-on, frames-on) at r))

@@ -110,16 +110,16 @@ timeIn times task = lookIn mostTasks times task
 
 -- the parts of a line: its control rows, its frames, the numbers of its bus; and a table judged by them
 unfoldable pub controlsOn : Line → List ControlRow
-controlsOn l = tab (controlIn (l .nodes) (l .starts) (l .stops)) 0 (l .controls)
+controlsOn l = tab (controlIn (l .«control_nodes») (l .«control_starts») (l .«control_stops»)) 0 (l .controls)
 
 unfoldable pub framesOn : Line → List Frame
-framesOn l = framesIn (l .task) (l .release) (l .deadline) (l .frames)
+framesOn l = framesIn (l .tasks) (l .releases) (l .deadlines) (l .frames)
 
 unfoldable pub boundsOn : Line → Bounds
 boundsOn l = record { period = l .period; resolution = l .resolution; gap = l .gap }
 
 unfoldable pub lineJudged : Line → TableRead → Res (Unit {0})
-lineJudged l t = judgedFor (controlsOn l) (framesOn l) (timeIn (l .time)) (boundsOn l) t
+lineJudged l t = judgedFor (controlsOn l) (framesOn l) (timeIn (l .times)) (boundsOn l) t
 
 -- what a scan found lies among the first n places
 abbrev pub Among : ℕ → Found → Type 0

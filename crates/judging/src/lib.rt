@@ -220,9 +220,9 @@ fn by_rows<'a>(
 // A table judged by what a plan asks of the bus. Where `early_too` does not hold, rule 25 is left to the caller: the verdict is then right
 // if no frame's start lies before its release.
 pub fn judge(t: Table, line: Line, early_too: bool) -> Judgement
-    requires { ⌜ Numbered (line .task) (line .deadline) (line .frames) ⌝ }
+    requires { ⌜ Numbered (line .tasks) (line .deadlines) (line .frames) ⌝ }
     requires { ⌜ line .controls ≤ mostNodes ⌝ }
-    ensures { λ r. ⌜ Right «early_too» (line .release) (line .frames) (lineJudged line (seen t)) (framesOn line) (seen t) r ⌝ }
+    ensures { λ r. ⌜ Right «early_too» (line .releases) (line .frames) (lineJudged line (seen t)) (framesOn line) (seen t) r ⌝ }
 {
     let head = t.header;
     let period = line.period;
@@ -240,20 +240,20 @@ pub fn judge(t: Table, line: Line, early_too: bool) -> Judgement
         &t.nodes,
         &t.begins,
         &t.ends,
-        &line.nodes,
-        &line.starts,
-        &line.stops,
+        &line.control_nodes,
+        &line.control_starts,
+        &line.control_stops,
         line.controls,
     ) {
         return refused(Refusal::WrongControlRow(RecordNo(1 + k)));
     }
     by_rows(
         t,
-        &line.task,
-        &line.release,
-        &line.deadline,
+        &line.tasks,
+        &line.releases,
+        &line.deadlines,
         line.frames,
-        &line.time,
+        &line.times,
         bounds,
         early_too,
     )

@@ -26,15 +26,15 @@ pub line-is : (p : Plan) {period gap floor : ℕ} {time : List ℕ} {control : C
       resolution = record { 0 = p .bus .resolution };
       gap = record { 0 = gap };
       floor = record { 0 = floor };
-      time = time;
+      times = time;
       controls = control .count;
-      nodes = control .nodes;
-      starts = control .starts;
-      stops = control .stops;
+      «control_nodes» = control .nodes;
+      «control_starts» = control .starts;
+      «control_stops» = control .stops;
       frames = f .count;
-      task = f .tasks;
-      release = f .releases;
-      deadline = f .deadlines;
+      tasks = f .tasks;
+      releases = f .releases;
+      deadlines = f .deadlines;
     })
     (lineOf (layoutOf p))
 unfolding lineOf layoutOf framesLaid frames.column controlLaid

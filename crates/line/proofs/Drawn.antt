@@ -42,10 +42,10 @@ drawn file p l r e =
 
 -- a frame and a control row, read off the arrays of a line
 unfoldable pub frameOf : Layout → ℕ → Frame
-frameOf l k = record { task = getD (lineOf l .task) k 0; release = getD (lineOf l .release) k 0; deadline = getD (lineOf l .deadline) k 0 }
+frameOf l k = record { task = getD (lineOf l .tasks) k 0; release = getD (lineOf l .releases) k 0; deadline = getD (lineOf l .deadlines) k 0 }
 
 unfoldable pub controlOf : Layout → ℕ → ControlRow
-controlOf l k = record { node = getD (lineOf l .nodes) k 0; start = getD (lineOf l .starts) k 0; stop = getD (lineOf l .stops) k 0 }
+controlOf l k = record { node = getD (lineOf l .«control_nodes») k 0; start = getD (lineOf l .«control_starts») k 0; stop = getD (lineOf l .«control_stops») k 0 }
 
 module _ (l : Layout) (d : Drawn l) where
   pub frame-drawn : (k : ℕ) → k < length (l .frames) → frameOf l k ≡ getD (l .frames) k noFrame
@@ -64,6 +64,6 @@ module _ (l : Layout) (d : Drawn l) where
       let w : k < 8 = omega (arith, d .controls) in
       rw (getD-laid nodeOf (l .control) noControlRow 8 k refl w, getD-laid startOf (l .control) noControlRow 8 k refl w, getD-laid stopOf (l .control) noControlRow 8 k refl w)
 
-  pub time-drawn : (f : Frame) → f .task < 32 → getD (lineOf l .time) (f .task) 0 ≡ taskTime (l .plan) (f .task)
+  pub time-drawn : (f : Frame) → f .task < 32 → getD (lineOf l .times) (f .task) 0 ≡ taskTime (l .plan) (f .task)
   unfolding lineOf
   time-drawn f h = getD-tab (taskTime (l .plan)) 0 32 (f .task) 0 h ∙ rw zero-add

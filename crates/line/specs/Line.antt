@@ -28,15 +28,15 @@ lineOf l =
       resolution = record { 0 = l .plan .bus .resolution };
       gap = record { 0 = gapTime (l .plan .bus) };
       floor = record { 0 = l .afterControl };
-      time = tab (taskTime (l .plan)) 0 mostTasks;
+      times = tab (taskTime (l .plan)) 0 mostTasks;
       controls = length (l .control);
-      nodes = column nodeOf (l .control);
-      starts = column startOf (l .control);
-      stops = column stopOf (l .control);
+      «control_nodes» = column nodeOf (l .control);
+      «control_starts» = column startOf (l .control);
+      «control_stops» = column stopOf (l .control);
       frames = length (l .frames);
-      task = padTo mostFrames 0 (map taskOf (l .frames));
-      release = padTo mostFrames 0 (map releaseOf (l .frames));
-      deadline = padTo mostFrames 0 (map deadlineOf (l .frames));
+      tasks = padTo mostFrames 0 (map taskOf (l .frames));
+      releases = padTo mostFrames 0 (map releaseOf (l .frames));
+      deadlines = padTo mostFrames 0 (map deadlineOf (l .frames));
     }
 
 -- the line of no plan
@@ -47,15 +47,15 @@ noLine =
       resolution = record { 0 = 0 };
       gap = record { 0 = 0 };
       floor = record { 0 = 0 };
-      time = replicate mostTasks 0;
+      times = replicate mostTasks 0;
       controls = 0;
-      nodes = replicate mostNodes 0;
-      starts = replicate mostNodes 0;
-      stops = replicate mostNodes 0;
+      «control_nodes» = replicate mostNodes 0;
+      «control_starts» = replicate mostNodes 0;
+      «control_stops» = replicate mostNodes 0;
       frames = 0;
-      task = replicate mostFrames 0;
-      release = replicate mostFrames 0;
-      deadline = replicate mostFrames 0;
+      tasks = replicate mostFrames 0;
+      releases = replicate mostFrames 0;
+      deadlines = replicate mostFrames 0;
     }
 
 -- what `lay_out` leaves of the line: that of the layout, or none where the plan is refused

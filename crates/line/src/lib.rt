@@ -41,22 +41,22 @@ use units::NodeNo;
 use units::TaskNo;
 use units::Ticks;
 
-// `floor` is C; `time` is by task; `nodes`, `starts` and `stops` are the control rows, `controls` of them; `task`, `release` and
-// `deadline` the frames, `frames` of them. Zeros stand behind.
+// `floor` is C; `times` is by task; of the control rows there are `controls`, of the frames (`tasks`, `releases`, `deadlines`)
+// `frames`. Zeros stand behind.
 pub struct Line {
     pub period: Ticks,
     pub resolution: Ticks,
     pub gap: Ticks,
     pub floor: Ticks,
-    pub time: [u32; TaskNo::MOST],
+    pub times: [u32; TaskNo::MOST],
     pub controls: usize,
-    pub nodes: [u8; NodeNo::MOST],
-    pub starts: [u32; NodeNo::MOST],
-    pub stops: [u32; NodeNo::MOST],
+    pub control_nodes: [u8; NodeNo::MOST],
+    pub control_starts: [u32; NodeNo::MOST],
+    pub control_stops: [u32; NodeNo::MOST],
     pub frames: usize,
-    pub task: [u8; Frame::MOST],
-    pub release: [u32; Frame::MOST],
-    pub deadline: [u32; Frame::MOST],
+    pub tasks: [u8; Frame::MOST],
+    pub releases: [u32; Frame::MOST],
+    pub deadlines: [u32; Frame::MOST],
 }
 
 impl Line {
@@ -68,15 +68,15 @@ impl Line {
             resolution: Ticks(0),
             gap: Ticks(0),
             floor: Ticks(0),
-            time: [0; TaskNo::MOST],
+            times: [0; TaskNo::MOST],
             controls: 0,
-            nodes: [0; NodeNo::MOST],
-            starts: [0; NodeNo::MOST],
-            stops: [0; NodeNo::MOST],
+            control_nodes: [0; NodeNo::MOST],
+            control_starts: [0; NodeNo::MOST],
+            control_stops: [0; NodeNo::MOST],
             frames: 0,
-            task: [0; Frame::MOST],
-            release: [0; Frame::MOST],
-            deadline: [0; Frame::MOST],
+            tasks: [0; Frame::MOST],
+            releases: [0; Frame::MOST],
+            deadlines: [0; Frame::MOST],
         }
     }
 }
@@ -128,15 +128,15 @@ fn line_of<'a>(
         resolution,
         gap: Ticks(gap),
         floor: Ticks(end.0 as u32),
-        time: time,
+        times: time,
         controls: control.count,
-        nodes: nodes,
-        starts: starts,
-        stops: stops,
+        control_nodes: nodes,
+        control_starts: starts,
+        control_stops: stops,
         frames: count,
-        task: task,
-        release: release,
-        deadline: deadline,
+        tasks: task,
+        releases: release,
+        deadlines: deadline,
     }
 }
 

@@ -84,22 +84,22 @@ module _ (resolution gap floor : ℕ) (s s′ : Frame → ℕ) (same : (f : Fram
       go false e = refl
 
 module _ (l : Layout) (d : Drawn l) where
-  pub frames-are : tab (frameAt (line.lineOf l .task) (line.lineOf l .release) (line.lineOf l .deadline)) 0 (line.lineOf l .frames) ≡ l .frames
+  pub frames-are : tab (frameAt (line.lineOf l .tasks) (line.lineOf l .releases) (line.lineOf l .deadlines)) 0 (line.lineOf l .frames) ≡ l .frames
   unfolding line.lineOf frameAt frameOf
   frames-are = frames-drawn l d
 
-  pub time-is : (f : Frame) → f .task < 32 → timeOf (line.lineOf l .time) f ≡ frameTime l f
+  pub time-is : (f : Frame) → f .task < 32 → timeOf (line.lineOf l .times) f ≡ frameTime l f
   unfolding timeOf frameTime payload taskTime
   time-is f w = time-drawn l d f w
 
-  pub deadlines-rise : (i j : ℕ) → i ≤ j → j < line.lineOf l .frames → getD (line.lineOf l .deadline) i 0 ≤ getD (line.lineOf l .deadline) j 0
+  pub deadlines-rise : (i j : ℕ) → i ≤ j → j < line.lineOf l .frames → getD (line.lineOf l .deadlines) i 0 ≤ getD (line.lineOf l .deadlines) j 0
   unfolding line.lineOf frameOf
   deadlines-rise i j h w = in-order (eq-or-lt-of-le h)
     where
-      at : (k : ℕ) → k < length (l .frames) → getD (line.lineOf l .deadline) k 0 ≡ getD (l .frames) k noFrame .deadline
+      at : (k : ℕ) → k < length (l .frames) → getD (line.lineOf l .deadlines) k 0 ≡ getD (l .frames) k noFrame .deadline
       at k v = ap (λ (f : Frame). f .deadline) (frame-drawn l d k v)
 
-      in-order : (i ≡ j) ⊎ (i < j) → getD (line.lineOf l .deadline) i 0 ≤ getD (line.lineOf l .deadline) j 0
+      in-order : (i ≡ j) ⊎ (i < j) → getD (line.lineOf l .deadlines) i 0 ≤ getD (line.lineOf l .deadlines) j 0
       in-order (inl q) = rw q (le-refl _)
       in-order (inr q) =
           rw (at i (omega arith), at j w)
@@ -111,15 +111,15 @@ module _ (l : Layout) (d : Drawn l) where
   numbered-all k (also q r) = also q (numbered-all (suc k) r)
 
   -- the latest-release rule as the arrays have it
-  pub rule-is : place (line.lineOf l .resolution .0) (line.lineOf l .gap .0) (line.lineOf l .floor .0) (timeOf (line.lineOf l .time)) (line.lineOf l .frames) (line.lineOf l .period .0)
-      (numberedFrom 0 (tab (frameAt (line.lineOf l .task) (line.lineOf l .release) (line.lineOf l .deadline)) 0 (line.lineOf l .frames))) []
+  pub rule-is : place (line.lineOf l .resolution .0) (line.lineOf l .gap .0) (line.lineOf l .floor .0) (timeOf (line.lineOf l .times)) (line.lineOf l .frames) (line.lineOf l .period .0)
+      (numberedFrom 0 (tab (frameAt (line.lineOf l .tasks) (line.lineOf l .releases) (line.lineOf l .deadlines)) 0 (line.lineOf l .frames))) []
       ≡ latestRelease l
   unfolding line.lineOf latestRelease firstEnd
   rule-is =
-      ap (λ (fs : List Frame). place (l .plan .bus .resolution) (gapTime (l .plan .bus)) (l .afterControl) (timeOf (line.lineOf l .time)) (length (l .frames)) (l .period) (numberedFrom 0 fs) []) frames-are
-      ∙ place-same (l .plan .bus .resolution) (gapTime (l .plan .bus)) (l .afterControl) (timeOf (line.lineOf l .time)) (frameTime l) time-is
+      ap (λ (fs : List Frame). place (l .plan .bus .resolution) (gapTime (l .plan .bus)) (l .afterControl) (timeOf (line.lineOf l .times)) (length (l .frames)) (l .period) (numberedFrom 0 fs) []) frames-are
+      ∙ place-same (l .plan .bus .resolution) (gapTime (l .plan .bus)) (l .afterControl) (timeOf (line.lineOf l .times)) (frameTime l) time-is
       (length (l .frames)) (l .period) (numberedFrom 0 (l .frames)) [] (numbered-all 0 (d .tasks))
 
-  pub controls-are : tab (controlIn (line.lineOf l .nodes) (line.lineOf l .starts) (line.lineOf l .stops)) 0 (line.lineOf l .controls) ≡ l .control
+  pub controls-are : tab (controlIn (line.lineOf l .«control_nodes») (line.lineOf l .«control_starts») (line.lineOf l .«control_stops»)) 0 (line.lineOf l .controls) ≡ l .control
   unfolding line.lineOf controlIn controlOf
   controls-are = controls-drawn l d

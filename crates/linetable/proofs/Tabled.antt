@@ -130,16 +130,16 @@ module _ (l : Layout) (placed : List Placed) (h : Fair l placed) where
   data-fits j w = all-getD noPlaced (all-unmap (dataRow l) placed (h .fits .rows)) j (rw count w)
 
   abbrev tasks : List ℕ
-  tasks = line.lineOf l .task
+  tasks = line.lineOf l .tasks
 
   abbrev time : List ℕ
-  time = line.lineOf l .time
+  time = line.lineOf l .times
 
   task-at : (j : ℕ) → j < n → taskAt tasks number j ≡ put j .frame .task
   unfolding taskAt line.lineOf
   task-at j w = column taskOf refl j w
 
-  deadline-at : (j : ℕ) → j < n → taskAt (line.lineOf l .deadline) number j ≡ put j .frame .deadline
+  deadline-at : (j : ℕ) → j < n → taskAt (line.lineOf l .deadlines) number j ≡ put j .frame .deadline
   unfolding taskAt line.lineOf
   deadline-at j w = column deadlineOf refl j w
 
@@ -152,7 +152,7 @@ module _ (l : Layout) (placed : List Placed) (h : Fair l placed) where
   -- ---- the table
 
   abbrev rows : TableRows
-  rows = tableRows tasks (line.lineOf l .deadline) time number start n
+  rows = tableRows tasks (line.lineOf l .deadlines) time number start n
 
   abbrev written : ℕ → DataRow
   written = dataIn (rows .task) (rows .deadline) start (rows .stop)
@@ -164,13 +164,13 @@ module _ (l : Layout) (placed : List Placed) (h : Fair l placed) where
   unfolding dataIn tableRows dataRow
   row-at j w =
       let v : j < length placed = rw count w in
-      rw (filled-at (taskAt tasks number) j w, filled-at (taskAt (line.lineOf l .deadline) number) j w, filled-at (stopAt tasks time number start) j w, task-at j w, deadline-at j w, stop-at j w, start-at j w)
+      rw (filled-at (taskAt tasks number) j w, filled-at (taskAt (line.lineOf l .deadlines) number) j w, filled-at (stopAt tasks time number start) j w, task-at j w, deadline-at j w, stop-at j w, start-at j w)
       (sym (map-getD (dataRow l) placed noPlaced noDataRow j v))
 
   rows-written : tab written 0 n ≡ map (dataRow l) placed
   rows-written = tab-list written (map (dataRow l) placed) noDataRow n (sym count ∙ sym (length-map placed (dataRow l))) row-at
 
-  pub table-written : tableIn (line.lineOf l .period .0) (tab (controlIn (line.lineOf l .nodes) (line.lineOf l .starts) (line.lineOf l .stops)) 0 (line.lineOf l .controls))
+  pub table-written : tableIn (line.lineOf l .period .0) (tab (controlIn (line.lineOf l .«control_nodes») (line.lineOf l .«control_starts») (line.lineOf l .«control_stops»)) 0 (line.lineOf l .controls))
       (tab written 0 n) (line.lineOf l .controls) n
       ≡ tableBytes l placed
   unfolding tableIn tableBytes line.lineOf
@@ -181,7 +181,7 @@ module _ (l : Layout) (placed : List Placed) (h : Fair l placed) where
   below : All (λ x. x .number < n) placed
   below = all-weaker (λ x k. k .within) (h .well .origin)
 
-  pub rows-are : (r : Rows) → r .frames ≡ n → r .task ≡ tasks → r .release ≡ line.lineOf l .release → r .deadline ≡ line.lineOf l .deadline
+  pub rows-are : (r : Rows) → r .frames ≡ n → r .task ≡ tasks → r .release ≡ line.lineOf l .releases → r .deadline ≡ line.lineOf l .deadlines
       → r .start ≡ scattered number start n (replicate 256 0) → r ≡ rowsLaid (rowsFrom placed 0 (l .frames))
   unfolding rowsLaid line.lineOf
   rows-are r e₁ e₂ e₃ e₄ e₅ =

@@ -86,8 +86,8 @@ module _ (l : Layout) where
 -- the latest-release rule over the arrays of a line
 abbrev pub ruleOver : Line → Res (List Placed)
 ruleOver line =
-    place (line .resolution .0) (line .gap .0) (line .floor .0) (timeOf (line .time)) (line .frames) (line .period .0)
-    (numberedFrom 0 (tab (frameAt (line .task) (line .release) (line .deadline)) 0 (line .frames))) []
+    place (line .resolution .0) (line .gap .0) (line .floor .0) (timeOf (line .times)) (line .frames) (line .period .0)
+    (numberedFrom 0 (tab (frameAt (line .tasks) (line .releases) (line .deadlines)) 0 (line .frames))) []
 
 module _ (line : Line) (s : Stands line) where
   drawn-of : Drawn (s .lay)
@@ -102,19 +102,19 @@ module _ (line : Line) (s : Stands line) where
   unfolding lineOf
   few-controls = rw (s .is) (drawn-of .controls)
 
-  pub tasks-long : length (line .task) ≡ 256
+  pub tasks-long : length (line .tasks) ≡ 256
   unfolding lineOf
   tasks-long = rw (s .is) (length-padTo 256 0 (map taskOf (s .lay .frames)))
 
-  pub deadlines-long : length (line .deadline) ≡ 256
+  pub deadlines-long : length (line .deadlines) ≡ 256
   unfolding lineOf
   deadlines-long = rw (s .is) (length-padTo 256 0 (map deadlineOf (s .lay .frames)))
 
-  pub times-long : length (line .time) ≡ 32
+  pub times-long : length (line .times) ≡ 32
   unfolding lineOf
   times-long = rw (s .is) (length-tab (taskTime (s .lay .plan)) 0 32)
 
-  pub deadlines-rising : (i j : ℕ) → i ≤ j → j < line .frames → getD (line .deadline) i 0 ≤ getD (line .deadline) j 0
+  pub deadlines-rising : (i j : ℕ) → i ≤ j → j < line .frames → getD (line .deadlines) i 0 ≤ getD (line .deadlines) j 0
   deadlines-rising = rw (s .is) (deadlines-rise (s .lay) drawn-of)
 
   module _ (placing : Placing) (q : placing ≡ laid (ruleOver line)) where
@@ -168,17 +168,17 @@ module _ (line : Line) (placing : Placing) (a : AllPlaced line placing) where
   -- the table's bytes from the arrays of a line and of its placed frames
   abbrev bytesFrom : TableRows → List ℕ
   bytesFrom rows =
-      tableIn (line .period .0) (tab (controlIn (line .nodes) (line .starts) (line .stops)) 0 (line .controls))
+      tableIn (line .period .0) (tab (controlIn (line .«control_nodes») (line .«control_starts») (line .«control_stops»)) 0 (line .controls))
       (tab (dataIn (rows .task) (rows .deadline) (placing .starts) (rows .stop)) 0 (line .frames)) (line .controls) (line .frames)
 
   pub written-table : (rows : TableRows) (start before after : List ℕ) (n : ℕ) → needed (line .controls) (line .frames) ≤ length before
-      → rows ≡ tableRows (line .task) (line .deadline) (line .time) (placing .numbers) (placing .starts) (line .frames)
+      → rows ≡ tableRows (line .tasks) (line .deadlines) (line .times) (placing .numbers) (placing .starts) (line .frames)
       → after ≡ sets before 0 (bytesFrom rows) → start ≡ scattered (placing .numbers) (placing .starts) (line .frames) (replicate 256 0)
       → n ≡ needed (line .controls) (line .frames)
       → Makes
       (record {
         answer = Made n;
-        rows = record { frames = line .frames; task = line .task; release = line .release; deadline = line .deadline; start = start };
+        rows = record { frames = line .frames; task = line .tasks; release = line .releases; deadline = line .deadlines; start = start };
       })
       before after (ok (madeTable (a .stands .lay) (a .placed)))
   unfolding lineOf madeTable

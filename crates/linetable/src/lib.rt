@@ -54,9 +54,9 @@ fn written(line: Line, placing: Placing, buf: &mut [u8]) -> Making
     ensures { λ r. ⌜ ((s : AllPlaced line placing) → Makes r (now (buf .entry)) (now (buf .exit)) (ok (madeTable (s .stands .lay) (s .placed)))) ⌝ }
 {
     let data = rows::table_rows(
-        &line.task,
-        &line.deadline,
-        &line.time,
+        &line.tasks,
+        &line.deadlines,
+        &line.times,
         &placing.numbers,
         &placing.starts,
         line.frames,
@@ -64,9 +64,9 @@ fn written(line: Line, placing: Placing, buf: &mut [u8]) -> Making
     tablebytes::write_table(
         &mut *buf,
         line.period,
-        &line.nodes,
-        &line.starts,
-        &line.stops,
+        &line.control_nodes,
+        &line.control_starts,
+        &line.control_stops,
         line.controls,
         &data.task,
         &data.deadline,
@@ -75,9 +75,9 @@ fn written(line: Line, placing: Placing, buf: &mut [u8]) -> Making
         line.frames,
     );
     let start = rows::starts_by_number(&placing.numbers, &placing.starts, line.frames);
-    let task = line.task;
-    let release = line.release;
-    let deadline = line.deadline;
+    let task = line.tasks;
+    let release = line.releases;
+    let deadline = line.deadlines;
     Making {
         answer: Answer::Made(bytes_needed(line.controls, line.frames)),
         rows: Rows {
@@ -101,10 +101,10 @@ pub fn placed_table(line: Line, buf: &mut [u8]) -> Making
         floor: line.floor,
     };
     let placing = placing::place_all(
-        &line.task,
-        &line.release,
-        &line.deadline,
-        &line.time,
+        &line.tasks,
+        &line.releases,
+        &line.deadlines,
+        &line.times,
         line.frames,
         rule,
         line.period,

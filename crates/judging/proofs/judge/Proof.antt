@@ -14,8 +14,8 @@ returns : tie.Need-returns
 unfolding lineJudged controlsOn framesOn boundsOn
 returns c =
     let a = c .before .before .before .before .before .before .before .args in
-    wrong-header (a .t2 .task) (a .t2 .release) (a .t2 .deadline) (a .t2 .frames) (timeIn (a .t2 .time)) (a .t2 .nodes)
-    (a .t2 .starts) (a .t2 .stops) (a .t2 .controls) (boundsOn (a .t2)) (a .t1) (c .before .before .header-right .ensures)
+    wrong-header (a .t2 .tasks) (a .t2 .releases) (a .t2 .deadlines) (a .t2 .frames) (timeIn (a .t2 .times)) (a .t2 .«control_nodes»)
+    (a .t2 .«control_starts») (a .t2 .«control_stops») (a .t2 .controls) (boundsOn (a .t2)) (a .t1) (c .before .before .header-right .ensures)
     (not-true _ (c .before .if1 .taken)) (c .refused .ensures)
 
 first-strange-requires : tie.Need-first-strange-requires
@@ -30,10 +30,10 @@ add-t26 c =
     let start = c1 .before .before .before .before .before .before .before .before .before .before .before .before .before .before .before in
     let a = start .args in
     let e = spot-at (firstBad (controlsSame (controlIn (a .t1 .nodes) (a .t1 .begins) (a .t1 .ends))
-    (controlIn (a .t2 .nodes) (a .t2 .starts) (a .t2 .stops))) (upTo (a .t2 .controls))) (c1 .first-strange .ensures)
+    (controlIn (a .t2 .«control_nodes») (a .t2 .«control_starts») (a .t2 .«control_stops»))) (upTo (a .t2 .controls))) (c1 .first-strange .ensures)
     (c .before .k .given .1) in
     let w = firstBad-upTo-within (controlsSame (controlIn (a .t1 .nodes) (a .t1 .begins) (a .t1 .ends))
-    (controlIn (a .t2 .nodes) (a .t2 .starts) (a .t2 .stops))) (a .t2 .controls) (c .before .k .given .0 .0) e in
+    (controlIn (a .t2 .«control_nodes») (a .t2 .«control_starts») (a .t2 .«control_stops»))) (a .t2 .controls) (c .before .k .given .0 .0) e in
     omega (arith, w, start .pre .1)
 
 returns-2 : tie.Need-returns-2
@@ -42,8 +42,8 @@ returns-2 c =
     let c1 = c .before .before .before .before in
     let c2 = c1 .before .before .before .before .before .before .before .before .before in
     let a = c2 .before .before .before .before .before .before .args in
-    strange-control (a .t2 .task) (a .t2 .release) (a .t2 .deadline) (a .t2 .frames) (timeIn (a .t2 .time)) (a .t2 .nodes)
-    (a .t2 .starts) (a .t2 .stops) (a .t2 .controls) (boundsOn (a .t2)) (a .t1) (c2 .before .header-right .ensures)
+    strange-control (a .t2 .tasks) (a .t2 .releases) (a .t2 .deadlines) (a .t2 .frames) (timeIn (a .t2 .times)) (a .t2 .«control_nodes»)
+    (a .t2 .«control_starts») (a .t2 .«control_stops») (a .t2 .controls) (boundsOn (a .t2)) (a .t1) (c2 .before .header-right .ensures)
     (not-false _ (c2 .if1 .left)) (c1 .first-strange .ensures) (c .before .before .k .given .1) (c .refused2 .ensures)
 
 by-rows-requires : tie.Need-by-rows-requires
@@ -57,13 +57,13 @@ by-rows-requires c κs =
       (
         omega (
           arith,
-          control-count (a .t2 .task) (a .t2 .release) (a .t2 .deadline) (a .t2 .frames)
-              (timeIn (a .t2 .time)) (a .t2 .nodes) (a .t2 .starts) (a .t2 .stops) (a .t2 .controls) (boundsOn (a .t2)) (a .t1)
+          control-count (a .t2 .tasks) (a .t2 .releases) (a .t2 .deadlines) (a .t2 .frames)
+              (timeIn (a .t2 .times)) (a .t2 .«control_nodes») (a .t2 .«control_starts») (a .t2 .«control_stops») (a .t2 .controls) (boundsOn (a .t2)) (a .t1)
               (c2 .header-right .ensures) (not-false _ (c1 .if1 .left)),
           start .pre .1,
         ),
-        row-count (a .t2 .task) (a .t2 .release)
-            (a .t2 .deadline) (a .t2 .frames) (timeIn (a .t2 .time)) (a .t2 .nodes) (a .t2 .starts) (a .t2 .stops) (a .t2 .controls)
+        row-count (a .t2 .tasks) (a .t2 .releases)
+            (a .t2 .deadlines) (a .t2 .frames) (timeIn (a .t2 .times)) (a .t2 .«control_nodes») (a .t2 .«control_starts») (a .t2 .«control_stops») (a .t2 .controls)
             (boundsOn (a .t2)) (a .t1) (c2 .header-right .ensures) (not-false _ (c1 .if1 .left)),
       ),
     )
@@ -74,8 +74,8 @@ returns-3 c =
     let c1 = c .before .before .before .before .before .before in
     let c2 = c1 .before .before .before .before .before .before .before .before .before .before .before in
     let a = c2 .before .before .before .before .before .before .args in
-    same-controls (a .t2 .task) (a .t2 .release) (a .t2 .deadline) (a .t2 .frames) (timeIn (a .t2 .time)) (a .t2 .nodes)
-    (a .t2 .starts) (a .t2 .stops) (a .t2 .controls) (boundsOn (a .t2)) (a .t1) (c2 .before .header-right .ensures)
+    same-controls (a .t2 .tasks) (a .t2 .releases) (a .t2 .deadlines) (a .t2 .frames) (timeIn (a .t2 .times)) (a .t2 .«control_nodes»)
+    (a .t2 .«control_starts») (a .t2 .«control_stops») (a .t2 .controls) (boundsOn (a .t2)) (a .t1) (c2 .before .header-right .ensures)
     (not-false _ (c2 .if1 .left)) (c1 .before .before .first-strange .ensures) (c1 .enum-told .given .1) (c .by-rows .ensures)
 
 pub judge-spec : {M : Type 1} → statement M
