@@ -99,7 +99,7 @@ impl Refusal {
         })
     }
 
-    /// Document 01's number.
+    /// The refusal's number, as in docs/RULES.md.
     pub fn number(&self) -> u32 {
         match self {
             Refusal::BadRecords { .. } => 1,
@@ -132,7 +132,7 @@ impl Refusal {
         }
     }
 
-    /// Document 01's place.
+    /// The refusal's place, as in docs/RULES.md.
     pub fn place(&self) -> u64 {
         match *self {
             Refusal::BadRecords { offset } | Refusal::BadTableRecords { offset } => offset,

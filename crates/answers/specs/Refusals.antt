@@ -1,4 +1,4 @@
--- Document 01, "Refusal numbers", the checker's table and "The played station": the paper's number and place of each case.
+-- docs/RULES.md, sections 6, 7 and 8: the number and the place of each refusal.
 use Prim.Native.Nat.{ℕ}
 use Rattle.laws.specs.Res.{Res, ok, refuse}
 use Rattle.rules.specs.Limits.{mostFrames}
@@ -35,7 +35,7 @@ use Rattle.answers.specs.declared.Refusal.the-variants.{
   ChangeNotAllowed,
 }
 
--- the number of each refusal, with the column "When" of its row
+-- the number of each refusal, with what it refuses
 abbrev pub numberOf : Refusal → ℕ
 numberOf (BadRecords _) = 1  -- bytes break the record rules for a plan
 numberOf (BadCount _) = 2  -- a count of things is outside its range
@@ -65,7 +65,7 @@ numberOf (ResultTooLarge _) = 42  -- a result that needs more bytes than the mes
 numberOf (ResultOverdue _) = 43  -- w ticks gone without a result
 numberOf (ChangeNotAllowed _) = 44  -- a mode of another module, or a change at the wrong instant
 
--- the place of each refusal, as the column "Place" and the text under the tables say
+-- the place of each refusal
 abbrev pub placeOf : Refusal → ℕ
 placeOf (BadRecords offset) = offset .0
 placeOf (BadCount kind) = kind

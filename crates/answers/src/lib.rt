@@ -1,4 +1,4 @@
-// Every refusal of document 01 as one enum, each case with its place in the kind of number that the place is.
+// Every refusal of docs/RULES.md as one enum, each case with its place in the kind of number that the place is.
 ghost use mathlib.Core.Path.{_≡_};
 ghost use Rattle.answers.specs.Refusals.{numberOf, placeOf};
 use units::ByteCount;

@@ -55,7 +55,7 @@ module _ (b : rules.Begun) where
   abbrev k : Kept
   k = b .kept
 
-  -- "keeps its own copy of what it needs"
+  -- what is kept is the rules' (rule 8.2)
   pub same-kept : SameKept (keptOf (stationLaid b)) k
   unfolding stationLaid laid keptLaid keptOf keptBy
   same-kept =
@@ -108,7 +108,7 @@ module _ (b : rules.Begun) where
   unfolding stationLaid
   sized-begun = sized-laid (keptLaid k) sized-kept (b .state)
 
-  -- "landed and shown, all zero; each task has an out-box, zero"
+  -- and so is the state before the first tick (rule 8.4)
   pub same-state : Agree (stateOf (stationLaid b)) (b .state)
   unfolding stationLaid
   same-state = laid-agrees (keptLaid k) sized-kept (b .state)

@@ -1,4 +1,4 @@
--- "A refused beginning returns a station not begun, all zero, whose every tick gives 40 at 0": by the contracts of `begin` and `tick`.
+-- Rule 8.3, by the contracts of `begin` and `tick`: what a refused beginning returns is zero, and each of its ticks gives 40 at 0.
 use mathlib.Core.Path.{_≡_, refl, sym, ap, _∙_}
 use mathlib.Core.List.{List}
 use Rattle.laws.specs.Res.{Res, ok, refuse}

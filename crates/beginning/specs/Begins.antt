@@ -15,7 +15,7 @@ use Rattle.answers.specs.Refusals.{heard}
 unfoldable pub runLaid : Kept → ℕ → ℕ
 runLaid k j = k .run (j / 32) (j % 32)
 
--- "keeps its own copy of what it needs": each thing at the place of its number, and nothing played
+-- Rule 8.2, what is kept: each thing at the place of its number, and nothing played.
 unfoldable pub keptLaid : Kept → Station
 keptLaid k =
     record {
@@ -62,7 +62,7 @@ abbrev pub verdict : Res rules.Begun → Res (Unit {0})
 verdict (ok b) = ok tt
 verdict (refuse n p) = refuse n p
 
--- "a refused beginning returns a station not begun, all zero"
+-- Rule 8.3: a refused beginning returns a station not begun.
 abbrev pub stationFor : Res rules.Begun → Station
 stationFor (ok b) = stationLaid b
 stationFor (refuse n p) = notBegun

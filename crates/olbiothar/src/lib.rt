@@ -1,4 +1,4 @@
-// The library for C and Rust: what document 01 asks for, on byte slices, frame rows and numbers.
+// The library for C and Rust: make, check, begin and tick of docs/RULES.md, on byte slices, frame rows and numbers.
 // No function has a precondition; an answer is a number and a place, for C has no enums that carry values.
 // A tick changes a lent station in place. The prover's walk covers no function over a reference to a struct, so `olbiothar_tick` is thin:
 // covered functions do all the work, and it stores what they give.

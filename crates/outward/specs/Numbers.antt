@@ -31,7 +31,7 @@ givenAt results flags t = givenFor (getD flags t 0) (getD results t 0)
 unfoldable pub changeAt : List ℕ → List ℕ → ℕ → Change
 changeAt modes flags m = changeFor (getD flags m 0) (getD modes m 0)
 
--- "for each of 32 task places .. and for each of 16 module places"
+-- Rule 8.5: by task place, and by module place.
 unfoldable pub givensFor : List ℕ → List ℕ → List Given
 givensFor results flags = stores (replicate 32 given.Nothing) (givenAt results flags) 32
 

@@ -1,4 +1,4 @@
--- "A task twice in one mode": a pair that is met, a pair that is not, and an invocation that no earlier one repeats.
+-- Rule 6.5.7: a pair that is met, a pair that is not, and an invocation that no earlier one repeats.
 use mathlib.Core.Path.{_≡_, sym, ap, _∙_}
 use mathlib.Core.Bool.{Bool, true, false, not}
 use mathlib.Core.List.{List, map}

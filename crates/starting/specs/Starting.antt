@@ -20,7 +20,7 @@ use Rattle.answers.specs.declared.Verdict.{Verdict}
 use Rattle.answers.specs.declared.Verdict.the-variants.{Fine, Refused}
 use Rattle.starting.specs.declared.Begun.{Begun}
 
--- "a module's holds no mode of its own, or a later one holds anything"
+-- Rule 8.40: a module's place holds a mode of its own, a place behind the modules nothing.
 abbrev pub holdsOwn : ℕ → ℕ → List ℕ → ℕ → Option ℕ → Bool
 holdsOwn modules modes homes m none = not (ltb m modules)
 holdsOwn modules modes homes m (some μ) = ltb m modules && (ltb μ modes && eqb (getD homes μ 0) m)
@@ -28,7 +28,7 @@ holdsOwn modules modes homes m (some μ) = ltb m modules && (ltb μ modes && eqb
 unfoldable pub startTest : List Change → ℕ → ℕ → List ℕ → ℕ → Bool
 startTest starting modules modes homes m = holdsOwn modules modes homes m (changeAt starting m)
 
--- "of 16 starting places"
+-- the lowest starting place at fault
 unfoldable pub wrongStart : Station → List Change → Option ℕ
 wrongStart kept starting =
     firstBad (startTest starting (kept .modules .count) (kept .modes .count) (kept .modes .homes)) (upTo 16)

@@ -1,4 +1,4 @@
--- What a tick answers: "which refusal or row it is, with its data, beside the state".
+-- Rule 8.18, what a tick answers: a refusal, or the row that starts, and the station beside it.
 use mathlib.Core.Bool.{Bool, true, false}
 use mathlib.Core.Path.{_≡_}
 use Rattle.laws.specs.Res.{Res, ok, refuse}

@@ -18,7 +18,7 @@ use Rattle.stationrefusals.specs.declared.Controls.{Controls}
 use Rattle.stationrefusals.specs.declared.Play.{Play}
 use Rattle.station.specs.declared.Station.{Station}
 
--- "It keeps its own copy of what it needs"
+-- Rule 8.2: what a station keeps.
 unfoldable pub keptBy : Modules → Modes → Tasks → Controls → ℕ → Ticks → List ℕ → List ℕ → List ℕ → List ℕ → List ℕ → Kept
 keptBy modules modes tasks controls datas period runs carries deadlines starts stops =
     record {
@@ -115,7 +115,7 @@ laid st s =
       nodes = stores (st .nodes) (nodeLaid (st .nodes) s) 8;
     }
 
--- "a station not begun, all zero"
+-- Rule 8.3: a station not begun.
 unfoldable pub notBegun : Station
 notBegun =
     record {

@@ -45,7 +45,7 @@ abbrev pub allowedTest : List Change → ℕ → ℕ → List ℕ → List ℕ �
 allowedTest changes modules modes homes switches running ages m =
     allows modules modes homes (getD switches (getD running m 0) 0) (getD ages m 0) m (changeAt changes m)
 
--- "Refusals, in order, lowest task or module first as place"
+-- Rule 8.9: in order of number, each at its lowest task.
 abbrev pub resultsJudged : List Given → ℕ → List ℕ → List ℕ → List ℕ → List ℕ → List ℕ → List ℕ → List ℕ → Res (Unit {0})
 resultsJudged results tasks runs modes ages homes givens sizes worsts = do
   at 41 0 (firstBad (awaitedTest results tasks runs modes ages homes givens worsts) (upTo 32))

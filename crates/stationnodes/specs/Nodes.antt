@@ -11,7 +11,7 @@ use Rattle.stationnodes.specs.declared.Node.{Node}
 use Rattle.stationnodes.specs.declared.Landing.{Landing}
 use Rattle.stationnodes.specs.declared.Landing.the-variants.{Nothing, Value}
 
--- a node before the first tick: "landed and shown, all zero"
+-- a node before the first tick (rule 8.4)
 abbrev pub zeroNode : Node
 zeroNode = record { landed = replicate 32 0; shown = replicate 32 0 }
 
@@ -19,7 +19,7 @@ zeroNode = record { landed = replicate 32 0; shown = replicate 32 0 }
 abbrev pub noNode : Node
 noNode = record { landed = []; shown = [] }
 
--- (b) "a frame stopping now .., an empty one landing nothing"
+-- (b), rule 8.12: what the frame that stops lands, nothing where it is empty
 abbrev pub landingOf : List ℕ → List ℕ → List ℕ → Bool → ℕ → Option ℕ → Landing
 landingOf tasks homes nodes full load none = Nothing
 landingOf tasks homes nodes full load (some r) =

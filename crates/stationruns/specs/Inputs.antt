@@ -9,17 +9,17 @@ use Rattle.stationruns.specs.declared.Given.the-variants as given
 use Rattle.stationruns.specs.declared.Change.{Change}
 use Rattle.stationruns.specs.declared.Change.the-variants as change
 
--- "nothing or one 64-bit unsigned result"
+-- Rule 8.5: what a task's place is given, a result or nothing.
 abbrev pub resultOf : Given → Option ℕ
 resultOf given.Nothing = none
 resultOf (given.Result v) = some v
 
--- "nothing or a mode number"
+-- Rule 8.5: what a module's place is given, a mode or nothing.
 abbrev pub changeOf : Change → Option ℕ
 changeOf change.Nothing = none
 changeOf (change.To μ) = some (μ .0)
 
--- "for each of 32 task places .. and for each of 16 module places"
+-- the same by place
 abbrev pub resultAt : List Given → ℕ → Option ℕ
 resultAt results t = resultOf (getD results t given.Nothing)
 

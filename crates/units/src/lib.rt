@@ -1,5 +1,5 @@
-// The kinds of number that must never be mixed: a tuple struct for each, with its limit where document 01 sets one.
-// Each limit has a function whose contract says document 01's number, so that no other constant is proved.
+// The sorts of number that are never mixed (rule 1.3): a tuple struct for each, with its limit where section 3 of docs/RULES.md sets one.
+// Each limit has a function whose contract says the number, so that no other constant is proved.
 ghost use mathlib.Core.Path.{_≡_};
 
 // Time, in ticks of one microsecond.
