@@ -102,8 +102,8 @@ rows-laid f l d n e =
     (λ k w. let v : k < n = rw sized at w in getD-laid f l d n k e v ∙ sym (table-at n (λ k. f (getD l k d)) k 0 v))
 
 station-made : {modules : Modules} {modes : Modes} {tasks : Tasks} {controls controls′ : Controls} {period period′ datas : ℕ}
-    {runs runs′ carries carries′ deadlines deadlines′ starts starts′ stops stops′ : List ℕ} {play : Play} {nodes : List Node}
-    → controls ≡ controls′ → period ≡ period′ → runs ≡ runs′ → carries ≡ carries′ → deadlines ≡ deadlines′ → starts ≡ starts′ → stops ≡ stops′
+    {runs runs′ rowTasks rowTasks′ rowDeadlines rowDeadlines′ rowStarts rowStarts′ rowStops rowStops′ : List ℕ} {play : Play} {nodes : List Node}
+    → controls ≡ controls′ → period ≡ period′ → runs ≡ runs′ → rowTasks ≡ rowTasks′ → rowDeadlines ≡ rowDeadlines′ → rowStarts ≡ rowStarts′ → rowStops ≡ rowStops′
     → _≡_ {A = Station}
     (record {
       modules = modules;
@@ -113,10 +113,10 @@ station-made : {modules : Modules} {modes : Modes} {tasks : Tasks} {controls con
       period = record { 0 = period };
       datas = datas;
       runs = runs;
-      carries = carries;
-      deadlines = deadlines;
-      starts = starts;
-      stops = stops;
+      «row_tasks» = rowTasks;
+      «row_deadlines» = rowDeadlines;
+      «row_starts» = rowStarts;
+      «row_stops» = rowStops;
       play = play;
       nodes = nodes;
     })
@@ -128,10 +128,10 @@ station-made : {modules : Modules} {modes : Modes} {tasks : Tasks} {controls con
       period = record { 0 = period′ };
       datas = datas;
       runs = runs′;
-      carries = carries′;
-      deadlines = deadlines′;
-      starts = starts′;
-      stops = stops′;
+      «row_tasks» = rowTasks′;
+      «row_deadlines» = rowDeadlines′;
+      «row_starts» = rowStarts′;
+      «row_stops» = rowStops′;
       play = play;
       nodes = nodes;
     })

@@ -1,9 +1,10 @@
 -- What a beginning answers, and the station that it leaves.
 use mathlib.Core.Path.{_≡_}
-use Prim.Native.Nat.{ℕ, _/_, _%_}
+use Prim.Native.Nat.{ℕ, _*_, _/_, _%_}
 use Rattle.laws.specs.Lists.{tab}
 use Rattle.laws.specs.Res.{Res, ok, refuse}
 use Rattle.places.specs.Flags.{flagBytes}
+use Rattle.rules.specs.Limits.{mostNodes, mostModules, mostModes, mostTasks, mostFrames}
 use Rattle.rules.specs.Station as rules
 use Rattle.rules.specs.Station.{Kept}
 use Rattle.station.specs.Memory.{laid, notBegun}
@@ -11,44 +12,44 @@ use Rattle.station.specs.declared.Station.{Station}
 use Rattle.starting.specs.declared.Begun.{Begun}
 use Rattle.answers.specs.Refusals.{heard}
 
--- the period of mode j / 32 and task j % 32
+-- the period of mode j / mostTasks and task j % mostTasks
 unfoldable pub runLaid : Kept → ℕ → ℕ
-runLaid k j = k .run (j / 32) (j % 32)
+runLaid k j = k .run (j / mostTasks) (j % mostTasks)
 
 -- Rule 8.2, what is kept: each thing at the place of its number, and nothing played.
 unfoldable pub keptLaid : Kept → Station
 keptLaid k =
     record {
-      modules = record { count = k .modules; sites = tab (k .moduleNode) 0 16; sending = tab (flagBytes (k .sends)) 0 16 };
+      modules = record { count = k .modules; sites = tab (k .moduleNode) 0 mostModules; sending = tab (flagBytes (k .sends)) 0 mostModules };
       modes =
           record {
             count = k .modes;
-            homes = tab (k .modeHome) 0 32;
-            periods = tab (k .modePeriod) 0 32;
-            switches = tab (k .modeSwitch) 0 32;
+            homes = tab (k .modeHome) 0 mostModes;
+            periods = tab (k .modePeriod) 0 mostModes;
+            switches = tab (k .modeSwitch) 0 mostModes;
           };
       tasks =
           record {
             count = k .tasks;
-            homes = tab (k .taskHome) 0 32;
-            sizes = tab (k .taskSize) 0 32;
-            worsts = tab (k .taskWorst) 0 32;
-            bus = tab (flagBytes (k .isBus)) 0 32;
+            homes = tab (k .taskHome) 0 mostTasks;
+            sizes = tab (k .taskSize) 0 mostTasks;
+            worsts = tab (k .taskWorst) 0 mostTasks;
+            bus = tab (flagBytes (k .isBus)) 0 mostTasks;
           };
       controls =
           record {
             count = k .controls;
-            nodes = tab (k .controlNode) 0 8;
-            starts = tab (k .controlStart) 0 8;
-            stops = tab (k .controlStop) 0 8;
+            nodes = tab (k .controlNode) 0 mostNodes;
+            starts = tab (k .controlStart) 0 mostNodes;
+            stops = tab (k .controlStop) 0 mostNodes;
           };
       period = record { 0 = k .period };
       datas = k .datas;
-      runs = tab (runLaid k) 0 1024;
-      carries = tab (k .dataTask) 0 256;
-      deadlines = tab (k .dataDeadline) 0 256;
-      starts = tab (k .dataStart) 0 256;
-      stops = tab (k .dataStop) 0 256;
+      runs = tab (runLaid k) 0 (mostModes * mostTasks);
+      «row_tasks» = tab (k .dataTask) 0 mostFrames;
+      «row_deadlines» = tab (k .dataDeadline) 0 mostFrames;
+      «row_starts» = tab (k .dataStart) 0 mostFrames;
+      «row_stops» = tab (k .dataStop) 0 mostFrames;
       play = notBegun .play;
       nodes = notBegun .nodes;
     }

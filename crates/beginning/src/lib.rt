@@ -11,9 +11,10 @@ use starting::refused;
 use stationruns::Change;
 use tableread::read_table;
 use units::Frame;
+use units::ModuleNo;
 
 // A station begins only with a passed table, else the checker's number is given; and with one mode of its own for each module.
-pub fn begin(plan: &[u8], table: &[u8], starting: [Change; 16]) -> Begun
+pub fn begin(plan: &[u8], table: &[u8], starting: [Change; ModuleNo::MOST]) -> Begun
     ensures { λ r. ⌜ Begins r (rules.begin (now (plan .entry)) (now (table .entry)) (changeAt starting)) ⌝ }
 {
     let checked = check(plan, table, Frame::MOST);

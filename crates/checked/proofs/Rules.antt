@@ -15,13 +15,13 @@ use Rattle.rules.proofs.CheckerExact.{lent-enough, lent-short}
 use Rattle.checked.specs.Checking.{verdict, rowsOf, lentPassed}
 
 module _ (plan table : List ℕ) (lent : ℕ) where
-  pub enough-is : 256 ≤ lent → lentPassed plan table lent ≡ checkFiles plan table
-  unfolding lentPassed
-  enough-is h = rw (le-leb 256 lent h)
-
   pub short-is : lent < 256 → lentPassed plan table lent ≡ refuse 19 256
   unfolding lentPassed
   short-is h = rw (lt-leb 256 lent h)
+
+  pub enough-is : 256 ≤ lent → lentPassed plan table lent ≡ checkFiles plan table
+  unfolding lentPassed
+  enough-is h = rw (le-leb 256 lent h)
 
 outcome-answer : (rule : Res rules.Passed) (rows : List FrameRow) → checkOutcome rule rows .answer ≡ verdict rule
 outcome-answer (ok c) rows = refl

@@ -103,7 +103,8 @@ function k = record {
   lifetimes = 1;
   outlives = [];
   params = 2;
-  locals = local tyUnit valueLocal ∷ local slice valueLocal ∷ local array valueLocal ∷ local array memorySlot ∷ local (tyInt w64) valueLocal ∷ local (tyInt w64) valueLocal ∷ local (tyInt w64) valueLocal ∷ local tyBool valueLocal ∷ local T′.mir valueLocal ∷ local (tyInt w64) valueLocal ∷ local tyPtr valueLocal ∷ local T′.mir valueLocal ∷ local (tyInt w64) valueLocal ∷ local (tyInt w64) valueLocal ∷ local tyPtr valueLocal ∷ local tyPtr valueLocal ∷ local T′.mir valueLocal ∷ local (tyInt w64) valueLocal ∷ local tyPtr valueLocal ∷ [];
+  locals = local tyUnit valueLocal ∷ local slice valueLocal ∷ local array valueLocal ∷ local array memorySlot ∷ local (tyInt w64) valueLocal ∷ local (tyInt w64) valueLocal ∷ local (tyInt w64) valueLocal ∷ local tyBool valueLocal ∷ local T′.mir valueLocal ∷ local (tyInt w64) valueLocal ∷ local tyPtr valueLocal ∷
+      local T′.mir valueLocal ∷ local (tyInt w64) valueLocal ∷ local (tyInt w64) valueLocal ∷ local tyPtr valueLocal ∷ local tyPtr valueLocal ∷ local T′.mir valueLocal ∷ local (tyInt w64) valueLocal ∷ local tyPtr valueLocal ∷ [];
   body = seq (assign (place 3 []) (rvOpd (cp (place 2 [])))) (seq (assign (place 6 []) (rvOpd (cp (place 1 (field 1 ∷ []))))) (seq (call #end (cp (place 6 []) ∷ []) (place 4 [])) (seq (assign (place 5 []) (rvOpd (int w64 0))) (seq (block (loop (turn k))) rest))));
 }
 
@@ -195,7 +196,9 @@ module _ {M : Type 1} (𝓤 : URA M) (H : Heap 𝓤) (A : Atoms 𝓤) (W : Given
             move ! (0 ∷ 2 ∷ 3 ∷ 4 ∷ []) $ closes-slice ! tt Row ys ws same b o $ move ! (3 ∷ []) $ array-shuts ! 257 ts l₃ many (λ _.
             assigns ! (of-opd ! (unit-lit !)) (from ! (stop !)) (init ! 39 refl (tt, tt)) $
             returns ! (look ! 39 refl) $ forget ! 0 refl $ forget ! 26 refl $ forget ! 28 refl $ forget ! 30 refl $ forget ! 32 refl $ forget ! 35 refl $ forget ! 37 refl $ forget ! 39 refl $
-            move ! (39 ∷ 40 ∷ []) $ free1 ! $ move ! (37 ∷ 38 ∷ []) $ free1 ! $ move ! (35 ∷ 36 ∷ []) $ free1 ! $ move ! (0 ∷ 34 ∷ []) $ free1 ! $ move ! (31 ∷ 32 ∷ []) $ free1 ! $ move ! (29 ∷ 30 ∷ []) $ free1 ! $ move ! (27 ∷ 28 ∷ []) $ free1 ! $ move ! (25 ∷ 26 ∷ []) $ free1 ! $ move ! (23 ∷ 24 ∷ []) $ free1 ! $ move ! (21 ∷ 22 ∷ []) $ free1 ! $ move ! (19 ∷ 20 ∷ []) $ free1 ! $ move ! (17 ∷ 18 ∷ []) $ free1 ! $ move ! (15 ∷ 16 ∷ []) $ free1 ! $ move ! (13 ∷ 14 ∷ []) $ free1 ! $ move ! (11 ∷ 12 ∷ []) $ free1 ! $ move ! (9 ∷ 10 ∷ []) $ free1 ! $ move ! (7 ∷ 8 ∷ []) $ free1 ! $ move ! (5 ∷ 6 ∷ []) $ free1 ! $ move ! (3 ∷ 4 ∷ []) $ free1 ! $ free0 ! $
+            move ! (39 ∷ 40 ∷ []) $ free1 ! $ move ! (37 ∷ 38 ∷ []) $ free1 ! $ move ! (35 ∷ 36 ∷ []) $ free1 ! $ move ! (0 ∷ 34 ∷ []) $ free1 ! $ move ! (31 ∷ 32 ∷ []) $ free1 ! $ move ! (29 ∷ 30 ∷ []) $ free1 ! $ move ! (27 ∷ 28 ∷ []) $ free1 ! $ move ! (25 ∷ 26 ∷ []) $ free1 ! $ move ! (23 ∷ 24 ∷ []) $ free1 ! $
+            move ! (21 ∷ 22 ∷ []) $ free1 ! $ move ! (19 ∷ 20 ∷ []) $ free1 ! $ move ! (17 ∷ 18 ∷ []) $ free1 ! $ move ! (15 ∷ 16 ∷ []) $ free1 ! $ move ! (13 ∷ 14 ∷ []) $ free1 ! $ move ! (11 ∷ 12 ∷ []) $ free1 ! $ move ! (9 ∷ 10 ∷ []) $ free1 ! $ move ! (7 ∷ 8 ∷ []) $ free1 ! $ move ! (5 ∷ 6 ∷ []) $ free1 ! $
+            move ! (3 ∷ 4 ∷ []) $ free1 ! $ free0 ! $
             by ! (exits ws same (all-passed over))))
           where
             i : ℕ

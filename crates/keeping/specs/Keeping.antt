@@ -1,9 +1,10 @@
 -- What a station keeps of a plan and of a table in memory, in the station's arrays.
 use mathlib.Core.List.{List}
 use lib.ListN.{length}
-use Prim.Native.Nat.{ℕ, _/_, _%_}
+use Prim.Native.Nat.{ℕ, _*_, _/_, _%_}
 use Rattle.laws.specs.Lists.{tab}
 use Rattle.places.specs.Flags.{flagBytes}
+use Rattle.rules.specs.Limits.{mostModules, mostModes, mostTasks}
 use Rattle.rules.specs.Plan.{Plan, Invocation, theMode, theTask}
 use Rattle.rules.specs.Frames.{moduleNode, isBusTask, isSending}
 use Rattle.rules.specs.Playing.{periodAmong}
@@ -36,33 +37,33 @@ taskWorst p t = theTask p t .worst
 
 unfoldable pub modulesOf : Plan → Modules
 modulesOf p =
-    record { count = length (p .modules); sites = tab (moduleNode p) 0 16; sending = tab (flagBytes (isSending p)) 0 16 }
+    record { count = length (p .modules); sites = tab (moduleNode p) 0 mostModules; sending = tab (flagBytes (isSending p)) 0 mostModules }
 
 unfoldable pub modesOf : Plan → Modes
 modesOf p =
     record {
       count = length (p .modes);
-      homes = tab (homeOf p) 0 32;
-      periods = tab (periodOf p) 0 32;
-      switches = tab (switchOf p) 0 32;
+      homes = tab (homeOf p) 0 mostModes;
+      periods = tab (periodOf p) 0 mostModes;
+      switches = tab (switchOf p) 0 mostModes;
     }
 
 unfoldable pub tasksOf : Plan → Tasks
 tasksOf p =
     record {
       count = length (p .tasks);
-      homes = tab (taskHome p) 0 32;
-      sizes = tab (taskSize p) 0 32;
-      worsts = tab (taskWorst p) 0 32;
-      bus = tab (flagBytes (isBusTask p)) 0 32;
+      homes = tab (taskHome p) 0 mostTasks;
+      sizes = tab (taskSize p) 0 mostTasks;
+      worsts = tab (taskWorst p) 0 mostTasks;
+      bus = tab (flagBytes (isBusTask p)) 0 mostTasks;
     }
 
--- the period of mode j / 32 and task j % 32, had the plan only these invocations; and of all its invocations
+-- the period of mode j / mostTasks and task j % mostTasks, had the plan only these invocations; and of all its invocations
 unfoldable pub runAmong : Plan → List Invocation → ℕ → ℕ
-runAmong p is j = periodAmong p is (j / 32) (j % 32)
+runAmong p is j = periodAmong p is (j / mostTasks) (j % mostTasks)
 
 unfoldable pub runsAmong : Plan → List Invocation → List ℕ
-runsAmong p is = tab (runAmong p is) 0 1024
+runsAmong p is = tab (runAmong p is) 0 (mostModes * mostTasks)
 
 unfoldable pub runsOf : Plan → List ℕ
 runsOf p = runsAmong p (p .invocations)
@@ -82,10 +83,10 @@ keptFrom p t =
       period = t .header .period;
       datas = t .rows;
       runs = runsOf p;
-      carries = t .tasks;
-      deadlines = t .deadlines;
-      starts = t .starts;
-      stops = t .stops;
+      «row_tasks» = t .tasks;
+      «row_deadlines» = t .deadlines;
+      «row_starts» = t .starts;
+      «row_stops» = t .stops;
       play = notBegun .play;
       nodes = notBegun .nodes;
     }

@@ -2,6 +2,7 @@
 ghost use mathlib.Core.Path.{_≡_};
 ghost use Prim.Native.Nat.{_≤_};
 ghost use Rattle.rules.specs.Frames.{isBusTask, isSending};
+ghost use Rattle.rules.specs.Limits.{mostFrames, mostNodes};
 ghost use Rattle.rules.proofs.PlanKept.{PlanKept};
 ghost use Rattle.plan.specs.Memory.{seen};
 ghost use Rattle.bus.specs.Senders.{byNumber};
@@ -23,16 +24,19 @@ use stationrefusals::Modes;
 use stationrefusals::Modules;
 use stationrefusals::Tasks;
 use tableread::Table;
+use units::ModeNo;
+use units::ModuleNo;
+use units::TaskNo;
 use units::Ticks;
 
 fn modules(p: Plan, senders: [bool; 256]) -> Modules
     requires { ⌜ senders ≡ byNumber (isSending (seen p)) ⌝ }
     ensures { λ r. ⌜ r ≡ modulesOf (seen p) ⌝ }
 {
-    let mut sites: [u8; 16] = [0; 16];
-    let mut sending: [u8; 16] = [0; 16];
+    let mut sites: [u8; ModuleNo::MOST] = [0; ModuleNo::MOST];
+    let mut sending: [u8; ModuleNo::MOST] = [0; ModuleNo::MOST];
     let mut m = 0;
-    while m < 16 {
+    while m < ModuleNo::MOST {
         let module = module_at(p, m);
         sites[m] = module.node.0;
         sending[m] = flag_byte(senders[m]);
@@ -48,11 +52,11 @@ fn modules(p: Plan, senders: [bool; 256]) -> Modules
 fn modes(p: Plan) -> Modes
     ensures { λ r. ⌜ r ≡ modesOf (seen p) ⌝ }
 {
-    let mut homes: [u8; 32] = [0; 32];
-    let mut periods: [u32; 32] = [0; 32];
-    let mut switches: [u32; 32] = [0; 32];
+    let mut homes: [u8; ModeNo::MOST] = [0; ModeNo::MOST];
+    let mut periods: [u32; ModeNo::MOST] = [0; ModeNo::MOST];
+    let mut switches: [u32; ModeNo::MOST] = [0; ModeNo::MOST];
     let mut m = 0;
-    while m < 32 {
+    while m < ModeNo::MOST {
         let mode = mode_at(p, m);
         homes[m] = mode.home.0;
         periods[m] = mode.period.0;
@@ -72,12 +76,12 @@ fn tasks(p: Plan, buses: [bool; 256]) -> Tasks
     requires { ⌜ buses ≡ byNumber (isBusTask (seen p)) ⌝ }
     ensures { λ r. ⌜ r ≡ tasksOf (seen p) ⌝ }
 {
-    let mut homes: [u8; 32] = [0; 32];
-    let mut sizes: [u8; 32] = [0; 32];
-    let mut worsts: [u32; 32] = [0; 32];
-    let mut bus: [u8; 32] = [0; 32];
+    let mut homes: [u8; TaskNo::MOST] = [0; TaskNo::MOST];
+    let mut sizes: [u8; TaskNo::MOST] = [0; TaskNo::MOST];
+    let mut worsts: [u32; TaskNo::MOST] = [0; TaskNo::MOST];
+    let mut bus: [u8; TaskNo::MOST] = [0; TaskNo::MOST];
     let mut t = 0;
-    while t < 32 {
+    while t < TaskNo::MOST {
         let task = task_at(p, t);
         homes[t] = task.home.0;
         sizes[t] = task.size.0 as u8;
@@ -95,23 +99,23 @@ fn tasks(p: Plan, buses: [bool; 256]) -> Tasks
 }
 
 // The periods by mode and task. The last invocation is stored first, so that of two the first would count, as in the rules.
-fn runs(p: Plan) -> [u32; 1024]
+fn runs(p: Plan) -> [u32; ModeNo::MOST * TaskNo::MOST]
     requires { ⌜ PlanKept (seen p) ⌝ }
     ensures { λ r. ⌜ r ≡ runsOf (seen p) ⌝ }
 {
-    let mut runs: [u32; 1024] = [0; 1024];
+    let mut runs: [u32; ModeNo::MOST * TaskNo::MOST] = [0; ModeNo::MOST * TaskNo::MOST];
     let mut left = invocation_count(p);
     while 0 < left {
         left -= 1;
         let run = invocation_at(p, left);
         let mode = mode_at(p, run.mode.place());
-        runs[run.mode.place() * 32 + run.task.place()] = mode.period.0 / run.rate;
+        runs[run.mode.place() * TaskNo::MOST + run.task.place()] = mode.period.0 / run.rate;
     }
     runs
 }
 
 fn controls(t: Table) -> Controls
-    requires { ⌜ t .control ≤ 8 ⌝ }
+    requires { ⌜ t .control ≤ mostNodes ⌝ }
     ensures { λ r. ⌜ r ≡ controlsOf t ⌝ }
 {
     let nodes = t.nodes;
@@ -128,17 +132,17 @@ fn controls(t: Table) -> Controls
 // The station with all that it keeps, and nothing played.
 pub fn kept(p: Plan, t: Table) -> Station
     requires { ⌜ PlanKept (seen p) ⌝ }
-    requires { ⌜ (t .control ≤ 8) × (t .rows ≤ 256) ⌝ }
+    requires { ⌜ (t .control ≤ mostNodes) × (t .rows ≤ mostFrames) ⌝ }
     ensures { λ r. ⌜ r ≡ keptFrom (seen p) t ⌝ }
 {
     let senders = Senders::of(p);
     let sending = senders.modules;
     let buses = senders.tasks;
     let runs = runs(p);
-    let carries = t.tasks;
-    let deadlines = t.deadlines;
-    let starts = t.starts;
-    let stops = t.stops;
+    let row_tasks = t.tasks;
+    let row_deadlines = t.deadlines;
+    let row_starts = t.starts;
+    let row_stops = t.stops;
     let zero = Station::not_begun();
     let play = zero.play;
     let nodes = zero.nodes;
@@ -150,10 +154,10 @@ pub fn kept(p: Plan, t: Table) -> Station
         period: Ticks(t.header.period.0),
         datas: t.rows as u16,
         runs,
-        carries,
-        deadlines,
-        starts,
-        stops,
+        row_tasks,
+        row_deadlines,
+        row_starts,
+        row_stops,
         play,
         nodes,
     }

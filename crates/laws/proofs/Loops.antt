@@ -1,7 +1,7 @@
 -- Loops: the laws that carry a filling loop (`stores`) and a scan (`firstBad`). A scan's invariant is that the part
 -- already seen gives `none`; one law goes a turn further, one ends the scan, one returns the place that was met.
 use mathlib.Core.Path.{_≡_, refl, sym, ap, _∙_}
-use mathlib.Core.Bool.{Bool, true, false}
+use mathlib.Core.Bool.{Bool, true, false, cond, not}
 use mathlib.Core.List.{List, [], _∷_, _++_}
 use mathlib.Core.Option.{Option, none, some}
 use mathlib.Core.Logic.{_⊎_, inl, inr}
@@ -11,7 +11,7 @@ use native.Mathlib.Omega.{arith}
 use lib.ListN.{length, getD, set, take, length-set}
 use lib.Seq.{ext-getD, getD-take, length-take-le, set-getD, getD-set-same, getD-set-other, take-all}
 use Prim.Native.Nat.{ℕ, zero, suc, _+_, _≤_, _<_, zero-le, suc-le-suc}
-use Rattle.laws.specs.Lists.{orNext, firstBad, tab, upTo}
+use Rattle.laws.specs.Lists.{next, orNext, firstBad, firstWith, tab, upTo}
 use Rattle.laws.specs.Loops.{stores}
 use Rattle.laws.proofs.Lists.{take-more, length-tab, getD-tab, length-upTo, getD-upTo, upTo-more}
 
@@ -188,3 +188,14 @@ firstBad-places p l d = go (firstBad p l) refl
     go (some k) e =
         let b = firstBad-bad p l d k e in
         e ∙ sym (firstBad-upTo-some (λ k. p (getD l k d)) (length l) k (b .within) (b .fails) (b .before))
+
+-- ---- firstWith
+
+here-or : (b : Bool) {r s : Option ℕ} → r ≡ s → cond b (some zero) (next r) ≡ orNext (not b) s
+here-or true e = refl
+here-or false e = ap next e
+
+-- the first that passes a test is the first that fails its opposite
+pub firstWith-bad : {A : Type 0} (p : A → Bool) (l : List A) → firstWith p l ≡ firstBad (λ x. not (p x)) l
+firstWith-bad p [] = refl
+firstWith-bad p (x ∷ l) = here-or (p x) (firstWith-bad p l)

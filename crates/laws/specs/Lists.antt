@@ -1,5 +1,5 @@
 -- Lists: what the definitions of the rules are made of. Each says in a line what it gives.
-use mathlib.Core.Bool.{Bool, true, false, _&&_, _||_}
+use mathlib.Core.Bool.{Bool, true, false, cond, _&&_, _||_}
 use mathlib.Core.List.{List, [], _∷_, _++_}
 use mathlib.Core.Option.{Option, none, some}
 use Prim.Native.Nat.{ℕ, zero, suc}
@@ -39,6 +39,11 @@ module _ {A : Type 0} where
   abbrev pub firstBad : (A → Bool) → List A → Option ℕ
   firstBad p [] = none
   firstBad p (x ∷ xs) = orNext (p x) (firstBad p xs)
+
+  -- the place of the first element that passes its test
+  abbrev pub firstWith : (A → Bool) → List A → Option ℕ
+  firstWith p [] = none
+  firstWith p (x ∷ xs) = cond (p x) (some zero) (next (firstWith p xs))
 
   -- the elements one list after the other
   abbrev pub joined : List (List A) → List A

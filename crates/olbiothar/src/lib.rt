@@ -17,6 +17,8 @@ use station::nodes_turned;
 use turning::Ticked;
 use turning::turn_for;
 use units::Frame;
+use units::ModuleNo;
+use units::TaskNo;
 
 // The table of a plan, at the front of the lent bytes; its length, or refusals 19 and 1 to 13.
 #[no_mangle]
@@ -46,8 +48,8 @@ pub struct Begun {
 pub extern "C" fn olbiothar_begin(
     plan: &[u8],
     table: &[u8],
-    modes: &[u8; 16],
-    given: &[u8; 16],
+    modes: &[u8; ModuleNo::MOST],
+    given: &[u8; ModuleNo::MOST],
 ) -> Begun
     ensures { λ r. ⌜ r ≡ begunBy (begin (now (plan .entry)) (now (table .entry)) (changeAt (changesFor (now (modes .entry)) (now (given .entry))))) ⌝ }
 {
@@ -65,10 +67,10 @@ pub extern "C" fn olbiothar_begin(
 #[no_mangle]
 pub extern "C" fn olbiothar_tick(
     station: &mut Station,
-    results: &[u64; 32],
-    given: &[u8; 32],
-    modes: &[u8; 16],
-    changed: &[u8; 16],
+    results: &[u64; TaskNo::MOST],
+    given: &[u8; TaskNo::MOST],
+    modes: &[u8; ModuleNo::MOST],
+    changed: &[u8; ModuleNo::MOST],
 ) -> Ticked
     ensures { λ r. ⌜ Ticks (now (station .entry)) (now (results .entry)) (now (given .entry)) (now (modes .entry)) (now (changed .entry)) r (now (station .exit)) ⌝ }
 {
@@ -81,10 +83,10 @@ pub extern "C" fn olbiothar_tick(
         station.period,
         station.play,
         &station.runs,
-        &station.carries,
-        &station.deadlines,
-        &station.starts,
-        &station.stops,
+        &station.row_tasks,
+        &station.row_deadlines,
+        &station.row_starts,
+        &station.row_stops,
         results,
         given,
         modes,

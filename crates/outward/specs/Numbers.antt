@@ -5,6 +5,7 @@ use lib.ListN.{getD, replicate}
 use Prim.Native.Nat.{ℕ}
 use Rattle.laws.specs.Res.{ok}
 use Rattle.laws.specs.Loops.{stores}
+use Rattle.rules.specs.Limits.{mostModules, mostTasks}
 use Rattle.places.specs.Flags.{isSet}
 use Rattle.answers.specs.Refusals.{said}
 use Rattle.stationruns.specs.declared.Given.{Given}
@@ -33,10 +34,10 @@ changeAt modes flags m = changeFor (getD flags m 0) (getD modes m 0)
 
 -- Rule 8.5: by task place, and by module place.
 unfoldable pub givensFor : List ℕ → List ℕ → List Given
-givensFor results flags = stores (replicate 32 given.Nothing) (givenAt results flags) 32
+givensFor results flags = stores (replicate mostTasks given.Nothing) (givenAt results flags) mostTasks
 
 unfoldable pub changesFor : List ℕ → List ℕ → List Change
-changesFor modes flags = stores (replicate 16 change.Nothing) (changeAt modes flags) 16
+changesFor modes flags = stores (replicate mostModules change.Nothing) (changeAt modes flags) mostModules
 
 abbrev pub rowFor : ℕ → ℕ → ℕ → ℕ → ℕ → Row
 rowFor kind sender deadline start stop =

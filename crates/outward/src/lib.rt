@@ -11,6 +11,8 @@ use stationmoves::Said;
 use stationruns::Change;
 use stationruns::Given;
 use units::ModeNo;
+use units::ModuleNo;
+use units::TaskNo;
 
 // Number 0: not refused; the place is then what was made, or 0. Else the refusal's number and its place.
 #[repr(C)]
@@ -71,34 +73,40 @@ fn given_for(given: u8, result: u64) -> Given
     Given::Nothing
 }
 
-fn change_for(changed: u8, mode: u8) -> Change
-    ensures { λ r. ⌜ r ≡ changeFor changed mode ⌝ }
+fn change_for(changed: u8, mode: ModeNo) -> Change
+    ensures { λ r. ⌜ r ≡ changeFor changed (mode .0) ⌝ }
 {
     if is_set(changed) {
-        return Change::To(ModeNo(mode));
+        return Change::To(mode);
     }
     Change::Nothing
 }
 
-pub fn givens_for(results: &[u64; 32], given: &[u8; 32]) -> [Given; 32]
+pub fn givens_for(
+    results: &[u64; TaskNo::MOST],
+    given: &[u8; TaskNo::MOST],
+) -> [Given; TaskNo::MOST]
     ensures { λ r. ⌜ r ≡ givensFor (now (results .entry)) (now (given .entry)) ⌝ }
 {
-    let mut givens = [Given::Nothing; 32];
+    let mut givens = [Given::Nothing; TaskNo::MOST];
     let mut t = 0;
-    while t < 32 {
+    while t < TaskNo::MOST {
         givens[t] = given_for(given[t], results[t]);
         t += 1;
     }
     givens
 }
 
-pub fn changes_for(modes: &[u8; 16], changed: &[u8; 16]) -> [Change; 16]
+pub fn changes_for(
+    modes: &[u8; ModuleNo::MOST],
+    changed: &[u8; ModuleNo::MOST],
+) -> [Change; ModuleNo::MOST]
     ensures { λ r. ⌜ r ≡ changesFor (now (modes .entry)) (now (changed .entry)) ⌝ }
 {
-    let mut changes = [Change::Nothing; 16];
+    let mut changes = [Change::Nothing; ModuleNo::MOST];
     let mut m = 0;
-    while m < 16 {
-        changes[m] = change_for(changed[m], modes[m]);
+    while m < ModuleNo::MOST {
+        changes[m] = change_for(changed[m], ModeNo(modes[m]));
         m += 1;
     }
     changes

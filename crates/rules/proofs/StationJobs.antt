@@ -15,7 +15,7 @@ use Rattle.rules.specs.Playing.{Input, isRun, periodAmong, periodIn}
 use Rattle.rules.specs.Station.{Kept, State, Started, control, message, nothing, Ticked, Begun, keptOf, stateAtStart}
 use Rattle.rules.specs.Station.{homeNode, runPeriod, taskAge, runAge, isRunning, isAwaited, resultAwaited, resultFits}
 use Rattle.rules.specs.Station.{isLastChance, resultInTime, isModeOf, maySwitch, changeAllowed, judgedTick, outAfter}
-use Rattle.rules.specs.Station.{hasOther, rowWith, landsOn, landedAfter, isByteOf, heldAfter, endsNow, hasMessage, ownShows}
+use Rattle.rules.specs.Station.{hasTime, rowWith, landsOn, landedAfter, isByteOf, heldAfter, endsNow, hasMessage, ownShows}
 use Rattle.rules.specs.Station.{otherShows, shownAfter, modeAfter, oneOn, ageAfter, givenAfter, startingControl}
 use Rattle.rules.specs.Station.{startingData, modeByteAfter, fullAfter, loadAfter, tick, keptControl, keptData, started}
 use Rattle.rules.specs.Station.{step, startsWell, begin}
@@ -404,7 +404,7 @@ unfolding everything plan row rows earlyTable numbers truths boards at grid plac
     accepted sameRow answersRow ticks quietly act acts playedFrom modeA jobK lateTable lateJob zeroKept atTime tickAt jobs isTrue
     modeNow sinceMode periodNow runEnds resultWithin value isRun periodAmong periodIn keptOf stateAtStart homeNode runPeriod
     taskAge runAge isRunning isAwaited resultAwaited resultFits isLastChance resultInTime isModeOf maySwitch changeAllowed
-    judgedTick outAfter hasOther rowWith landsOn landedAfter isByteOf heldAfter endsNow hasMessage ownShows otherShows shownAfter
+    judgedTick outAfter hasTime rowWith landsOn landedAfter isByteOf heldAfter endsNow hasMessage ownShows otherShows shownAfter
     modeAfter oneOn ageAfter givenAfter startingControl startingData modeByteAfter fullAfter loadAfter tick keptControl keptData
     started step startsWell begin isBetween countsInRange moduleInRange modeInRange taskInRange runInRange runsInRange
     controlInRange dataInRange keptInRange playInRange isValue boxInRange placeInRange byteInRange nodeInRange stateInRange

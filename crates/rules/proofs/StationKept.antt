@@ -1,7 +1,7 @@
 -- Of what a station keeps, too, a tick looks at the station's own places alone: 8 nodes, 16 modules, 32 modes, 32 tasks, 8 control
 -- rows, 256 data rows. Where two stations keep the same at these, their ticks answer the same, and each follows the other's history.
 use mathlib.Core.Path.{_≡_, refl, sym, ap, _∙_}
-use mathlib.Core.Bool.{Bool, true, false, _&&_}
+use mathlib.Core.Bool.{Bool, true, false, not, _&&_}
 use mathlib.Core.List.{List}
 use mathlib.Core.Option.{Option, none, some}
 use native.Mathlib.Omega.{arith}
@@ -32,7 +32,6 @@ use Rattle.rules.specs.Station.{
   changeAllowed,
   judgedTick,
   outAfter,
-  hasOther,
   rowWith,
   landsOn,
   landedBy,
@@ -70,7 +69,7 @@ use Rattle.rules.proofs.StationExact.{judged-exact}
 use Rattle.rules.proofs.StationRanges.{ModeIn, TaskIn, ControlIn, DataIn, KeptIn, PlayIn, StateIn, range-tests}
 use Rattle.rules.proofs.StationStays.{state-stays}
 use Rattle.rules.proofs.StationPlaces.{Agree, agree-trans, SameAnswer, accepted, refused, answer-ok, Follows, begun, next}
-use Rattle.rules.proofs.TransparentTick.{row-is}
+use Rattle.rules.proofs.TransparentTick.{row-is, row-by-other}
 
 -- Two stations keep the same at every place.
 pub record SameKept (k k′ : Kept) : Type 0 where
@@ -215,8 +214,10 @@ and-agree true c d h = h refl
 and-agree false c d h = refl
 
 row-same : (times times′ : ℕ → ℕ) (count now : ℕ) → ((r : ℕ) → r < count → times r ≡ times′ r) → rowWith times count now ≡ rowWith times′ count now
-unfolding rowWith hasOther
-row-same times times′ count now h = same-bad (hasOther times now) (hasOther times′ now) count (λ r w. rw (h r w))
+row-same times times′ count now h =
+    row-by-other times count now
+    ∙ same-bad (λ r. not (eqb (times r) now)) (λ r. not (eqb (times′ r) now)) count (λ r w. rw (h r w))
+    ∙ sym (row-by-other times′ count now)
 
 module _ {k k′ : Kept} (same : SameKept k k′) (s : State) (i : Input) (kept : KeptIn k) (state : StateIn k s) where
   home-there : (t : ℕ) → t < taskPlaces → k .taskHome t < modulePlaces

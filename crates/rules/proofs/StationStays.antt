@@ -13,7 +13,6 @@ use lib.ListN.{length, List·getD-eq-default}
 use Prim.Native.Nat.{ℕ, _+_, _≤_, _<_, _^_, zero-le}
 use Rattle.laws.specs.Res.{ok, refuse, unless}
 use Rattle.laws.proofs.Lists.{both-left}
-use Rattle.laws.proofs.Loops.{firstBad-upTo-within}
 use Rattle.laws.proofs.Res.{ok-injective, bind-case, then-refused}
 use Rattle.laws.proofs.Tests.{Tests, by-lt}
 use Rattle.laws.proofs.Orders.{le-or-lt}
@@ -31,7 +30,6 @@ use Rattle.rules.specs.Station.{
   State,
   stateAtStart,
   outAfter,
-  hasOther,
   rowWith,
   landsOn,
   landedBy,
@@ -60,6 +58,7 @@ use Rattle.rules.specs.Station.{
 use Rattle.rules.specs.History.{played}
 use Rattle.rules.specs.StationRange.{inRange, ticked}
 use Rattle.rules.specs.Obeys.{frameAt, ObeysTable, MayTick, StartsRight}
+use Rattle.rules.proofs.TransparentTick.{row-is}
 use Rattle.rules.proofs.PlanKept.{PlanKept, readable-kept}
 use Rattle.rules.proofs.StationRanges.{IsValue}
 pub use Rattle.rules.proofs.StationRanges.{KeptIn, StateIn, range-tests}
@@ -90,10 +89,6 @@ one-on-within now period h = go (ltb now period) (by-lt now period)
     go : (b : Bool) → Tests b (now < period) → cond b (now + 1) 1 ≤ period
     go true t = let l : now < period = t .says refl in omega arith
     go false t = h
-
-row-within : (times : ℕ → ℕ) (count now r : ℕ) → rowWith times count now ≡ some r → r < count
-unfolding rowWith
-row-within times count now r e = firstBad-upTo-within (hasOther times now) count r e
 
 module _ {k : Kept} {s : State} {i : Input} (kept : KeptIn k) (state : StateIn k s) (may : MayTick k s i) where
   out-stays : (t : ℕ) → t < taskPlaces → IsValue (outAfter s i t)
@@ -128,7 +123,7 @@ module _ {k : Kept} {s : State} {i : Input} (kept : KeptIn k) (state : StateIn k
 
   load-stays : IsValue (loadAfter k s i)
   unfolding loadAfter startingData
-  load-stays = go (startingData k s) (λ r e. row-within (k .dataStart) (k .datas) _ r e)
+  load-stays = go (startingData k s) (λ r e. row-is (k .dataStart) (k .datas) _ r e .there)
     where
       go : (o : Option ℕ) → ((r : ℕ) → o ≡ some r → r < k .datas) → IsValue (loadBy k s i o)
       go none h = state .load

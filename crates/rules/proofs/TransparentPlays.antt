@@ -19,7 +19,7 @@ use Rattle.rules.specs.Jobs.{rec, file}
 use Rattle.rules.specs.Playing.{Input, isRun, periodAmong, periodIn}
 use Rattle.rules.specs.Station.{Kept, State, Begun, keptOf, stateAtStart, homeNode, runPeriod, taskAge, runAge, isRunning}
 use Rattle.rules.specs.Station.{isAwaited, resultAwaited, resultFits, isLastChance, resultInTime, isModeOf, maySwitch}
-use Rattle.rules.specs.Station.{changeAllowed, judgedTick, outAfter, hasOther, rowWith, landsOn, landedAfter, isByteOf}
+use Rattle.rules.specs.Station.{changeAllowed, judgedTick, outAfter, hasTime, rowWith, landsOn, landedAfter, isByteOf}
 use Rattle.rules.specs.Station.{heldAfter, endsNow, hasMessage, ownShows, otherShows, shownAfter, modeAfter, oneOn}
 use Rattle.rules.specs.Station.{ageAfter, givenAfter, startingControl, startingData, modeByteAfter, fullAfter, loadAfter}
 use Rattle.rules.specs.Station.{tick, keptControl, keptData, started, step, startsWell, begin}
@@ -185,7 +185,7 @@ changing =
 opened : Unit {0}
 unfolding everything tinyPlan tinyTable tinyStart quiet resultOf gives shownIs showsBehind consumedIn changing brings consumes
     played keptOf stateAtStart homeNode runPeriod taskAge runAge isRunning isAwaited resultAwaited resultFits isLastChance
-    resultInTime isModeOf maySwitch changeAllowed judgedTick outAfter hasOther rowWith landsOn landedAfter isByteOf heldAfter
+    resultInTime isModeOf maySwitch changeAllowed judgedTick outAfter hasTime rowWith landsOn landedAfter isByteOf heldAfter
     endsNow hasMessage ownShows otherShows shownAfter modeAfter oneOn ageAfter givenAfter startingControl startingData
     modeByteAfter fullAfter loadAfter tick keptControl keptData started step startsWell begin isRun periodAmong periodIn
 opened = tt

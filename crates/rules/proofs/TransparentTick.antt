@@ -1,5 +1,5 @@
 -- Demand 3, the fields: what one tick makes of each place of the state, and of the one board. Nothing behind this file opens `tick`.
-use mathlib.Core.Path.{_≡_, refl, ap}
+use mathlib.Core.Path.{_≡_, refl, sym, ap, _∙_}
 use mathlib.Core.Bool.{Bool, true, false, cond, not, _&&_, _||_}
 use mathlib.Core.List.{List, _∷_}
 use mathlib.Core.Option.{Option, none, some}
@@ -7,11 +7,12 @@ use lib.Dec.{eqb}
 use borrow.Author.Tests.{eqb-true, not-false, lt-ltb, le-ltb, eq-eqb, ne-eqb}
 use Prim.Native.Nat.{ℕ, suc, _+_, _%_, _≤_, _<_, _∣_}
 use Rattle.laws.proofs.Lists.{both, both-left, both-right}
-use Rattle.laws.proofs.Loops.{firstBad-upTo-none, firstBad-upTo-some, firstBad-upTo-within, firstBad-upTo-fails}
+use Rattle.laws.specs.Lists.{firstBad, upTo}
+use Rattle.laws.proofs.Loops.{firstBad-upTo-none, firstBad-upTo-some, firstBad-upTo-within, firstBad-upTo-fails, firstWith-bad}
 use Rattle.laws.proofs.Runs.{withinRun}
 use Rattle.laws.proofs.Tests.{Tests, by-iff, by-lt, by-divides, by-and}
 use Rattle.rules.specs.Playing.{Input, isGiven}
-use Rattle.rules.specs.Station.{Kept, State, homeNode, runPeriod, taskAge, runAge, isRunning, outAfter, hasOther, rowWith, landsOn, landedAfter, isByteOf, heldAfter, endsNow, hasMessage, ownShows, otherShows, shownAfter, modeAfter, oneOn, ageAfter, givenAfter, startingControl, startingData, modeByteAfter, fullAfter, loadAfter, tick}
+use Rattle.rules.specs.Station.{Kept, State, homeNode, runPeriod, taskAge, runAge, isRunning, outAfter, hasTime, rowWith, landsOn, landedAfter, isByteOf, heldAfter, endsNow, hasMessage, ownShows, otherShows, shownAfter, modeAfter, oneOn, ageAfter, givenAfter, startingControl, startingData, modeByteAfter, fullAfter, loadAfter, tick}
 use Rattle.rules.specs.OneBoard.{modeNow, sinceMode, periodNow, runEnds, resultWithin, value}
 
 -- a run ends at the tick to come
@@ -119,22 +120,29 @@ pub record RowAt (times : ℕ → ℕ) (count now r : ℕ) : Type 0 where
   pub time : times r ≡ now
 
 module _ (times : ℕ → ℕ) (count now : ℕ) where
+  abbrev hasOther : ℕ → Bool
+  hasOther r = not (eqb (times r) now)
+
+  -- the first row with this time is the first that has not another
+  pub row-by-other : rowWith times count now ≡ firstBad hasOther (upTo count)
+  unfolding rowWith hasTime
+  row-by-other = firstWith-bad (hasTime times now) (upTo count)
+
   pub row-is : (r : ℕ) → rowWith times count now ≡ some r → RowAt times count now r
-  unfolding rowWith hasOther
   row-is r e =
+      let bad = sym row-by-other ∙ e in
       record {
-        there = firstBad-upTo-within (hasOther times now) count r e;
-        time = eqb-true (times r) now (not-false (eqb (times r) now) (firstBad-upTo-fails (hasOther times now) count r e));
+        there = firstBad-upTo-within hasOther count r bad;
+        time = eqb-true (times r) now (not-false (eqb (times r) now) (firstBad-upTo-fails hasOther count r bad));
       }
 
   pub row-none : ((r : ℕ) → r < count → times r ≡ now → ⊥) → rowWith times count now ≡ none
-  unfolding rowWith hasOther
-  row-none h = firstBad-upTo-none (hasOther times now) count (λ r w. rw (ne-eqb (times r) now (h r w)))
+  row-none h = row-by-other ∙ firstBad-upTo-none hasOther count (λ r w. rw (ne-eqb (times r) now (h r w)))
 
   pub row-found : (r : ℕ) → RowAt times count now r → ((j : ℕ) → j < r → times j ≡ now → ⊥) → rowWith times count now ≡ some r
-  unfolding rowWith hasOther
   row-found r h other =
-      firstBad-upTo-some (hasOther times now) count r (h .there) (rw (eq-eqb (times r) now (h .time)))
+      row-by-other
+      ∙ firstBad-upTo-some hasOther count r (h .there) (rw (eq-eqb (times r) now (h .time)))
       (λ j w. rw (ne-eqb (times j) now (other j w)))
 
 module _ (k : Kept) (s : State) (i : Input) where

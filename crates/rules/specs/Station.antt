@@ -7,7 +7,7 @@ use lib.Dec.{eqb, leb, ltb}
 use lib.ListN.{length}
 use Prim.Native.Nat.{ℕ, _+_, _-_, _%_, _^_}
 use Rattle.laws.specs.Res.{Res, ok, _>>=_, _>>_, at}
-use Rattle.laws.specs.Lists.{firstBad, upTo}
+use Rattle.laws.specs.Lists.{firstBad, firstWith, upTo}
 use Rattle.laws.specs.Numbers.{divides}
 use Rattle.rules.specs.Plan.{theMode, theTask}
 use Rattle.rules.specs.Frames.{moduleNode, isBusTask, isSending, ControlRow}
@@ -177,11 +177,11 @@ unfoldable pub outAfter : State → Input → ℕ → ℕ
 outAfter s i t = Option·getD (i .result t) (s .out t)
 
 -- the lowest of so many rows that has this time
-unfoldable pub hasOther : (ℕ → ℕ) → ℕ → ℕ → Bool
-hasOther times now r = not (eqb (times r) now)
+unfoldable pub hasTime : (ℕ → ℕ) → ℕ → ℕ → Bool
+hasTime times now r = eqb (times r) now
 
 unfoldable pub rowWith : (ℕ → ℕ) → ℕ → ℕ → Option ℕ
-rowWith times count now = firstBad (hasOther times now) (upTo count)
+rowWith times count now = firstWith (hasTime times now) (upTo count)
 
 -- (b), rule 8.12, of a data frame: a value lands on every node but the sender's; an empty frame changes nothing.
 unfoldable pub landsOn : Kept → State → ℕ → ℕ → ℕ → Bool

@@ -9,6 +9,7 @@ use Rattle.laws.specs.Lists.{firstBad, upTo}
 use Rattle.laws.specs.Loops.{stores}
 use Rattle.laws.specs.Res.{Res, ok}
 use Rattle.answers.specs.Refusals.{said}
+use Rattle.rules.specs.Limits.{mostModules}
 use Rattle.answers.specs.declared.Refusal.the-variants.{NotBegun}
 use Rattle.stationruns.specs.Inputs.{changeAt}
 use Rattle.stationruns.specs.declared.Change.{Change}
@@ -31,7 +32,7 @@ startTest starting modules modes homes m = holdsOwn modules modes homes m (chang
 -- the lowest starting place at fault
 unfoldable pub wrongStart : Station → List Change → Option ℕ
 wrongStart kept starting =
-    firstBad (startTest starting (kept .modules .count) (kept .modes .count) (kept .modes .homes)) (upTo 16)
+    firstBad (startTest starting (kept .modules .count) (kept .modes .count) (kept .modes .homes)) (upTo mostModules)
 
 -- the starting modes run
 abbrev pub playIn : Play → List ℕ → Play
@@ -58,17 +59,17 @@ withPlay st play =
       period = st .period;
       datas = st .datas;
       runs = st .runs;
-      carries = st .carries;
-      deadlines = st .deadlines;
-      starts = st .starts;
-      stops = st .stops;
+      «row_tasks» = st .«row_tasks»;
+      «row_deadlines» = st .«row_deadlines»;
+      «row_starts» = st .«row_starts»;
+      «row_stops» = st .«row_stops»;
       play = play;
       nodes = st .nodes;
     }
 
 unfoldable pub startedBy : Station → List Change → Station
 startedBy kept starting =
-    withPlay kept (playIn (kept .play) (stores (kept .play .running) (modeRule starting (kept .play .running)) 16))
+    withPlay kept (playIn (kept .play) (stores (kept .play .running) (modeRule starting (kept .play .running)) mostModules))
 
 -- what a station that keeps a passed plan and table begins as
 abbrev pub begunAt : Station → List Change → Option ℕ → Begun

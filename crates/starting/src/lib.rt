@@ -1,6 +1,7 @@
 // A station that keeps a passed plan and table, in its starting modes: refusal 40 of a beginning.
 ghost use mathlib.Core.Path.{_≡_};
 ghost use Rattle.laws.specs.Lists.{firstBad, upTo};
+ghost use Rattle.rules.specs.Limits.{mostModules};
 ghost use Rattle.stationruns.specs.Inputs.{changeOf};
 ghost use Rattle.places.specs.Found.{placeIn};
 ghost use Rattle.station.specs.Memory.{notBegun};
@@ -14,6 +15,7 @@ use places::byte_at;
 use station::Station;
 use stationruns::Change;
 use stationsteps::modes_after;
+use units::ModeNo;
 use units::ModuleNo;
 
 // The answer, and the station beside it: not begun, all zero, where the beginning is refused.
@@ -32,7 +34,13 @@ pub fn refused(why: Refusal) -> Begun
 }
 
 // Whether the starting place of a module holds a mode of its own; behind the last module it holds nothing.
-fn holds_own<'a>(start: Change, m: usize, modules: u8, modes: u8, homes: &'a [u8; 32]) -> bool
+fn holds_own<'a>(
+    start: Change,
+    m: usize,
+    modules: u8,
+    modes: u8,
+    homes: &'a [u8; ModeNo::MOST],
+) -> bool
     ensures { λ r. ⌜ r ≡ holdsOwn modules modes (now (homes .entry)) m (changeOf start) ⌝ }
 {
     match start {
@@ -45,11 +53,16 @@ fn holds_own<'a>(start: Change, m: usize, modules: u8, modes: u8, homes: &'a [u8
 }
 
 // 40: the first starting place at fault.
-fn wrong_start<'a>(starting: [Change; 16], modules: u8, modes: u8, homes: &'a [u8; 32]) -> Found
-    ensures { λ r. ⌜ placeIn r ≡ firstBad (startTest starting modules modes (now (homes .entry))) (upTo 16) ⌝ }
+fn wrong_start<'a>(
+    starting: [Change; ModuleNo::MOST],
+    modules: u8,
+    modes: u8,
+    homes: &'a [u8; ModeNo::MOST],
+) -> Found
+    ensures { λ r. ⌜ placeIn r ≡ firstBad (startTest starting modules modes (now (homes .entry))) (upTo mostModules) ⌝ }
 {
     let mut m = 0;
-    while m < 16 {
+    while m < ModuleNo::MOST {
         let start = starting[m];
         if holds_own(start, m, modules, modes, homes) {
             m += 1;
@@ -60,7 +73,7 @@ fn wrong_start<'a>(starting: [Change; 16], modules: u8, modes: u8, homes: &'a [u
     Found::Nothing
 }
 
-fn started(mut kept: Station, starting: [Change; 16]) -> Station
+fn started(mut kept: Station, starting: [Change; ModuleNo::MOST]) -> Station
     ensures { λ r. ⌜ r ≡ startedBy kept starting ⌝ }
 {
     let mut play = kept.play;
@@ -72,7 +85,7 @@ fn started(mut kept: Station, starting: [Change; 16]) -> Station
 }
 
 // A station that keeps a passed plan and table, in its starting modes.
-pub fn begin_with(kept: Station, starting: [Change; 16]) -> Begun
+pub fn begin_with(kept: Station, starting: [Change; ModuleNo::MOST]) -> Begun
     ensures { λ r. ⌜ r ≡ begunBy kept starting ⌝ }
 {
     let modes = kept.modes;

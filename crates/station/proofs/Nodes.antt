@@ -55,7 +55,7 @@ module _ (sites homes landed : List ℕ) (task load n t : ℕ) where
   site x = getD sites (getD homes x 0) 0
 
   lands-same : (full : Bool)
-      → landedRule (cond full (Value task (site task) load) Nothing) n landed t
+      → landedRule (cond full (Value (record { 0 = task }) (record { 0 = site task }) load) Nothing) n landed t
       ≡ cond (full && (eqb task t && not (eqb (site t) n))) load (getD landed t 0)
   lands-same false = refl
   lands-same true = by-task (eqb task t) refl
@@ -92,17 +92,17 @@ home-within k s e t w =
 module _ (st : Station) where
   -- (b)
   landed-by : (n t : ℕ) (o : Option ℕ)
-      → landedRule (landingOf (st .carries) (st .tasks .homes) (st .modules .sites) (isSet (st .play .full)) (st .play .load) o) n
+      → landedRule (landingOf (st .«row_tasks») (st .tasks .homes) (st .modules .sites) (isSet (st .play .full)) (st .play .load) o) n
       (getD (st .nodes) n noNode .landed) t
       ≡ landedBy (keptOf st) (stateOf st) n t o
   unfolding keptOf keptBy stateOf stateBy landsOn homeNode
   landed-by n t none = refl
   landed-by n t (some r) =
-      lands-same (st .modules .sites) (st .tasks .homes) (getD (st .nodes) n noNode .landed) (getD (st .carries) r 0) (st .play .load) n t
+      lands-same (st .modules .sites) (st .tasks .homes) (getD (st .nodes) n noNode .landed) (getD (st .«row_tasks») r 0) (st .play .load) n t
       (isSet (st .play .full))
 
   abbrev landing : Landing
-  landing = landingBy (st .modules) (st .tasks) (st .datas) (st .play) (st .carries) (st .stops)
+  landing = landingBy (st .modules) (st .tasks) (st .datas) (st .play) (st .«row_tasks») (st .«row_stops»)
 
   shown-stood : (n t : ℕ) → stateOf st .shown n t ≡ getD (getD (st .nodes) n noNode .shown) t 0
   unfolding stateOf stateBy
@@ -110,7 +110,7 @@ module _ (st : Station) where
 
   landed-at : (n t : ℕ) → landedRule landing n (getD (st .nodes) n noNode .landed) t ≡ landedAfter (keptOf st) (stateOf st) n t
   unfolding keptOf keptBy stateOf stateBy landedAfter
-  landed-at n t = landed-by n t (rowWith (numberAt (st .stops)) (st .datas) (st .play .clock .0))
+  landed-at n t = landed-by n t (rowWith (numberAt (st .«row_stops»)) (st .datas) (st .play .clock .0))
 
   module _ (results : List Given) (changes : List Change) where
     abbrev k : Kept

@@ -62,8 +62,8 @@ joined {a} {b} {c} {d} e f g h =
     ∙ ap (_>>_ (at 41 0 a)) (then-assoc (at 42 0 b) (at 43 0 c) (at 44 0 d)) ∙ rw (e, f, g, h)
 
 module _ (st : Station) where
-  pub kept-range : keptTest (st .modules) (st .modes) (st .tasks) (st .controls) (st .datas) (st .period) (st .runs) (st .carries)
-      (st .deadlines) (st .starts) (st .stops) ≡ keptInRange (keptOf st)
+  pub kept-range : keptTest (st .modules) (st .modes) (st .tasks) (st .controls) (st .datas) (st .period) (st .runs) (st .«row_tasks»)
+      (st .«row_deadlines») (st .«row_starts») (st .«row_stops») ≡ keptInRange (keptOf st)
   unfolding keptTest keptInRange keptOf keptBy countsInRange moduleInRange modeInRange taskInRange runInRange runsInRange controlInRange dataInRange runsTest
   kept-range = refl
 

@@ -50,7 +50,7 @@ use Rattle.stationmoves.proofs.Ways.{play-made}
 module _ (st : Station) where
   -- the row that starts
   pub said-same : (c d : Option ℕ)
-      → saidBy (st .controls) (st .carries) (st .deadlines) (st .starts) (st .stops) c d ≡ rowSaid (startedBy (keptOf st) c d)
+      → saidBy (st .controls) (st .«row_tasks») (st .«row_deadlines») (st .«row_starts») (st .«row_stops») c d ≡ rowSaid (startedBy (keptOf st) c d)
   unfolding keptOf keptBy keptControl keptData
   said-same (some r) d = refl
   said-same none (some r) = refl
@@ -126,21 +126,21 @@ module _ (st : Station) where
 
     full-same : (o : Option ℕ)
         → flagByte
-        (fullRule (st .tasks .bus) (st .runs) (modeRule changes (st .play .running)) (st .tasks .homes) (st .carries) (st .deadlines)
+        (fullRule (st .tasks .bus) (st .runs) (modeRule changes (st .play .running)) (st .tasks .homes) (st .«row_tasks») (st .«row_deadlines»)
         (isSet (st .play .full)) o)
         ≡ flagByte (fullBy k s i o)
     unfolding keptOf keptBy stateOf stateBy inputOf hasMessage modeAfter
     full-same none = refl
     full-same (some r) = refl
 
-    load-same : (o : Option ℕ) → loadRule (outRule results (st .play .out)) (st .carries) (st .play .load) o ≡ loadBy k s i o
+    load-same : (o : Option ℕ) → loadRule (outRule results (st .play .out)) (st .«row_tasks») (st .play .load) o ≡ loadBy k s i o
     unfolding keptOf keptBy stateOf stateBy inputOf outAfter
     load-same none = refl
     load-same (some r) = refl
 
     pub play-same : (ends : List Bool) → ((t : ℕ) → t < 32 → getD ends t false ≡ endsNow k s t)
         → playBy results changes (st .modules) (st .modes) (st .tasks) (st .controls) (st .play) (st .period) (startingControl k s)
-        (startingData k s) ends (st .runs) (st .carries) (st .deadlines)
+        (startingData k s) ends (st .runs) (st .«row_tasks») (st .«row_deadlines»)
         ≡ playLaid (st .play) (tick k s i)
     unfolding playBy playLaid bytes-rule given-rule held-rule tick keptOf keptBy stateOf stateBy fullAfter loadAfter
     play-same ends e =

@@ -83,7 +83,7 @@ module _ (st : Station) (results : List Given) (changes : List Change) (valued :
   abbrev refusal : Res (Unit {0})
   refusal =
       refusedBy results changes (st .modules) (st .modes) (st .tasks) (st .controls) (st .datas) (st .period) (st .play)
-      (st .runs) (st .carries) (st .deadlines) (st .starts) (st .stops)
+      (st .runs) (st .«row_tasks») (st .«row_deadlines») (st .«row_starts») (st .«row_stops»)
 
   -- 40 to 44
   refusal-same : refusal ≡ _>>_ (unless 40 0 (inRange k s)) (judgedTick k s i)
@@ -138,8 +138,8 @@ module _ (st : Station) (results : List Given) (changes : List Change) (valued :
         (ended : ends ≡ stores (replicate 32 false) (endsRule (st .runs) (st .play .running) (st .play .ages) (st .tasks .homes)) 32)
         (moving : next
         ≡ movedBy results changes (st .modules) (st .modes) (st .tasks) (st .controls) (st .datas) (st .period) (st .play) ends (st .runs)
-        (st .carries) (st .deadlines) (st .starts) (st .stops))
-        (landing : l ≡ landingBy (st .modules) (st .tasks) (st .datas) (st .play) (st .carries) (st .stops)) where
+        (st .«row_tasks») (st .«row_deadlines») (st .«row_starts») (st .«row_stops»))
+        (landing : l ≡ landingBy (st .modules) (st .tasks) (st .datas) (st .play) (st .«row_tasks») (st .«row_stops»)) where
       ends-at : (t : ℕ) → t < 32 → getD ends t false ≡ endsNow k s t
       unfolding endsNow isRunning runPeriod taskAge keptOf keptBy stateOf stateBy
       ends-at t w =

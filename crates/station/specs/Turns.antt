@@ -26,7 +26,7 @@ use Rattle.station.specs.Answers.{Answers}
 
 abbrev pub stationBy : Modules → Modes → Tasks → Controls → ℕ → Ticks → List ℕ → List ℕ → List ℕ → List ℕ → List ℕ → Play → List Node
     → Station
-stationBy modules modes tasks controls datas period runs carries deadlines starts stops play nodes =
+stationBy modules modes tasks controls datas period runs rowTasks rowDeadlines rowStarts rowStops play nodes =
     record {
       modules = modules;
       modes = modes;
@@ -35,10 +35,10 @@ stationBy modules modes tasks controls datas period runs carries deadlines start
       period = period;
       datas = datas;
       runs = runs;
-      carries = carries;
-      deadlines = deadlines;
-      starts = starts;
-      stops = stops;
+      «row_tasks» = rowTasks;
+      «row_deadlines» = rowDeadlines;
+      «row_starts» = rowStarts;
+      «row_stops» = rowStops;
       play = play;
       nodes = nodes;
     }
@@ -46,8 +46,8 @@ stationBy modules modes tasks controls datas period runs carries deadlines start
 -- a station with what a tick changes
 abbrev pub moved : Station → Play → List Node → Station
 moved st play nodes =
-    stationBy (st .modules) (st .modes) (st .tasks) (st .controls) (st .datas) (st .period) (st .runs) (st .carries) (st .deadlines)
-    (st .starts) (st .stops) play nodes
+    stationBy (st .modules) (st .modes) (st .tasks) (st .controls) (st .datas) (st .period) (st .runs) (st .«row_tasks») (st .«row_deadlines»)
+    (st .«row_starts») (st .«row_stops») play nodes
 
 -- each number that the nodes hold landed and shown is below 2 ^ 64
 abbrev pub Valued : List Node → Type 0

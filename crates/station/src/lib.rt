@@ -28,12 +28,15 @@ use stationrefusals::refused;
 use stationruns::Change;
 use stationruns::Given;
 use stationsteps::ends_now;
+use units::Frame;
+use units::ModeNo;
+use units::ModuleNo;
 use units::NodeNo;
 use units::TaskNo;
 use units::Ticks;
 
-// `runs` has the period of each task in each mode, 32 places for each mode; `carries`, `deadlines`, `starts` and `stops` are the data
-// rows. The arrays of numbers are lent to the steps.
+// `runs` has the period of each task in each mode, a place for each task, mode after mode; `row_tasks`, `row_deadlines`, `row_starts` and
+// `row_stops` are the data rows. The arrays of numbers are lent to the steps.
 #[repr(C)]
 pub struct Station {
     pub modules: Modules,
@@ -42,13 +45,13 @@ pub struct Station {
     pub controls: Controls,
     pub period: Ticks,
     pub datas: u16,
-    pub runs: [u32; 1024],
-    pub carries: [u8; 256],
-    pub deadlines: [u32; 256],
-    pub starts: [u32; 256],
-    pub stops: [u32; 256],
+    pub runs: [u32; ModeNo::MOST * TaskNo::MOST],
+    pub row_tasks: [u8; Frame::MOST],
+    pub row_deadlines: [u32; Frame::MOST],
+    pub row_starts: [u32; Frame::MOST],
+    pub row_stops: [u32; Frame::MOST],
     pub play: Play,
-    pub nodes: [Node; 8],
+    pub nodes: [Node; NodeNo::MOST],
 }
 
 pub struct Ticked {
@@ -63,7 +66,7 @@ pub struct Turn {
     pub idle: bool,
     pub clock: Ticks,
     pub landing: Landing,
-    pub ends: [bool; 32],
+    pub ends: [bool; TaskNo::MOST],
 }
 
 pub struct Turned {
@@ -81,14 +84,14 @@ fn at_rest(play: Play) -> Turn
         idle: true,
         clock,
         landing: Landing::Nothing,
-        ends: [false; 32],
+        ends: [false; TaskNo::MOST],
     }
 }
 
 // A tick that is not refused, but for the nodes: (a) to (f).
 fn accepted<'a>(
-    results: [Given; 32],
-    changes: [Change; 16],
+    results: [Given; TaskNo::MOST],
+    changes: [Change; ModuleNo::MOST],
     modules: Modules,
     modes: Modes,
     tasks: Tasks,
@@ -96,14 +99,14 @@ fn accepted<'a>(
     datas: u16,
     period: Ticks,
     play: Play,
-    runs: &'a [u32; 1024],
-    carries: &'a [u8; 256],
-    deadlines: &'a [u32; 256],
-    starts: &'a [u32; 256],
-    stops: &'a [u32; 256],
+    runs: &'a [u32; ModeNo::MOST * TaskNo::MOST],
+    row_tasks: &'a [u8; Frame::MOST],
+    row_deadlines: &'a [u32; Frame::MOST],
+    row_starts: &'a [u32; Frame::MOST],
+    row_stops: &'a [u32; Frame::MOST],
 ) -> Turned
-    requires { ⌜ ok tt ≡ refusedBy results changes modules modes tasks controls datas period play (now runs) (now carries) (now deadlines) (now starts) (now stops) ⌝ }
-    ensures { λ r. ⌜ ((nodes : List AnyNode) → Valued nodes → Turns (stationBy modules modes tasks controls datas period (now (runs .entry)) (now (carries .entry)) (now (deadlines .entry)) (now (starts .entry)) (now (stops .entry)) play nodes) results changes (r .said) (r .turn)) ⌝ }
+    requires { ⌜ ok tt ≡ refusedBy results changes modules modes tasks controls datas period play (now runs) (now «row_tasks») (now «row_deadlines») (now «row_starts») (now «row_stops») ⌝ }
+    ensures { λ r. ⌜ ((nodes : List AnyNode) → Valued nodes → Turns (stationBy modules modes tasks controls datas period (now (runs .entry)) (now («row_tasks» .entry)) (now («row_deadlines» .entry)) (now («row_starts» .entry)) (now («row_stops» .entry)) play nodes) results changes (r .said) (r .turn)) ⌝ }
 {
     let ends = ends_now(runs, &play.running, &play.ages, &tasks.homes);
     let next = moves(
@@ -118,12 +121,12 @@ fn accepted<'a>(
         play,
         &ends,
         runs,
-        carries,
-        deadlines,
-        starts,
-        stops,
+        row_tasks,
+        row_deadlines,
+        row_starts,
+        row_stops,
     );
-    let landing = what_lands(modules, tasks, datas, play, carries, stops);
+    let landing = what_lands(modules, tasks, datas, play, row_tasks, row_stops);
     let idle = is_idle(landing, &ends);
     let said = next.said;
     let after = next.play;
@@ -141,8 +144,8 @@ fn accepted<'a>(
 
 // A tick but for the nodes: a refusal, or (a) to (f). The station may hold any nodes.
 pub fn turned_by<'a>(
-    results: [Given; 32],
-    changes: [Change; 16],
+    results: [Given; TaskNo::MOST],
+    changes: [Change; ModuleNo::MOST],
     modules: Modules,
     modes: Modes,
     tasks: Tasks,
@@ -150,13 +153,13 @@ pub fn turned_by<'a>(
     datas: u16,
     period: Ticks,
     play: Play,
-    runs: &'a [u32; 1024],
-    carries: &'a [u8; 256],
-    deadlines: &'a [u32; 256],
-    starts: &'a [u32; 256],
-    stops: &'a [u32; 256],
+    runs: &'a [u32; ModeNo::MOST * TaskNo::MOST],
+    row_tasks: &'a [u8; Frame::MOST],
+    row_deadlines: &'a [u32; Frame::MOST],
+    row_starts: &'a [u32; Frame::MOST],
+    row_stops: &'a [u32; Frame::MOST],
 ) -> Turned
-    ensures { λ r. ⌜ ((nodes : List AnyNode) → Valued nodes → Turns (stationBy modules modes tasks controls datas period (now (runs .entry)) (now (carries .entry)) (now (deadlines .entry)) (now (starts .entry)) (now (stops .entry)) play nodes) results changes (r .said) (r .turn)) ⌝ }
+    ensures { λ r. ⌜ ((nodes : List AnyNode) → Valued nodes → Turns (stationBy modules modes tasks controls datas period (now (runs .entry)) (now («row_tasks» .entry)) (now («row_deadlines» .entry)) (now («row_starts» .entry)) (now («row_stops» .entry)) play nodes) results changes (r .said) (r .turn)) ⌝ }
 {
     match refused(
         results,
@@ -169,10 +172,10 @@ pub fn turned_by<'a>(
         period,
         play,
         runs,
-        carries,
-        deadlines,
-        starts,
-        stops,
+        row_tasks,
+        row_deadlines,
+        row_starts,
+        row_stops,
     ) {
         Verdict::Refused(x) => Turned {
             said: Said::Refused(x),
@@ -189,22 +192,22 @@ pub fn turned_by<'a>(
             period,
             play,
             runs,
-            carries,
-            deadlines,
-            starts,
-            stops,
+            row_tasks,
+            row_deadlines,
+            row_starts,
+            row_stops,
         ),
     }
 }
 
 // Steps (b) and (c) on the nodes, by what has moved already.
 pub fn nodes_turned<'a>(
-    nodes: [Node; 8],
+    nodes: [Node; NodeNo::MOST],
     modules: Modules,
     tasks: Tasks,
     turn: Turn,
-    runs: &'a [u32; 1024],
-) -> [Node; 8]
+    runs: &'a [u32; ModeNo::MOST * TaskNo::MOST],
+) -> [Node; NodeNo::MOST]
     ensures { λ r. ⌜ r ≡ nodesBy modules tasks (turn .play) (turn .clock .0) (turn .landing) (turn .ends) (now (runs .entry)) nodes ⌝ }
 {
     let next = turn.play;
@@ -219,7 +222,7 @@ pub fn nodes_turned<'a>(
         &next.held,
         &tasks.bus,
         runs,
-        turn.clock.0,
+        turn.clock,
     )
 }
 
@@ -231,52 +234,56 @@ impl Station {
         Station {
             modules: Modules {
                 count: 0,
-                sites: [0; 16],
-                sending: [0; 16],
+                sites: [0; ModuleNo::MOST],
+                sending: [0; ModuleNo::MOST],
             },
             modes: Modes {
                 count: 0,
-                homes: [0; 32],
-                periods: [0; 32],
-                switches: [0; 32],
+                homes: [0; ModeNo::MOST],
+                periods: [0; ModeNo::MOST],
+                switches: [0; ModeNo::MOST],
             },
             tasks: Tasks {
                 count: 0,
-                homes: [0; 32],
-                sizes: [0; 32],
-                worsts: [0; 32],
-                bus: [0; 32],
+                homes: [0; TaskNo::MOST],
+                sizes: [0; TaskNo::MOST],
+                worsts: [0; TaskNo::MOST],
+                bus: [0; TaskNo::MOST],
             },
             controls: Controls {
                 count: 0,
-                nodes: [0; 8],
-                starts: [0; 8],
-                stops: [0; 8],
+                nodes: [0; NodeNo::MOST],
+                starts: [0; NodeNo::MOST],
+                stops: [0; NodeNo::MOST],
             },
             period: Ticks(0),
             datas: 0,
-            runs: [0; 1024],
-            carries: [0; 256],
-            deadlines: [0; 256],
-            starts: [0; 256],
-            stops: [0; 256],
+            runs: [0; ModeNo::MOST * TaskNo::MOST],
+            row_tasks: [0; Frame::MOST],
+            row_deadlines: [0; Frame::MOST],
+            row_starts: [0; Frame::MOST],
+            row_stops: [0; Frame::MOST],
             play: Play {
                 clock: Ticks(0),
-                running: [0; 16],
-                ages: [0; 16],
-                bytes: [0; 16],
-                givens: [0; 32],
-                out: [0; 32],
-                held: [0; 128],
+                running: [0; ModuleNo::MOST],
+                ages: [0; ModuleNo::MOST],
+                bytes: [0; ModuleNo::MOST],
+                givens: [0; TaskNo::MOST],
+                out: [0; TaskNo::MOST],
+                held: [0; NodeNo::MOST * ModuleNo::MOST],
                 full: 0,
                 load: 0,
             },
-            nodes: [Node::zero(); 8],
+            nodes: [Node::zero(); NodeNo::MOST],
         }
     }
 
     // A tick: (a) to (f), or a refusal that leaves the station as it was.
-    pub fn tick(mut self, results: [Given; 32], changes: [Change; 16]) -> Ticked
+    pub fn tick(
+        mut self,
+        results: [Given; TaskNo::MOST],
+        changes: [Change; ModuleNo::MOST],
+    ) -> Ticked
         ensures { λ r. ⌜ Answers self (ticked (keptOf self) (stateOf self) (inputOf results changes)) r ⌝ }
     {
         let modules = self.modules;
@@ -295,10 +302,10 @@ impl Station {
             self.period,
             play,
             &self.runs,
-            &self.carries,
-            &self.deadlines,
-            &self.starts,
-            &self.stops,
+            &self.row_tasks,
+            &self.row_deadlines,
+            &self.row_starts,
+            &self.row_stops,
         );
         let turn = turned.turn;
         if turn.idle {} else {
@@ -320,6 +327,6 @@ impl Station {
         ensures { λ r. ⌜ r ≡ stateOf self .shown (node .0) (task .0) ⌝ }
     {
         let nodes = self.nodes;
-        shown_on(nodes, node.place(), task.place())
+        shown_on(nodes, node, task)
     }
 }

@@ -9,17 +9,17 @@ use Prim.Native.Nat.{ℕ}
 use Rattle.laws.specs.Lists.{all, upTo}
 use Rattle.laws.proofs.Lists.{both-left, both-right, all-upTo-true}
 use Rattle.laws.proofs.Loops.{firstBad-upTo-none}
-use Rattle.rules.specs.Station.{hasOther, rowWith}
-use Rattle.stationbus.specs.Bus.{numberAt}
+use Rattle.rules.specs.Station.{rowWith}
+use Rattle.rules.proofs.TransparentTick.{row-by-other}
+use Rattle.stationbus.specs.Bus.{hasOther, numberAt}
 
 -- no row has this time
 pub none-with : (times : List ℕ) (count time : ℕ) {x : Bool}
-    → x ≡ (leb count (length times) && all (hasOther (numberAt times) time) (upTo count)) → x ≡ true → none ≡ rowWith (numberAt times) count time
-unfolding rowWith
+    → x ≡ (leb count (length times) && all (hasOther times time) (upTo count)) → x ≡ true → none ≡ rowWith (numberAt times) count time
 none-with times count time e t =
-    let p = hasOther (numberAt times) time in
+    let p = hasOther times time in
     let each = both-right (leb count (length times)) (all p (upTo count)) (sym e ∙ t) in
-    sym (firstBad-upTo-none p count (λ k w. all-upTo-true p count k each w))
+    sym (row-by-other (numberAt times) count time ∙ firstBad-upTo-none p count (λ k w. all-upTo-true p count k each w))
 
 -- a message: a bus task, with a period that divides the deadline
 module _ (f z d : Bool) where

@@ -9,6 +9,7 @@ use Prim.Native.Nat.{ℕ}
 use Rattle.laws.specs.Numbers.{divides}
 use Rattle.laws.specs.Lists.{firstBad, upTo}
 use Rattle.laws.specs.Res.{Res, ok, _>>_, at}
+use Rattle.rules.specs.Limits.{mostModules, mostTasks}
 use Rattle.rules.specs.Playing.{isGiven}
 use Rattle.rules.specs.Station.{fitsIn}
 use Rattle.places.specs.Flags.{flagAt}
@@ -48,11 +49,11 @@ allowedTest changes modules modes homes switches running ages m =
 -- Rule 8.9: in order of number, each at its lowest task.
 abbrev pub resultsJudged : List Given → ℕ → List ℕ → List ℕ → List ℕ → List ℕ → List ℕ → List ℕ → List ℕ → Res (Unit {0})
 resultsJudged results tasks runs modes ages homes givens sizes worsts = do
-  at 41 0 (firstBad (awaitedTest results tasks runs modes ages homes givens worsts) (upTo 32))
-  at 42 0 (firstBad (fitsTest results sizes) (upTo 32))
-  at 43 0 (firstBad (inTimeTest results tasks runs modes ages homes givens worsts) (upTo 32))
+  at 41 0 (firstBad (awaitedTest results tasks runs modes ages homes givens worsts) (upTo mostTasks))
+  at 42 0 (firstBad (fitsTest results sizes) (upTo mostTasks))
+  at 43 0 (firstBad (inTimeTest results tasks runs modes ages homes givens worsts) (upTo mostTasks))
 
 abbrev pub changesJudged : Res (Unit {0}) → List Change → ℕ → ℕ → List ℕ → List ℕ → List ℕ → List ℕ → Res (Unit {0})
 changesJudged before changes modules modes homes switches running ages = do
   before
-  at 44 0 (firstBad (allowedTest changes modules modes homes switches running ages) (upTo 16))
+  at 44 0 (firstBad (allowedTest changes modules modes homes switches running ages) (upTo mostModules))

@@ -2,6 +2,7 @@
 ghost use mathlib.Core.Path.{_≡_};
 ghost use Prim.Native.Nat.{_<_};
 ghost use Rattle.laws.specs.Lists.{firstBad, upTo};
+ghost use Rattle.rules.specs.Limits.{mostModules, mostTasks};
 ghost use Rattle.stationruns.specs.Inputs.{changeOf};
 ghost use Rattle.places.specs.Found.{placeIn};
 ghost use Rattle.stationjudge.specs.Judging.{allowedTest, allows, awaitedTest, changesJudged, fitsTest, inTimeTest, resultsJudged};
@@ -10,6 +11,7 @@ use answers::Refusal;
 use answers::Verdict;
 use figures::both;
 use figures::divides;
+use figures::wide;
 use places::Found;
 use places::byte_at;
 use places::flag_at;
@@ -20,31 +22,34 @@ use stationruns::fits;
 use stationruns::is_awaited;
 use stationruns::is_in_time;
 use stationruns::run_at;
+use units::ByteCount;
+use units::ModeNo;
 use units::ModuleNo;
 use units::TaskNo;
+use units::Ticks;
 
 // 41: the first task place with a result that is not awaited.
 pub fn not_awaited<'a>(
-    results: [Given; 32],
+    results: [Given; TaskNo::MOST],
     tasks: u8,
-    runs: &'a [u32; 1024],
-    modes: &'a [u8; 16],
-    ages: &'a [u32; 16],
-    homes: &'a [u8; 32],
-    givens: &'a [u8; 32],
-    worsts: &'a [u32; 32],
+    runs: &'a [u32; ModeNo::MOST * TaskNo::MOST],
+    modes: &'a [u8; ModuleNo::MOST],
+    ages: &'a [u32; ModuleNo::MOST],
+    homes: &'a [u8; TaskNo::MOST],
+    givens: &'a [u8; TaskNo::MOST],
+    worsts: &'a [u32; TaskNo::MOST],
 ) -> Found
-    ensures { λ r. ⌜ placeIn r ≡ firstBad (awaitedTest results tasks (now (runs .entry)) (now (modes .entry)) (now (ages .entry)) (now (homes .entry)) (now (givens .entry)) (now (worsts .entry))) (upTo 32) ⌝ }
+    ensures { λ r. ⌜ placeIn r ≡ firstBad (awaitedTest results tasks (now (runs .entry)) (now (modes .entry)) (now (ages .entry)) (now (homes .entry)) (now (givens .entry)) (now (worsts .entry))) (upTo mostTasks) ⌝ }
 {
     let mut t = 0;
-    while t < 32 {
+    while t < TaskNo::MOST {
         let given = results[t];
         if is_awaited(
             given,
-            run_at(runs, modes, ages, homes, t),
+            run_at(runs, modes, ages, homes, TaskNo(t as u8)),
             t < tasks as usize,
             flag_at(givens, t),
-            worsts[t],
+            Ticks(worsts[t]),
         ) {
             t += 1;
         } else {
@@ -55,13 +60,13 @@ pub fn not_awaited<'a>(
 }
 
 // 42: the first task place with a result that needs more bytes than the message has.
-pub fn too_large<'a>(results: [Given; 32], sizes: &'a [u8; 32]) -> Found
-    ensures { λ r. ⌜ placeIn r ≡ firstBad (fitsTest results (now (sizes .entry))) (upTo 32) ⌝ }
+pub fn too_large<'a>(results: [Given; TaskNo::MOST], sizes: &'a [u8; TaskNo::MOST]) -> Found
+    ensures { λ r. ⌜ placeIn r ≡ firstBad (fitsTest results (now (sizes .entry))) (upTo mostTasks) ⌝ }
 {
     let mut t = 0;
-    while t < 32 {
+    while t < TaskNo::MOST {
         let given = results[t];
-        if fits(given, sizes[t]) {
+        if fits(given, ByteCount(wide(sizes[t]))) {
             t += 1;
         } else {
             return Found::At(t);
@@ -72,26 +77,26 @@ pub fn too_large<'a>(results: [Given; 32], sizes: &'a [u8; 32]) -> Found
 
 // 43: the first task place whose run has come to its worst time without a result.
 pub fn overdue<'a>(
-    results: [Given; 32],
+    results: [Given; TaskNo::MOST],
     tasks: u8,
-    runs: &'a [u32; 1024],
-    modes: &'a [u8; 16],
-    ages: &'a [u32; 16],
-    homes: &'a [u8; 32],
-    givens: &'a [u8; 32],
-    worsts: &'a [u32; 32],
+    runs: &'a [u32; ModeNo::MOST * TaskNo::MOST],
+    modes: &'a [u8; ModuleNo::MOST],
+    ages: &'a [u32; ModuleNo::MOST],
+    homes: &'a [u8; TaskNo::MOST],
+    givens: &'a [u8; TaskNo::MOST],
+    worsts: &'a [u32; TaskNo::MOST],
 ) -> Found
-    ensures { λ r. ⌜ placeIn r ≡ firstBad (inTimeTest results tasks (now (runs .entry)) (now (modes .entry)) (now (ages .entry)) (now (homes .entry)) (now (givens .entry)) (now (worsts .entry))) (upTo 32) ⌝ }
+    ensures { λ r. ⌜ placeIn r ≡ firstBad (inTimeTest results tasks (now (runs .entry)) (now (modes .entry)) (now (ages .entry)) (now (homes .entry)) (now (givens .entry)) (now (worsts .entry))) (upTo mostTasks) ⌝ }
 {
     let mut t = 0;
-    while t < 32 {
+    while t < TaskNo::MOST {
         let given = results[t];
         if is_in_time(
             given,
-            run_at(runs, modes, ages, homes, t),
+            run_at(runs, modes, ages, homes, TaskNo(t as u8)),
             t < tasks as usize,
             flag_at(givens, t),
-            worsts[t],
+            Ticks(worsts[t]),
         ) {
             t += 1;
         } else {
@@ -103,41 +108,49 @@ pub fn overdue<'a>(
 
 fn is_allowed<'a>(
     change: Change,
-    m: usize,
+    m: ModuleNo,
     modules: u8,
     modes: u8,
-    homes: &'a [u8; 32],
-    switch: u32,
-    age: u32,
+    homes: &'a [u8; ModeNo::MOST],
+    switch: Ticks,
+    age: Ticks,
 ) -> bool
-    ensures { λ r. ⌜ r ≡ allows modules modes (now (homes .entry)) switch age m (changeOf change) ⌝ }
+    ensures { λ r. ⌜ r ≡ allows modules modes (now (homes .entry)) (switch .0) (age .0) (m .0) (changeOf change) ⌝ }
 {
     match change {
         Change::Nothing => true,
         Change::To(mode) => {
-            let own = both(mode.0 < modes, byte_at(homes, mode.place()) == m);
-            both(both(m < modules as usize, own), divides(switch, age))
+            let own = both(mode.0 < modes, byte_at(homes, mode.place()) == m.place());
+            both(both(m.0 < modules, own), divides(switch.0, age.0))
         }
     }
 }
 
 // 44: the first module place with a change that is not allowed.
 pub fn not_allowed<'a>(
-    changes: [Change; 16],
+    changes: [Change; ModuleNo::MOST],
     modules: u8,
     modes: u8,
-    homes: &'a [u8; 32],
-    switches: &'a [u32; 32],
-    running: &'a [u8; 16],
-    ages: &'a [u32; 16],
+    homes: &'a [u8; ModeNo::MOST],
+    switches: &'a [u32; ModeNo::MOST],
+    running: &'a [u8; ModuleNo::MOST],
+    ages: &'a [u32; ModuleNo::MOST],
 ) -> Found
-    ensures { λ r. ⌜ placeIn r ≡ firstBad (allowedTest changes modules modes (now (homes .entry)) (now (switches .entry)) (now (running .entry)) (now (ages .entry))) (upTo 16) ⌝ }
+    ensures { λ r. ⌜ placeIn r ≡ firstBad (allowedTest changes modules modes (now (homes .entry)) (now (switches .entry)) (now (running .entry)) (now (ages .entry))) (upTo mostModules) ⌝ }
 {
     let mut m = 0;
-    while m < 16 {
+    while m < ModuleNo::MOST {
         let change = changes[m];
-        let switch = number_at(switches, byte_at(running, m));
-        if is_allowed(change, m, modules, modes, homes, switch, ages[m]) {
+        let switch = Ticks(number_at(switches, byte_at(running, m)));
+        if is_allowed(
+            change,
+            ModuleNo(m as u8),
+            modules,
+            modes,
+            homes,
+            switch,
+            Ticks(ages[m]),
+        ) {
             m += 1;
         } else {
             return Found::At(m);
@@ -148,15 +161,15 @@ pub fn not_allowed<'a>(
 
 // The first refusal of 41 to 43, all by the state before the tick.
 pub fn judged_results<'a>(
-    results: [Given; 32],
+    results: [Given; TaskNo::MOST],
     tasks: u8,
-    runs: &'a [u32; 1024],
-    modes: &'a [u8; 16],
-    ages: &'a [u32; 16],
-    homes: &'a [u8; 32],
-    givens: &'a [u8; 32],
-    sizes: &'a [u8; 32],
-    worsts: &'a [u32; 32],
+    runs: &'a [u32; ModeNo::MOST * TaskNo::MOST],
+    modes: &'a [u8; ModuleNo::MOST],
+    ages: &'a [u32; ModuleNo::MOST],
+    homes: &'a [u8; TaskNo::MOST],
+    givens: &'a [u8; TaskNo::MOST],
+    sizes: &'a [u8; TaskNo::MOST],
+    worsts: &'a [u32; TaskNo::MOST],
 ) -> Verdict
     ensures { λ r. ⌜ heard r ≡ resultsJudged results tasks (now (runs .entry)) (now (modes .entry)) (now (ages .entry)) (now (homes .entry)) (now (givens .entry)) (now (sizes .entry)) (now (worsts .entry)) ⌝ }
 {
@@ -184,13 +197,13 @@ pub fn judged_results<'a>(
 // 44, where nothing was refused before.
 pub fn judged_changes<'a>(
     before: Verdict,
-    changes: [Change; 16],
+    changes: [Change; ModuleNo::MOST],
     modules: u8,
     modes: u8,
-    homes: &'a [u8; 32],
-    switches: &'a [u32; 32],
-    running: &'a [u8; 16],
-    ages: &'a [u32; 16],
+    homes: &'a [u8; ModeNo::MOST],
+    switches: &'a [u32; ModeNo::MOST],
+    running: &'a [u8; ModuleNo::MOST],
+    ages: &'a [u32; ModuleNo::MOST],
 ) -> Verdict
     ensures { λ r. ⌜ heard r ≡ changesJudged (heard before) changes modules modes (now (homes .entry)) (now (switches .entry)) (now (running .entry)) (now (ages .entry)) ⌝ }
 {

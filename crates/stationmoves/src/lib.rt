@@ -1,9 +1,10 @@
 // What a tick makes of a station but for its nodes: the row that starts, (a), (b) of the mode bytes, (d) and (f), and what lands.
 ghost use mathlib.Core.Path.{_≡_};
-ghost use Prim.Native.Nat.{ℕ, _<_};
+ghost use Prim.Native.Nat.{ℕ, _*_, _<_};
 ghost use lib.ListN.{getD};
 ghost use Rattle.laws.specs.Loops.{stores};
 ghost use Rattle.places.specs.Found.{placeIn};
+ghost use Rattle.rules.specs.Limits.{mostModules, mostNodes};
 ghost use Rattle.stationmoves.specs.Moving.{Reads, heldNow, controlAt, dataAt, landingBy, movedBy, playBy, saidBy};
 use answers::Refusal;
 use figures::rest;
@@ -31,6 +32,9 @@ use stationsteps::givens_after;
 use stationsteps::modes_after;
 use stationsteps::one_on;
 use stationsteps::out_after;
+use units::Frame;
+use units::ModeNo;
+use units::ModuleNo;
 use units::NodeNo;
 use units::TaskNo;
 use units::Ticks;
@@ -72,19 +76,19 @@ fn control_row(controls: Controls, r: usize) -> ControlRow
 }
 
 fn data_row<'a>(
-    carries: &'a [u8; 256],
-    deadlines: &'a [u32; 256],
-    starts: &'a [u32; 256],
-    stops: &'a [u32; 256],
+    row_tasks: &'a [u8; Frame::MOST],
+    row_deadlines: &'a [u32; Frame::MOST],
+    row_starts: &'a [u32; Frame::MOST],
+    row_stops: &'a [u32; Frame::MOST],
     r: usize,
 ) -> DataRow
-    ensures { λ w. ⌜ w ≡ dataAt (now (carries .entry)) (now (deadlines .entry)) (now (starts .entry)) (now (stops .entry)) r ⌝ }
+    ensures { λ w. ⌜ w ≡ dataAt (now («row_tasks» .entry)) (now («row_deadlines» .entry)) (now («row_starts» .entry)) (now («row_stops» .entry)) r ⌝ }
 {
     DataRow {
-        task: TaskNo(byte_at(carries, r) as u8),
-        deadline: Ticks(number_at(deadlines, r)),
-        start: Ticks(number_at(starts, r)),
-        stop: Ticks(number_at(stops, r)),
+        task: TaskNo(byte_at(row_tasks, r) as u8),
+        deadline: Ticks(number_at(row_deadlines, r)),
+        start: Ticks(number_at(row_starts, r)),
+        stop: Ticks(number_at(row_stops, r)),
     }
 }
 
@@ -93,28 +97,34 @@ fn started<'a>(
     control: Found,
     message: Found,
     controls: Controls,
-    carries: &'a [u8; 256],
-    deadlines: &'a [u32; 256],
-    starts: &'a [u32; 256],
-    stops: &'a [u32; 256],
+    row_tasks: &'a [u8; Frame::MOST],
+    row_deadlines: &'a [u32; Frame::MOST],
+    row_starts: &'a [u32; Frame::MOST],
+    row_stops: &'a [u32; Frame::MOST],
 ) -> Said
-    ensures { λ r. ⌜ r ≡ saidBy controls (now (carries .entry)) (now (deadlines .entry)) (now (starts .entry)) (now (stops .entry)) (placeIn control) (placeIn message) ⌝ }
+    ensures { λ r. ⌜ r ≡ saidBy controls (now («row_tasks» .entry)) (now («row_deadlines» .entry)) (now («row_starts» .entry)) (now («row_stops» .entry)) (placeIn control) (placeIn message) ⌝ }
 {
     match control {
         Found::At(r) => Said::Control(control_row(controls, r)),
         Found::Nothing => match message {
-            Found::At(r) => Said::Data(data_row(carries, deadlines, starts, stops, r)),
+            Found::At(r) => Said::Data(data_row(
+                row_tasks,
+                row_deadlines,
+                row_starts,
+                row_stops,
+                r,
+            )),
             Found::Nothing => Said::Quiet,
         },
     }
 }
 
 // (b) of a control frame: the mode bytes that the nodes hold, by the control row that stops now.
-fn held_by(modules: Modules, controls: Controls, play: Play) -> [u8; 128]
-    ensures { λ r. ⌜ r ≡ stores (play .held) (heldNow modules controls play) 128 ⌝ }
-    ensures reads { λ r. ⌜ ((j : ℕ) → j < 128 → getD r j 0 ≡ heldNow modules controls play j) ⌝ }
+fn held_by(modules: Modules, controls: Controls, play: Play) -> [u8; NodeNo::MOST * ModuleNo::MOST]
+    ensures { λ r. ⌜ r ≡ stores (play .held) (heldNow modules controls play) (mostNodes * mostModules) ⌝ }
+    ensures reads { λ r. ⌜ ((j : ℕ) → j < mostNodes * mostModules → getD r j 0 ≡ heldNow modules controls play j) ⌝ }
 {
-    let ended = row_with(&controls.stops, controls.count as usize, play.clock.0);
+    let ended = row_with(&controls.stops, controls.count as usize, play.clock);
     let old = play.held;
     held_after(
         old,
@@ -128,8 +138,8 @@ fn held_by(modules: Modules, controls: Controls, play: Play) -> [u8; 128]
 
 // The steps but for the nodes; `control` and `message` are the rows that start now.
 fn played<'a>(
-    results: [Given; 32],
-    changes: [Change; 16],
+    results: [Given; TaskNo::MOST],
+    changes: [Change; ModuleNo::MOST],
     modules: Modules,
     modes: Modes,
     tasks: Tasks,
@@ -138,12 +148,12 @@ fn played<'a>(
     period: Ticks,
     control: Found,
     message: Found,
-    ends: &'a [bool; 32],
-    runs: &'a [u32; 1024],
-    carries: &'a [u8; 256],
-    deadlines: &'a [u32; 256],
+    ends: &'a [bool; TaskNo::MOST],
+    runs: &'a [u32; ModeNo::MOST * TaskNo::MOST],
+    row_tasks: &'a [u8; Frame::MOST],
+    row_deadlines: &'a [u32; Frame::MOST],
 ) -> Play
-    ensures { λ r. ⌜ r ≡ playBy results changes modules modes tasks controls play period (placeIn control) (placeIn message) (now (ends .entry)) (now (runs .entry)) (now (carries .entry)) (now (deadlines .entry)) ⌝ }
+    ensures { λ r. ⌜ r ≡ playBy results changes modules modes tasks controls play period (placeIn control) (placeIn message) (now (ends .entry)) (now (runs .entry)) (now («row_tasks» .entry)) (now («row_deadlines» .entry)) ⌝ }
     ensures reads { λ r. ⌜ Reads results modules controls play r ⌝ }
 {
     let old_out = play.out;
@@ -167,16 +177,16 @@ fn played<'a>(
     let full = full_after(
         is_set(play.full),
         message,
-        carries,
-        deadlines,
+        row_tasks,
+        row_deadlines,
         &tasks.homes,
         &running,
         &tasks.bus,
         runs,
     );
-    let load = load_after(play.load, message, carries, &out);
+    let load = load_after(play.load, message, row_tasks, &out);
     Play {
-        clock: Ticks(one_on(play.clock.0, period.0)),
+        clock: one_on(play.clock, period),
         running,
         ages,
         bytes,
@@ -189,8 +199,8 @@ fn played<'a>(
 }
 
 pub fn moves<'a>(
-    results: [Given; 32],
-    changes: [Change; 16],
+    results: [Given; TaskNo::MOST],
+    changes: [Change; ModuleNo::MOST],
     modules: Modules,
     modes: Modes,
     tasks: Tasks,
@@ -198,27 +208,27 @@ pub fn moves<'a>(
     datas: u16,
     period: Ticks,
     play: Play,
-    ends: &'a [bool; 32],
-    runs: &'a [u32; 1024],
-    carries: &'a [u8; 256],
-    deadlines: &'a [u32; 256],
-    starts: &'a [u32; 256],
-    stops: &'a [u32; 256],
+    ends: &'a [bool; TaskNo::MOST],
+    runs: &'a [u32; ModeNo::MOST * TaskNo::MOST],
+    row_tasks: &'a [u8; Frame::MOST],
+    row_deadlines: &'a [u32; Frame::MOST],
+    row_starts: &'a [u32; Frame::MOST],
+    row_stops: &'a [u32; Frame::MOST],
 ) -> Moved
-    ensures { λ r. ⌜ r ≡ movedBy results changes modules modes tasks controls datas period play (now (ends .entry)) (now (runs .entry)) (now (carries .entry)) (now (deadlines .entry)) (now (starts .entry)) (now (stops .entry)) ⌝ }
+    ensures { λ r. ⌜ r ≡ movedBy results changes modules modes tasks controls datas period play (now (ends .entry)) (now (runs .entry)) (now («row_tasks» .entry)) (now («row_deadlines» .entry)) (now («row_starts» .entry)) (now («row_stops» .entry)) ⌝ }
     ensures reads { λ r. ⌜ Reads results modules controls play (r .play) ⌝ }
 {
-    let time = rest(play.clock.0, period.0);
+    let time = Ticks(rest(play.clock.0, period.0));
     let control = row_with(&controls.starts, controls.count as usize, time);
-    let message = row_with(starts, datas as usize, time);
+    let message = row_with(row_starts, datas as usize, time);
     let said = started(
         control,
         message,
         controls,
-        carries,
-        deadlines,
-        starts,
-        stops,
+        row_tasks,
+        row_deadlines,
+        row_starts,
+        row_stops,
     );
     let next = played(
         results,
@@ -233,8 +243,8 @@ pub fn moves<'a>(
         message,
         ends,
         runs,
-        carries,
-        deadlines,
+        row_tasks,
+        row_deadlines,
     );
     Moved { said, play: next }
 }
@@ -245,17 +255,17 @@ pub fn what_lands<'a>(
     tasks: Tasks,
     datas: u16,
     play: Play,
-    carries: &'a [u8; 256],
-    stops: &'a [u32; 256],
+    row_tasks: &'a [u8; Frame::MOST],
+    row_stops: &'a [u32; Frame::MOST],
 ) -> Landing
-    ensures { λ r. ⌜ r ≡ landingBy modules tasks datas play (now (carries .entry)) (now (stops .entry)) ⌝ }
+    ensures { λ r. ⌜ r ≡ landingBy modules tasks datas play (now («row_tasks» .entry)) (now («row_stops» .entry)) ⌝ }
 {
-    let stopped = row_with(stops, datas as usize, play.clock.0);
+    let stopped = row_with(row_stops, datas as usize, play.clock);
     lands(
         stopped,
         is_set(play.full),
         play.load,
-        carries,
+        row_tasks,
         &tasks.homes,
         &modules.sites,
     )

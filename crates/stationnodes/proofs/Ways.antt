@@ -12,6 +12,8 @@ use Rattle.laws.proofs.Loops.{stores-at}
 use Rattle.laws.proofs.Stores.{stores-same}
 use Rattle.stationbus.specs.Bus.{numberAt}
 use Rattle.stationnodes.specs.Nodes.{landedRule, shownRule}
+use Rattle.units.specs.declared.TaskNo.{TaskNo}
+use Rattle.units.specs.declared.NodeNo.{NodeNo}
 use Rattle.stationnodes.specs.declared.Node.{Node}
 use Rattle.stationnodes.specs.declared.Landing.{Landing}
 use Rattle.stationnodes.specs.declared.Landing.the-variants.{Value}
@@ -31,7 +33,7 @@ module _ (e o m : Bool) (out landed old : ℕ) where
   shows-none p = rw p
 
 -- a landing changes nothing on the sender, and one place on another node
-module _ (l : Landing) (task sender v n : ℕ) (landed : List ℕ) (is : l ≡ Value task sender v) where
+module _ (l : Landing) (task : TaskNo) (sender : NodeNo) (v n : ℕ) (landed : List ℕ) (is : l ≡ Value task sender v) where
   off : (b s : Bool) (x : ℕ) → s ≡ true → cond (b && not s) v x ≡ x
   off true s x e = rw e
   off false s x e = refl
@@ -40,11 +42,11 @@ module _ (l : Landing) (task sender v n : ℕ) (landed : List ℕ) (is : l ≡ V
   on true s x e = rw e
   on false s x e = refl
 
-  pub lands-not : sender ≡ n → (k : ℕ) → landedRule l n landed k ≡ getD landed k 0
-  lands-not e k = rw is (off (eqb task k) (eqb sender n) (getD landed k 0) (eq-eqb sender n e))
+  pub lands-not : sender .0 ≡ n → (k : ℕ) → landedRule l n landed k ≡ getD landed k 0
+  lands-not e k = rw is (off (eqb (task .0) k) (eqb (sender .0) n) (getD landed k 0) (eq-eqb (sender .0) n e))
 
-  pub lands-here : (sender ≡ n → ⊥) → (k : ℕ) → landedRule l n landed k ≡ cond (eqb task k) v (getD landed k 0)
-  lands-here e k = rw is (on (eqb task k) (eqb sender n) (getD landed k 0) (ne-eqb sender n e))
+  pub lands-here : (sender .0 ≡ n → ⊥) → (k : ℕ) → landedRule l n landed k ≡ cond (eqb (task .0) k) v (getD landed k 0)
+  lands-here e k = rw is (on (eqb (task .0) k) (eqb (sender .0) n) (getD landed k 0) (ne-eqb (sender .0) n e))
 
 -- a node made anew: what it shows is made of what has landed
 pub made : {l x s y : List ℕ} → l ≡ x → s ≡ y → _≡_ {A = Node} (record { landed = l; shown = s }) (record { landed = x; shown = y })

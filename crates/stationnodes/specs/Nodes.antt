@@ -6,6 +6,7 @@ use lib.Dec.{eqb}
 use lib.ListN.{getD, replicate}
 use Prim.Native.Nat.{ℕ, _+_, _*_}
 use Rattle.laws.specs.Loops.{stores}
+use Rattle.rules.specs.Limits.{mostModules, mostTasks}
 use Rattle.stationbus.specs.Bus.{messageIn}
 use Rattle.stationnodes.specs.declared.Node.{Node}
 use Rattle.stationnodes.specs.declared.Landing.{Landing}
@@ -13,7 +14,7 @@ use Rattle.stationnodes.specs.declared.Landing.the-variants.{Nothing, Va
 
 -- a node before the first tick (rule 8.4)
 abbrev pub zeroNode : Node
-zeroNode = record { landed = replicate 32 0; shown = replicate 32 0 }
+zeroNode = record { landed = replicate mostTasks 0; shown = replicate mostTasks 0 }
 
 -- what stands behind the last node
 abbrev pub noNode : Node
@@ -21,19 +22,19 @@ noNode = record { landed = []; shown = [] }
 
 -- (b), rule 8.12: what the frame that stops lands, nothing where it is empty
 abbrev pub landingOf : List ℕ → List ℕ → List ℕ → Bool → ℕ → Option ℕ → Landing
-landingOf tasks homes nodes full load none = Nothing
-landingOf tasks homes nodes full load (some r) =
-    cond full (Value (getD tasks r 0) (getD nodes (getD homes (getD tasks r 0) 0) 0) load) Nothing
+landingOf rowTasks homes nodes full load none = Nothing
+landingOf rowTasks homes nodes full load (some r) =
+    cond full (Value (record { 0 = getD rowTasks r 0 }) (record { 0 = getD nodes (getD homes (getD rowTasks r 0) 0) 0 }) load) Nothing
 
 abbrev pub landedRule : Landing → ℕ → List ℕ → ℕ → ℕ
 landedRule Nothing n landed t = getD landed t 0
-landedRule (Value task sender v) n landed t = cond (eqb task t && not (eqb sender n)) v (getD landed t 0)
+landedRule (Value task sender v) n landed t = cond (eqb (task .0) t && not (eqb (sender .0) n)) v (getD landed t 0)
 
 -- (c) by the runs that end, the out-boxes after (a), the landed values and the mode bytes held after (b)
 abbrev pub shownAt : List Bool → List ℕ → List ℕ → List ℕ → List ℕ → List ℕ → List ℕ → ℕ → ℕ → (ℕ → ℕ) → ℕ → ℕ → ℕ
 shownAt ends homes nodes out held isBus runs clock n landed t old =
     cond (getD ends t false && eqb (getD nodes (getD homes t 0) 0) n) (getD out t 0)
-    (cond (getD ends t false && messageIn isBus runs t (getD held (n * 16 + getD homes t 0) 0) clock) (landed t) old)
+    (cond (getD ends t false && messageIn isBus runs (getD held (n * mostModules + getD homes t 0) 0) t clock) (landed t) old)
 
 abbrev pub shownRule : List Bool → List ℕ → List ℕ → List ℕ → List ℕ → List ℕ → List ℕ → ℕ → ℕ → (ℕ → ℕ) → List ℕ → ℕ → ℕ
 shownRule ends homes nodes out held isBus runs clock n landed shown t =
@@ -42,10 +43,10 @@ shownRule ends homes nodes out held isBus runs clock n landed shown t =
 unfoldable pub nodeAt : List Bool → List ℕ → List ℕ → List ℕ → List ℕ → List ℕ → List ℕ → ℕ → Landing → ℕ → Node → Node
 nodeAt ends homes nodes out held isBus runs clock landing n node =
     record {
-      landed = stores (node .landed) (landedRule landing n (node .landed)) 32;
+      landed = stores (node .landed) (landedRule landing n (node .landed)) mostTasks;
       shown =
           stores (node .shown)
-          (shownRule ends homes nodes out held isBus runs clock n (landedRule landing n (node .landed)) (node .shown)) 32;
+          (shownRule ends homes nodes out held isBus runs clock n (landedRule landing n (node .landed)) (node .shown)) mostTasks;
     }
 
 unfoldable pub nodeRule : List Bool → List ℕ → List ℕ → List ℕ → List ℕ → List ℕ → List ℕ → ℕ → Landing → List Node → ℕ → Node

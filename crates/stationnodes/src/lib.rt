@@ -6,6 +6,7 @@ ghost use Prim.Native.Nat.{_<_};
 ghost use Rattle.laws.specs.Loops.{stores};
 ghost use Rattle.laws.specs.Lists.{all, upTo};
 ghost use Rattle.places.specs.Found.{placeIn};
+ghost use Rattle.rules.specs.Limits.{mostNodes, mostTasks};
 ghost use Rattle.stationbus.specs.Bus.{numberAt};
 ghost use Rattle.stationnodes.specs.Nodes.{isLanding, landedRule, landingOf, noNode, nodeAt, nodeRule, quietAt, shownAt, shownRule, zeroNode};
 use figures::both;
@@ -13,19 +14,25 @@ use places::Found;
 use places::byte_at;
 use places::value_at;
 use stationbus::has_message;
+use units::Frame;
+use units::ModeNo;
+use units::ModuleNo;
+use units::NodeNo;
+use units::TaskNo;
+use units::Ticks;
 
 #[repr(C)]
 pub struct Node {
-    pub landed: [u64; 32],
-    pub shown: [u64; 32],
+    pub landed: [u64; TaskNo::MOST],
+    pub shown: [u64; TaskNo::MOST],
 }
 
 // What lands now.
 pub enum Landing {
     Nothing,
     Value {
-        task: usize,
-        sender: usize,
+        task: TaskNo,
+        sender: NodeNo,
         value: u64,
     },
 }
@@ -35,31 +42,32 @@ impl Node {
         ensures { λ r. ⌜ r ≡ zeroNode ⌝ }
     {
         Node {
-            landed: [0; 32],
-            shown: [0; 32],
+            landed: [0; TaskNo::MOST],
+            shown: [0; TaskNo::MOST],
         }
     }
 }
 
-// (b) A data frame that stops now: `row` is its row, `tasks` the rows' tasks.
+// (b) A data frame that stops now: `row` is its row.
 pub fn lands<'a>(
     row: Found,
     full: bool,
     load: u64,
-    tasks: &'a [u8; 256],
-    homes: &'a [u8; 32],
-    nodes: &'a [u8; 16],
+    row_tasks: &'a [u8; Frame::MOST],
+    homes: &'a [u8; TaskNo::MOST],
+    nodes: &'a [u8; ModuleNo::MOST],
 ) -> Landing
-    ensures { λ r. ⌜ r ≡ landingOf (now (tasks .entry)) (now (homes .entry)) (now (nodes .entry)) full load (placeIn row) ⌝ }
+    ensures { λ r. ⌜ r ≡ landingOf (now («row_tasks» .entry)) (now (homes .entry)) (now (nodes .entry)) full load (placeIn row) ⌝ }
 {
     match row {
         Found::Nothing => Landing::Nothing,
         Found::At(r) => {
             if full {
-                let task = byte_at(tasks, r);
+                let task = byte_at(row_tasks, r);
+                let sender = byte_at(nodes, byte_at(homes, task));
                 Landing::Value {
-                    task,
-                    sender: byte_at(nodes, byte_at(homes, task)),
+                    task: TaskNo(task as u8),
+                    sender: NodeNo(sender as u8),
                     value: load,
                 }
             } else {
@@ -69,17 +77,18 @@ pub fn lands<'a>(
     }
 }
 
-fn with_place(mut places: [u64; 32], task: usize, value: u64) -> [u64; 32]
-    ensures { λ r. ⌜ r ≡ set places task value ⌝ }
+fn with_place(mut places: [u64; TaskNo::MOST], task: TaskNo, value: u64) -> [u64; TaskNo::MOST]
+    ensures { λ r. ⌜ r ≡ set places (task .0) value ⌝ }
 {
-    if task < 32 {
-        places[task] = value;
+    let place = task.0 as usize;
+    if place < TaskNo::MOST {
+        places[place] = value;
     }
     places
 }
 
-fn landed_after(landed: [u64; 32], landing: Landing, n: usize) -> [u64; 32]
-    ensures { λ r. ⌜ r ≡ stores landed (landedRule landing n landed) 32 ⌝ }
+fn landed_after(landed: [u64; TaskNo::MOST], landing: Landing, n: usize) -> [u64; TaskNo::MOST]
+    ensures { λ r. ⌜ r ≡ stores landed (landedRule landing n landed) mostTasks ⌝ }
 {
     match landing {
         Landing::Nothing => landed,
@@ -88,7 +97,7 @@ fn landed_after(landed: [u64; 32], landing: Landing, n: usize) -> [u64; 32]
             sender,
             value,
         } => {
-            if sender == n {
+            if sender.place() == n {
                 landed
             } else {
                 with_place(landed, task, value)
@@ -101,25 +110,26 @@ fn shown_at<'a>(
     old: u64,
     t: usize,
     n: usize,
-    ends: &'a [bool; 32],
-    homes: &'a [u8; 32],
-    nodes: &'a [u8; 16],
-    out: &'a [u64; 32],
-    landed: &'a [u64; 32],
-    held: &'a [u8; 128],
-    bus: &'a [u8; 32],
-    runs: &'a [u32; 1024],
-    clock: u32,
+    ends: &'a [bool; TaskNo::MOST],
+    homes: &'a [u8; TaskNo::MOST],
+    nodes: &'a [u8; ModuleNo::MOST],
+    out: &'a [u64; TaskNo::MOST],
+    landed: &'a [u64; TaskNo::MOST],
+    held: &'a [u8; NodeNo::MOST * ModuleNo::MOST],
+    bus: &'a [u8; TaskNo::MOST],
+    runs: &'a [u32; ModeNo::MOST * TaskNo::MOST],
+    clock: Ticks,
 ) -> u64
-    requires { ⌜ (t < 32) × (n < 8) ⌝ }
-    ensures { λ r. ⌜ r ≡ shownAt (now (ends .entry)) (now (homes .entry)) (now (nodes .entry)) (now (out .entry)) (now (held .entry)) (now (bus .entry)) (now (runs .entry)) clock n (numberAt (now (landed .entry))) t old ⌝ }
+    requires { ⌜ (t < mostTasks) × (n < mostNodes) ⌝ }
+    ensures { λ r. ⌜ r ≡ shownAt (now (ends .entry)) (now (homes .entry)) (now (nodes .entry)) (now (out .entry)) (now (held .entry)) (now (bus .entry)) (now (runs .entry)) (clock .0) n (numberAt (now (landed .entry))) t old ⌝ }
 {
     if ends[t] {
         let home = byte_at(homes, t);
         if byte_at(nodes, home) == n {
             return value_at(out, t);
         }
-        if has_message(bus, runs, t, byte_at(held, n * 16 + home), clock) {
+        let mode = byte_at(held, n * ModuleNo::MOST + home);
+        if has_message(bus, runs, ModeNo(mode as u8), TaskNo(t as u8), clock) {
             return value_at(landed, t);
         }
     }
@@ -127,23 +137,23 @@ fn shown_at<'a>(
 }
 
 fn shown_after<'a>(
-    mut shown: [u64; 32],
+    mut shown: [u64; TaskNo::MOST],
     n: usize,
-    ends: &'a [bool; 32],
-    homes: &'a [u8; 32],
-    nodes: &'a [u8; 16],
-    out: &'a [u64; 32],
-    landed: &'a [u64; 32],
-    held: &'a [u8; 128],
-    bus: &'a [u8; 32],
-    runs: &'a [u32; 1024],
-    clock: u32,
-) -> [u64; 32]
-    requires { ⌜ n < 8 ⌝ }
-    ensures { λ r. ⌜ r ≡ stores shown (shownRule (now (ends .entry)) (now (homes .entry)) (now (nodes .entry)) (now (out .entry)) (now (held .entry)) (now (bus .entry)) (now (runs .entry)) clock n (numberAt (now (landed .entry))) shown) 32 ⌝ }
+    ends: &'a [bool; TaskNo::MOST],
+    homes: &'a [u8; TaskNo::MOST],
+    nodes: &'a [u8; ModuleNo::MOST],
+    out: &'a [u64; TaskNo::MOST],
+    landed: &'a [u64; TaskNo::MOST],
+    held: &'a [u8; NodeNo::MOST * ModuleNo::MOST],
+    bus: &'a [u8; TaskNo::MOST],
+    runs: &'a [u32; ModeNo::MOST * TaskNo::MOST],
+    clock: Ticks,
+) -> [u64; TaskNo::MOST]
+    requires { ⌜ n < mostNodes ⌝ }
+    ensures { λ r. ⌜ r ≡ stores shown (shownRule (now (ends .entry)) (now (homes .entry)) (now (nodes .entry)) (now (out .entry)) (now (held .entry)) (now (bus .entry)) (now (runs .entry)) (clock .0) n (numberAt (now (landed .entry))) shown) mostTasks ⌝ }
 {
     let mut t = 0;
-    while t < 32 {
+    while t < TaskNo::MOST {
         shown[t] = shown_at(
             shown[t],
             t,
@@ -167,17 +177,17 @@ fn node_after<'a>(
     node: Node,
     n: usize,
     landing: Landing,
-    ends: &'a [bool; 32],
-    homes: &'a [u8; 32],
-    nodes: &'a [u8; 16],
-    out: &'a [u64; 32],
-    held: &'a [u8; 128],
-    bus: &'a [u8; 32],
-    runs: &'a [u32; 1024],
-    clock: u32,
+    ends: &'a [bool; TaskNo::MOST],
+    homes: &'a [u8; TaskNo::MOST],
+    nodes: &'a [u8; ModuleNo::MOST],
+    out: &'a [u64; TaskNo::MOST],
+    held: &'a [u8; NodeNo::MOST * ModuleNo::MOST],
+    bus: &'a [u8; TaskNo::MOST],
+    runs: &'a [u32; ModeNo::MOST * TaskNo::MOST],
+    clock: Ticks,
 ) -> Node
-    requires { ⌜ n < 8 ⌝ }
-    ensures { λ r. ⌜ r ≡ nodeAt (now (ends .entry)) (now (homes .entry)) (now (nodes .entry)) (now (out .entry)) (now (held .entry)) (now (bus .entry)) (now (runs .entry)) clock landing n node ⌝ }
+    requires { ⌜ n < mostNodes ⌝ }
+    ensures { λ r. ⌜ r ≡ nodeAt (now (ends .entry)) (now (homes .entry)) (now (nodes .entry)) (now (out .entry)) (now (held .entry)) (now (bus .entry)) (now (runs .entry)) (clock .0) landing n node ⌝ }
 {
     let before = node.landed;
     let landed = landed_after(before, landing, n);
@@ -199,21 +209,21 @@ fn node_after<'a>(
 }
 
 pub fn nodes_after<'a>(
-    mut old: [Node; 8],
+    mut old: [Node; NodeNo::MOST],
     landing: Landing,
-    ends: &'a [bool; 32],
-    homes: &'a [u8; 32],
-    nodes: &'a [u8; 16],
-    out: &'a [u64; 32],
-    held: &'a [u8; 128],
-    bus: &'a [u8; 32],
-    runs: &'a [u32; 1024],
-    clock: u32,
-) -> [Node; 8]
-    ensures { λ r. ⌜ r ≡ stores old (nodeRule (now (ends .entry)) (now (homes .entry)) (now (nodes .entry)) (now (out .entry)) (now (held .entry)) (now (bus .entry)) (now (runs .entry)) clock landing old) 8 ⌝ }
+    ends: &'a [bool; TaskNo::MOST],
+    homes: &'a [u8; TaskNo::MOST],
+    nodes: &'a [u8; ModuleNo::MOST],
+    out: &'a [u64; TaskNo::MOST],
+    held: &'a [u8; NodeNo::MOST * ModuleNo::MOST],
+    bus: &'a [u8; TaskNo::MOST],
+    runs: &'a [u32; ModeNo::MOST * TaskNo::MOST],
+    clock: Ticks,
+) -> [Node; NodeNo::MOST]
+    ensures { λ r. ⌜ r ≡ stores old (nodeRule (now (ends .entry)) (now (homes .entry)) (now (nodes .entry)) (now (out .entry)) (now (held .entry)) (now (bus .entry)) (now (runs .entry)) (clock .0) landing old) mostNodes ⌝ }
 {
     let mut n = 0;
-    while n < 8 {
+    while n < NodeNo::MOST {
         let node = old[n];
         old[n] = node_after(
             node,
@@ -234,12 +244,12 @@ pub fn nodes_after<'a>(
 }
 
 // Whether no run ends.
-fn is_quiet<'a>(ends: &'a [bool; 32]) -> bool
-    ensures { λ r. ⌜ r ≡ all (quietAt (now (ends .entry))) (upTo 32) ⌝ }
+fn is_quiet<'a>(ends: &'a [bool; TaskNo::MOST]) -> bool
+    ensures { λ r. ⌜ r ≡ all (quietAt (now (ends .entry))) (upTo mostTasks) ⌝ }
 {
     let mut quiet = true;
     let mut t = 0;
-    while t < 32 {
+    while t < TaskNo::MOST {
         quiet = both(quiet, !ends[t]);
         t += 1;
     }
@@ -247,8 +257,8 @@ fn is_quiet<'a>(ends: &'a [bool; 32]) -> bool
 }
 
 // Whether steps (b) and (c) leave the nodes as they are.
-pub fn is_idle<'a>(landing: Landing, ends: &'a [bool; 32]) -> bool
-    ensures { λ r. ⌜ r ≡ (not (isLanding landing) && all (quietAt (now (ends .entry))) (upTo 32)) ⌝ }
+pub fn is_idle<'a>(landing: Landing, ends: &'a [bool; TaskNo::MOST]) -> bool
+    ensures { λ r. ⌜ r ≡ (not (isLanding landing) && all (quietAt (now (ends .entry))) (upTo mostTasks)) ⌝ }
 {
     match landing {
         Landing::Nothing => is_quiet(ends),
@@ -261,12 +271,13 @@ pub fn is_idle<'a>(landing: Landing, ends: &'a [bool; 32]) -> bool
 }
 
 // What a node shows of a task; 0 where there is no such place.
-pub fn shown_on(nodes: [Node; 8], n: usize, task: usize) -> u64
-    ensures { λ r. ⌜ r ≡ getD (getD nodes n noNode .shown) task 0 ⌝ }
+pub fn shown_on(nodes: [Node; NodeNo::MOST], node: NodeNo, task: TaskNo) -> u64
+    ensures { λ r. ⌜ r ≡ getD (getD nodes (node .0) noNode .shown) (task .0) 0 ⌝ }
 {
-    if n < 8 {
+    let n = node.0 as usize;
+    if n < NodeNo::MOST {
         let node = nodes[n];
-        value_at(&node.shown, task)
+        value_at(&node.shown, task.place())
     } else {
         0
     }

@@ -6,45 +6,46 @@ use lib.Dec.{eqb, leb, ltb}
 use lib.ListN.{getD}
 use Prim.Native.Nat.{ℕ, _+_, _*_}
 use Rattle.laws.specs.Lists.{all, upTo}
+use Rattle.rules.specs.Limits.{mostNodes, mostModules, mostModes, mostTasks, mostFrames, longestTime, largestMessage}
 use Rattle.rules.specs.StationRange.{isBetween, isValue}
 
 -- how many modules, modes and tasks there are, the bus period, and how many rows of each kind
 abbrev pub countsTest : ℕ → ℕ → ℕ → ℕ → ℕ → ℕ → Bool
 countsTest modules modes tasks period controls datas =
-    (isBetween 1 16 modules && (isBetween 1 32 modes && isBetween 1 32 tasks))
-    && (isBetween 1 1000000 period && (leb controls 8 && leb datas 256))
+    (isBetween 1 mostModules modules && (isBetween 1 mostModes modes && isBetween 1 mostTasks tasks))
+    && (isBetween 1 longestTime period && (leb controls mostNodes && leb datas mostFrames))
 
 abbrev pub moduleTest : List ℕ → ℕ → Bool
-moduleTest nodes m = ltb (getD nodes m 0) 8
+moduleTest nodes m = ltb (getD nodes m 0) mostNodes
 
 -- a mode or a task: the module that it is of, and two numbers, at least 1 where it is there
 abbrev pub thingTest : ℕ → ℕ → Bool → ℕ → ℕ → ℕ → Bool
 thingTest modules most there home a b =
-    ltb home modules && ((leb a most && leb b 1000000) && (not there || (ltb 0 a && ltb 0 b)))
+    ltb home modules && ((leb a most && leb b longestTime) && (not there || (ltb 0 a && ltb 0 b)))
 
 abbrev pub modeTest : ℕ → ℕ → List ℕ → List ℕ → List ℕ → ℕ → Bool
 modeTest modules modes homes periods switches μ =
-    thingTest modules 1000000 (ltb μ modes) (getD homes μ 0) (getD periods μ 0) (getD switches μ 0)
+    thingTest modules longestTime (ltb μ modes) (getD homes μ 0) (getD periods μ 0) (getD switches μ 0)
 
 abbrev pub taskTest : ℕ → ℕ → List ℕ → List ℕ → List ℕ → ℕ → Bool
 taskTest modules tasks homes sizes worsts t =
-    thingTest modules 8 (ltb t tasks) (getD homes t 0) (getD sizes t 0) (getD worsts t 0)
+    thingTest modules largestMessage (ltb t tasks) (getD homes t 0) (getD sizes t 0) (getD worsts t 0)
 
--- the runs of a mode stand in one array, 32 for each mode
+-- the runs stand in one array, a place for each task, mode after mode
 abbrev pub runTest : List ℕ → ℕ → ℕ → ℕ → Bool
-runTest runs μ period t = leb (getD runs (μ * 32 + t) 0) period
+runTest runs μ period t = leb (getD runs (μ * mostTasks + t) 0) period
 
 unfoldable pub runsTest : List ℕ → List ℕ → ℕ → Bool
-runsTest runs periods μ = all (runTest runs μ (getD periods μ 0)) (upTo 32)
+runsTest runs periods μ = all (runTest runs μ (getD periods μ 0)) (upTo mostTasks)
 
 abbrev pub controlTest : ℕ → List ℕ → List ℕ → List ℕ → ℕ → Bool
 controlTest period nodes starts stops r =
-    ltb (getD nodes r 0) 8 && (leb (getD starts r 0) period && leb (getD stops r 0) period)
+    ltb (getD nodes r 0) mostNodes && (leb (getD starts r 0) period && leb (getD stops r 0) period)
 
 abbrev pub dataTest : ℕ → ℕ → List ℕ → List ℕ → List ℕ → List ℕ → ℕ → Bool
-dataTest tasks period rowTasks deadlines starts stops r =
-    (ltb (getD rowTasks r 0) tasks && leb (getD deadlines r 0) period)
-    && (leb (getD starts r 0) period && leb (getD stops r 0) period)
+dataTest tasks period rowTasks rowDeadlines rowStarts rowStops r =
+    (ltb (getD rowTasks r 0) tasks && leb (getD rowDeadlines r 0) period)
+    && (leb (getD rowStarts r 0) period && leb (getD rowStops r 0) period)
 
 -- the mode that runs, its age and its mode byte
 abbrev pub playTest : ℕ → ℕ → List ℕ → List ℕ → List ℕ → List ℕ → List ℕ → ℕ → Bool
@@ -58,6 +59,6 @@ boxTest out t = isValue (getD out t 0)
 abbrev pub placeTest : List ℕ → List ℕ → ℕ → Bool
 placeTest landed shown t = isValue (getD landed t 0) && isValue (getD shown t 0)
 
--- the mode bytes that the nodes hold stand in one array, 16 for each node
+-- the mode bytes that the nodes hold stand in one array, a place for each module, node after node
 abbrev pub byteTest : List ℕ → ℕ → ℕ → ℕ → Bool
-byteTest held modes n m = ltb (getD held (n * 16 + m) 0) modes
+byteTest held modes n m = ltb (getD held (n * mostModules + m) 0) modes

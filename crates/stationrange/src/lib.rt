@@ -5,6 +5,7 @@ ghost use mathlib.Core.Bool.{_&&_, _||_};
 ghost use Prim.Native.Nat.{_<_};
 ghost use lib.Dec.{leb, ltb};
 ghost use Rattle.laws.specs.Lists.{all, upTo};
+ghost use Rattle.rules.specs.Limits.{mostFrames, mostModes, mostModules, mostNodes, mostTasks};
 ghost use Rattle.rules.specs.StationRange.{isBetween, isValue};
 ghost use Rattle.stationrange.specs.Ranges.{boxTest, byteTest, controlTest, countsTest, dataTest, modeTest, moduleTest, playTest, runTest, runsTest, taskTest, thingTest};
 use figures::both;
@@ -12,53 +13,63 @@ use figures::if_so;
 use figures::wide;
 use places::byte_at;
 use places::number_at;
+use plan::Task;
+use units::Frame;
+use units::ModeNo;
+use units::ModuleNo;
+use units::NodeNo;
+use units::TaskNo;
+use units::Ticks;
 
-fn is_between(low: u32, high: u32, x: u32) -> bool
+fn is_between(low: usize, high: usize, x: usize) -> bool
     ensures { λ r. ⌜ r ≡ isBetween low high x ⌝ }
 {
     both(low <= x, x <= high)
 }
 
-pub fn counts(modules: u8, modes: u8, tasks: u8, period: u32, controls: u8, datas: u16) -> bool
-    ensures { λ r. ⌜ r ≡ countsTest modules modes tasks period controls datas ⌝ }
+pub fn counts(modules: u8, modes: u8, tasks: u8, period: Ticks, controls: u8, datas: u16) -> bool
+    ensures { λ r. ⌜ r ≡ countsTest modules modes tasks (period .0) controls datas ⌝ }
 {
     let things = both(
-        is_between(1, 16, modules as u32),
+        is_between(1, ModuleNo::MOST, modules as usize),
         both(
-            is_between(1, 32, modes as u32),
-            is_between(1, 32, tasks as u32),
+            is_between(1, ModeNo::MOST, modes as usize),
+            is_between(1, TaskNo::MOST, tasks as usize),
         ),
     );
     both(
         things,
         both(
-            is_between(1, 1_000_000, period),
-            both(controls <= 8, datas <= 256),
+            is_between(1, Ticks::LONGEST as usize, period.0 as usize),
+            both(
+                controls as usize <= NodeNo::MOST,
+                datas as usize <= Frame::MOST,
+            ),
         ),
     )
 }
 
-pub fn modules<'a>(nodes: &'a [u8; 16]) -> bool
-    ensures { λ r. ⌜ r ≡ all (moduleTest (now (nodes .entry))) (upTo 16) ⌝ }
+pub fn modules<'a>(nodes: &'a [u8; ModuleNo::MOST]) -> bool
+    ensures { λ r. ⌜ r ≡ all (moduleTest (now (nodes .entry))) (upTo mostModules) ⌝ }
 {
     let mut good = true;
     let mut m = 0;
-    while m < 16 {
-        good = both(good, nodes[m] < 8);
+    while m < ModuleNo::MOST {
+        good = both(good, byte_at(nodes, m) < NodeNo::MOST);
         m += 1;
     }
     good
 }
 
-// A mode or a task.
-fn thing(modules: u8, most: u32, there: bool, home: u8, a: u32, b: u32) -> bool
-    ensures { λ r. ⌜ r ≡ thingTest modules most there home a b ⌝ }
+// A mode or a task: the module that it is of, its period or its bytes, of which `most` are allowed, and its other time.
+fn thing(modules: u8, most: u32, there: bool, home: ModuleNo, a: u32, b: Ticks) -> bool
+    ensures { λ r. ⌜ r ≡ thingTest modules most there (home .0) a (b .0) ⌝ }
 {
     both(
-        home < modules,
+        home.0 < modules,
         both(
-            both(a <= most, b <= 1_000_000),
-            if_so(there, both(0 < a, 0 < b)),
+            both(a <= most, b.0 <= Ticks::LONGEST),
+            if_so(there, both(0 < a, 0 < b.0)),
         ),
     )
 }
@@ -66,24 +77,24 @@ fn thing(modules: u8, most: u32, there: bool, home: u8, a: u32, b: u32) -> bool
 pub fn modes<'a>(
     modules: u8,
     modes: u8,
-    homes: &'a [u8; 32],
-    periods: &'a [u32; 32],
-    switches: &'a [u32; 32],
+    homes: &'a [u8; ModeNo::MOST],
+    periods: &'a [u32; ModeNo::MOST],
+    switches: &'a [u32; ModeNo::MOST],
 ) -> bool
-    ensures { λ r. ⌜ r ≡ all (modeTest modules modes (now (homes .entry)) (now (periods .entry)) (now (switches .entry))) (upTo 32) ⌝ }
+    ensures { λ r. ⌜ r ≡ all (modeTest modules modes (now (homes .entry)) (now (periods .entry)) (now (switches .entry))) (upTo mostModes) ⌝ }
 {
     let mut good = true;
     let mut mode = 0;
-    while mode < 32 {
+    while mode < ModeNo::MOST {
         good = both(
             good,
             thing(
                 modules,
-                1_000_000,
+                Ticks::LONGEST,
                 mode < modes as usize,
-                homes[mode],
+                ModuleNo(homes[mode]),
                 periods[mode],
-                switches[mode],
+                Ticks(switches[mode]),
             ),
         );
         mode += 1;
@@ -94,24 +105,24 @@ pub fn modes<'a>(
 pub fn tasks<'a>(
     modules: u8,
     tasks: u8,
-    homes: &'a [u8; 32],
-    sizes: &'a [u8; 32],
-    worsts: &'a [u32; 32],
+    homes: &'a [u8; TaskNo::MOST],
+    sizes: &'a [u8; TaskNo::MOST],
+    worsts: &'a [u32; TaskNo::MOST],
 ) -> bool
-    ensures { λ r. ⌜ r ≡ all (taskTest modules tasks (now (homes .entry)) (now (sizes .entry)) (now (worsts .entry))) (upTo 32) ⌝ }
+    ensures { λ r. ⌜ r ≡ all (taskTest modules tasks (now (homes .entry)) (now (sizes .entry)) (now (worsts .entry))) (upTo mostTasks) ⌝ }
 {
     let mut good = true;
     let mut t = 0;
-    while t < 32 {
+    while t < TaskNo::MOST {
         good = both(
             good,
             thing(
                 modules,
-                8,
+                Task::LARGEST,
                 t < tasks as usize,
-                homes[t],
+                ModuleNo(homes[t]),
                 wide(sizes[t]),
-                worsts[t],
+                Ticks(worsts[t]),
             ),
         );
         t += 1;
@@ -119,88 +130,106 @@ pub fn tasks<'a>(
     good
 }
 
-fn runs_of<'a>(runs: &'a [u32; 1024], mode: usize, period: u32) -> bool
-    requires { ⌜ mode < 32 ⌝ }
-    ensures { λ r. ⌜ r ≡ all (runTest (now (runs .entry)) mode period) (upTo 32) ⌝ }
+fn runs_of<'a>(runs: &'a [u32; ModeNo::MOST * TaskNo::MOST], mode: usize, period: Ticks) -> bool
+    requires { ⌜ mode < mostModes ⌝ }
+    ensures { λ r. ⌜ r ≡ all (runTest (now (runs .entry)) mode (period .0)) (upTo mostTasks) ⌝ }
 {
     let mut good = true;
     let mut t = 0;
-    while t < 32 {
-        good = both(good, runs[mode * 32 + t] <= period);
+    while t < TaskNo::MOST {
+        good = both(good, runs[mode * TaskNo::MOST + t] <= period.0);
         t += 1;
     }
     good
 }
 
-pub fn runs<'a>(runs: &'a [u32; 1024], periods: &'a [u32; 32]) -> bool
-    ensures { λ r. ⌜ r ≡ all (runsTest (now (runs .entry)) (now (periods .entry))) (upTo 32) ⌝ }
+pub fn runs<'a>(
+    runs: &'a [u32; ModeNo::MOST * TaskNo::MOST],
+    periods: &'a [u32; ModeNo::MOST],
+) -> bool
+    ensures { λ r. ⌜ r ≡ all (runsTest (now (runs .entry)) (now (periods .entry))) (upTo mostModes) ⌝ }
 {
     let mut good = true;
     let mut mode = 0;
-    while mode < 32 {
-        good = both(good, runs_of(runs, mode, periods[mode]));
+    while mode < ModeNo::MOST {
+        good = both(good, runs_of(runs, mode, Ticks(periods[mode])));
         mode += 1;
     }
     good
 }
 
-fn control_row(period: u32, node: u8, start: u32, stop: u32) -> bool
-    ensures { λ r. ⌜ r ≡ (ltb node 8 && (leb start period && leb stop period)) ⌝ }
+fn control_row(period: Ticks, node: NodeNo, start: Ticks, stop: Ticks) -> bool
+    ensures { λ r. ⌜ r ≡ (ltb (node .0) mostNodes && (leb (start .0) (period .0) && leb (stop .0) (period .0))) ⌝ }
 {
-    both(node < 8, both(start <= period, stop <= period))
+    both(
+        (node.0 as usize) < NodeNo::MOST,
+        both(start.0 <= period.0, stop.0 <= period.0),
+    )
 }
 
 pub fn controls<'a>(
-    period: u32,
-    nodes: &'a [u8; 8],
-    starts: &'a [u32; 8],
-    stops: &'a [u32; 8],
+    period: Ticks,
+    nodes: &'a [u8; NodeNo::MOST],
+    starts: &'a [u32; NodeNo::MOST],
+    stops: &'a [u32; NodeNo::MOST],
 ) -> bool
-    ensures { λ r. ⌜ r ≡ all (controlTest period (now (nodes .entry)) (now (starts .entry)) (now (stops .entry))) (upTo 8) ⌝ }
+    ensures { λ r. ⌜ r ≡ all (controlTest (period .0) (now (nodes .entry)) (now (starts .entry)) (now (stops .entry))) (upTo mostNodes) ⌝ }
 {
     let mut good = true;
     let mut row = 0;
-    while row < 8 {
+    while row < NodeNo::MOST {
         good = both(
             good,
-            control_row(period, nodes[row], starts[row], stops[row]),
+            control_row(
+                period,
+                NodeNo(nodes[row]),
+                Ticks(starts[row]),
+                Ticks(stops[row]),
+            ),
         );
         row += 1;
     }
     good
 }
 
-fn data_row(tasks: u8, period: u32, task: u8, deadline: u32, start: u32, stop: u32) -> bool
-    ensures { λ r. ⌜ r ≡ ((ltb task tasks && leb deadline period) && (leb start period && leb stop period)) ⌝ }
+fn data_row(
+    tasks: u8,
+    period: Ticks,
+    task: TaskNo,
+    deadline: Ticks,
+    start: Ticks,
+    stop: Ticks,
+) -> bool
+    ensures { λ r. ⌜ r ≡ ((ltb (task .0) tasks && leb (deadline .0) (period .0)) && (leb (start .0) (period .0) && leb (stop .0) (period .0))) ⌝ }
 {
     both(
-        both(task < tasks, deadline <= period),
-        both(start <= period, stop <= period),
+        both(task.0 < tasks, deadline.0 <= period.0),
+        both(start.0 <= period.0, stop.0 <= period.0),
     )
 }
 
 pub fn datas<'a>(
     tasks: u8,
-    period: u32,
-    rows: &'a [u8; 256],
-    deadlines: &'a [u32; 256],
-    starts: &'a [u32; 256],
-    stops: &'a [u32; 256],
+    period: Ticks,
+    row_tasks: &'a [u8; Frame::MOST],
+    row_deadlines: &'a [u32; Frame::MOST],
+    row_starts: &'a [u32; Frame::MOST],
+    row_stops: &'a [u32; Frame::MOST],
 ) -> bool
-    ensures { λ r. ⌜ r ≡ all (dataTest tasks period (now (rows .entry)) (now (deadlines .entry)) (now (starts .entry)) (now (stops .entry))) (upTo 256) ⌝ }
+    ensures { λ r. ⌜ r ≡ all (dataTest tasks (period .0) (now («row_tasks» .entry)) (now («row_deadlines» .entry)) (now («row_starts» .entry)) (now («row_stops» .entry))) (upTo mostFrames) ⌝ }
 {
     let mut good = true;
     let mut row = 0;
-    while row < 256 {
+    while row < Frame::MOST {
         good = both(
             good,
             data_row(
                 tasks,
                 period,
-                rows[row],
-                deadlines[row],
-                starts[row],
-                stops[row],
+                TaskNo(row_tasks[row]),
+                Ticks(row_deadlines[row]),
+                Ticks(row_starts[row]),
+                Ticks(row_stops[row]),
             ),
         );
         row += 1;
@@ -209,29 +238,29 @@ pub fn datas<'a>(
 }
 
 // A module's running mode: one of its own, with an age within its period; and its mode byte.
-fn play(own: bool, modes: u8, mode: usize, age: u32, period: u32, byte: u8) -> bool
-    ensures { λ r. ⌜ r ≡ ((ltb mode modes && own) && (leb age period && ltb byte modes)) ⌝ }
+fn play(own: bool, modes: u8, mode: ModeNo, age: Ticks, period: Ticks, byte: ModeNo) -> bool
+    ensures { λ r. ⌜ r ≡ ((ltb (mode .0) modes && own) && (leb (age .0) (period .0) && ltb (byte .0) modes)) ⌝ }
 {
     both(
-        both(mode < modes as usize, own),
-        both(age <= period, byte < modes),
+        both(mode.0 < modes, own),
+        both(age.0 <= period.0, byte.0 < modes),
     )
 }
 
 pub fn plays<'a>(
     modules: u8,
     modes: u8,
-    homes: &'a [u8; 32],
-    periods: &'a [u32; 32],
-    running: &'a [u8; 16],
-    ages: &'a [u32; 16],
-    bytes: &'a [u8; 16],
+    homes: &'a [u8; ModeNo::MOST],
+    periods: &'a [u32; ModeNo::MOST],
+    running: &'a [u8; ModuleNo::MOST],
+    ages: &'a [u32; ModuleNo::MOST],
+    bytes: &'a [u8; ModuleNo::MOST],
 ) -> bool
-    ensures { λ r. ⌜ r ≡ all (playTest modules modes (now (homes .entry)) (now (periods .entry)) (now (running .entry)) (now (ages .entry)) (now (bytes .entry))) (upTo 16) ⌝ }
+    ensures { λ r. ⌜ r ≡ all (playTest modules modes (now (homes .entry)) (now (periods .entry)) (now (running .entry)) (now (ages .entry)) (now (bytes .entry))) (upTo mostModules) ⌝ }
 {
     let mut good = true;
     let mut m = 0;
-    while m < 16 {
+    while m < ModuleNo::MOST {
         let mode = byte_at(running, m);
         let own = if_so(m < modules as usize, byte_at(homes, mode) == m);
         good = both(
@@ -239,10 +268,10 @@ pub fn plays<'a>(
             play(
                 own,
                 modes,
-                mode,
-                ages[m],
-                number_at(periods, mode),
-                bytes[m],
+                ModeNo(running[m]),
+                Ticks(ages[m]),
+                Ticks(number_at(periods, mode)),
+                ModeNo(bytes[m]),
             ),
         );
         m += 1;
@@ -261,21 +290,21 @@ pub fn boxes<'a>(out: &'a [u64; 32]) -> bool
 {
     let mut good = true;
     let mut t = 0;
-    while t < 32 {
+    while t < TaskNo::MOST {
         good = both(good, is_value(out[t]));
         t += 1;
     }
     good
 }
 
-pub fn bytes<'a>(held: &'a [u8; 128], modes: u8, node: usize) -> bool
-    requires { ⌜ node < 8 ⌝ }
-    ensures { λ r. ⌜ r ≡ all (byteTest (now (held .entry)) modes node) (upTo 16) ⌝ }
+pub fn bytes<'a>(held: &'a [u8; NodeNo::MOST * ModuleNo::MOST], modes: u8, node: usize) -> bool
+    requires { ⌜ node < mostNodes ⌝ }
+    ensures { λ r. ⌜ r ≡ all (byteTest (now (held .entry)) modes node) (upTo mostModules) ⌝ }
 {
     let mut good = true;
     let mut m = 0;
-    while m < 16 {
-        good = both(good, held[node * 16 + m] < modes);
+    while m < ModuleNo::MOST {
+        good = both(good, held[node * ModuleNo::MOST + m] < modes);
         m += 1;
     }
     good

@@ -5,6 +5,7 @@ use lib.Dec.{leb}
 use Prim.Native.Nat.{ℕ}
 use Rattle.laws.specs.Lists.{all, upTo}
 use Rattle.laws.specs.Res.{Res, _>>_, unless}
+use Rattle.rules.specs.Limits.{mostNodes, mostModules, mostModes, mostTasks, mostFrames}
 use Rattle.rules.specs.StationRange.{isValue}
 use Rattle.stationrange.specs.Ranges.{countsTest, moduleTest, modeTest, taskTest, runsTest, controlTest, dataTest, playTest, boxTest, byteTest}
 use Rattle.stationjudge.specs.Judging.{resultsJudged, changesJudged}
@@ -19,24 +20,24 @@ use Rattle.stationrefusals.specs.declared.Play.{Play}
 
 -- 40: what is kept
 unfoldable pub keptTest : Modules → Modes → Tasks → Controls → ℕ → Ticks → List ℕ → List ℕ → List ℕ → List ℕ → List ℕ → Bool
-keptTest modules modes tasks controls datas period runs carries deadlines starts stops =
+keptTest modules modes tasks controls datas period runs rowTasks rowDeadlines rowStarts rowStops =
     (countsTest (modules .count) (modes .count) (tasks .count) (period .0) (controls .count) datas
-    && (all (moduleTest (modules .sites)) (upTo 16)
-    && all (modeTest (modules .count) (modes .count) (modes .homes) (modes .periods) (modes .switches)) (upTo 32)))
-    && ((all (taskTest (modules .count) (tasks .count) (tasks .homes) (tasks .sizes) (tasks .worsts)) (upTo 32)
-    && all (runsTest runs (modes .periods)) (upTo 32))
-    && (all (controlTest (period .0) (controls .nodes) (controls .starts) (controls .stops)) (upTo 8)
-    && all (dataTest (tasks .count) (period .0) carries deadlines starts stops) (upTo 256)))
+    && (all (moduleTest (modules .sites)) (upTo mostModules)
+    && all (modeTest (modules .count) (modes .count) (modes .homes) (modes .periods) (modes .switches)) (upTo mostModes)))
+    && ((all (taskTest (modules .count) (tasks .count) (tasks .homes) (tasks .sizes) (tasks .worsts)) (upTo mostTasks)
+    && all (runsTest runs (modes .periods)) (upTo mostModes))
+    && (all (controlTest (period .0) (controls .nodes) (controls .starts) (controls .stops)) (upTo mostNodes)
+    && all (dataTest (tasks .count) (period .0) rowTasks rowDeadlines rowStarts rowStops) (upTo mostFrames)))
 
 -- 40: the state, but for the places of the nodes
 abbrev pub heldTest : List ℕ → ℕ → ℕ → Bool
-heldTest held modes n = all (byteTest held modes n) (upTo 16)
+heldTest held modes n = all (byteTest held modes n) (upTo mostModules)
 
 unfoldable pub stateTest : Modules → Modes → Ticks → Play → Bool
 stateTest modules modes period play =
     (leb (play .clock .0) (period .0) && isValue (play .load))
-    && (all (playTest (modules .count) (modes .count) (modes .homes) (modes .periods) (play .running) (play .ages) (play .bytes)) (upTo 16)
-    && (all (boxTest (play .out)) (upTo 32) && all (heldTest (play .held) (modes .count)) (upTo 8)))
+    && (all (playTest (modules .count) (modes .count) (modes .homes) (modes .periods) (play .running) (play .ages) (play .bytes)) (upTo mostModules)
+    && (all (boxTest (play .out)) (upTo mostTasks) && all (heldTest (play .held) (modes .count)) (upTo mostNodes)))
 
 -- 41 to 44
 unfoldable pub judgedBy : List Given → List Change → Modules → Modes → Tasks → Play → List ℕ → Res (Unit {0})
@@ -48,8 +49,8 @@ judgedBy results changes modules modes tasks play runs =
 -- 40 to 44
 unfoldable pub refusedBy : List Given → List Change → Modules → Modes → Tasks → Controls → ℕ → Ticks → Play → List ℕ → List ℕ
     → List ℕ → List ℕ → List ℕ → Res (Unit {0})
-refusedBy results changes modules modes tasks controls datas period play runs carries deadlines starts stops = do
+refusedBy results changes modules modes tasks controls datas period play runs rowTasks rowDeadlines rowStarts rowStops = do
   unless 40 0
-      (keptTest modules modes tasks controls datas period runs carries deadlines starts stops
+      (keptTest modules modes tasks controls datas period runs rowTasks rowDeadlines rowStarts rowStops
       && stateTest modules modes period play)
   judgedBy results changes modules modes tasks play runs

@@ -3,6 +3,7 @@ ghost use mathlib.Core.Path.{_≡_};
 ghost use Prim.Native.Nat.{_<_};
 ghost use Rattle.laws.specs.Lists.{all, upTo};
 ghost use Rattle.answers.specs.Refusals.{heard};
+ghost use Rattle.rules.specs.Limits.{mostNodes};
 ghost use Rattle.stationrefusals.specs.Refusing.{judgedBy, keptTest, heldTest, refusedBy, stateTest};
 use answers::Refusal;
 use answers::Verdict;
@@ -11,57 +12,61 @@ use stationjudge::judged_changes;
 use stationjudge::judged_results;
 use stationruns::Change;
 use stationruns::Given;
+use units::Frame;
+use units::ModeNo;
 use units::ModuleNo;
+use units::NodeNo;
+use units::TaskNo;
 use units::Ticks;
 
-// Of each module: the node that it is on, and whether it is sending.
+// Of each module: the node that it is on, and whether it is sending. A flag is set where its byte is not 0.
 #[repr(C)]
 pub struct Modules {
     pub count: u8,
-    pub sites: [u8; 16],
-    pub sending: [u8; 16],
+    pub sites: [u8; ModuleNo::MOST],
+    pub sending: [u8; ModuleNo::MOST],
 }
 
 // Of each mode: its module, its period and its switch period.
 #[repr(C)]
 pub struct Modes {
     pub count: u8,
-    pub homes: [u8; 32],
-    pub periods: [u32; 32],
-    pub switches: [u32; 32],
+    pub homes: [u8; ModeNo::MOST],
+    pub periods: [u32; ModeNo::MOST],
+    pub switches: [u32; ModeNo::MOST],
 }
 
 // Of each task: its module, the bytes of its message, its worst time, and whether it is a bus task.
 #[repr(C)]
 pub struct Tasks {
     pub count: u8,
-    pub homes: [u8; 32],
-    pub sizes: [u8; 32],
-    pub worsts: [u32; 32],
-    pub bus: [u8; 32],
+    pub homes: [u8; TaskNo::MOST],
+    pub sizes: [u8; TaskNo::MOST],
+    pub worsts: [u32; TaskNo::MOST],
+    pub bus: [u8; TaskNo::MOST],
 }
 
 // The control rows: node, start and stop.
 #[repr(C)]
 pub struct Controls {
     pub count: u8,
-    pub nodes: [u8; 8],
-    pub starts: [u32; 8],
-    pub stops: [u32; 8],
+    pub nodes: [u8; NodeNo::MOST],
+    pub starts: [u32; NodeNo::MOST],
+    pub stops: [u32; NodeNo::MOST],
 }
 
 // What a tick changes beside the nodes. `running` is each module's mode, `ages` the time since it began, `bytes` its mode byte on the
-// bus; `givens` whether a task's run has had its result; `held` the mode bytes that the nodes hold, 16 for each node; `full` and `load`
+// bus; `givens` whether a task's run has had its result; `held` the mode bytes that the nodes hold, a place for each module, node after node; `full` and `load`
 // the data frame on the bus.
 #[repr(C)]
 pub struct Play {
     pub clock: Ticks,
-    pub running: [u8; 16],
-    pub ages: [u32; 16],
-    pub bytes: [u8; 16],
-    pub givens: [u8; 32],
-    pub out: [u64; 32],
-    pub held: [u8; 128],
+    pub running: [u8; ModuleNo::MOST],
+    pub ages: [u32; ModuleNo::MOST],
+    pub bytes: [u8; ModuleNo::MOST],
+    pub givens: [u8; TaskNo::MOST],
+    pub out: [u64; TaskNo::MOST],
+    pub held: [u8; NodeNo::MOST * ModuleNo::MOST],
     pub full: u8,
     pub load: u64,
 }
@@ -73,19 +78,19 @@ fn kept_in_range<'a>(
     controls: Controls,
     datas: u16,
     period: Ticks,
-    runs: &'a [u32; 1024],
-    carries: &'a [u8; 256],
-    deadlines: &'a [u32; 256],
-    starts: &'a [u32; 256],
-    stops: &'a [u32; 256],
+    runs: &'a [u32; ModeNo::MOST * TaskNo::MOST],
+    row_tasks: &'a [u8; Frame::MOST],
+    row_deadlines: &'a [u32; Frame::MOST],
+    row_starts: &'a [u32; Frame::MOST],
+    row_stops: &'a [u32; Frame::MOST],
 ) -> bool
-    ensures { λ r. ⌜ r ≡ keptTest modules modes tasks controls datas period (now (runs .entry)) (now (carries .entry)) (now (deadlines .entry)) (now (starts .entry)) (now (stops .entry)) ⌝ }
+    ensures { λ r. ⌜ r ≡ keptTest modules modes tasks controls datas period (now (runs .entry)) (now («row_tasks» .entry)) (now («row_deadlines» .entry)) (now («row_starts» .entry)) (now («row_stops» .entry)) ⌝ }
 {
     let counted = stationrange::counts(
         modules.count,
         modes.count,
         tasks.count,
-        period.0,
+        period,
         controls.count,
         datas,
     );
@@ -110,18 +115,25 @@ fn kept_in_range<'a>(
         stationrange::runs(runs, &modes.periods),
     );
     let rowed = both(
-        stationrange::controls(period.0, &controls.nodes, &controls.starts, &controls.stops),
-        stationrange::datas(tasks.count, period.0, carries, deadlines, starts, stops),
+        stationrange::controls(period, &controls.nodes, &controls.starts, &controls.stops),
+        stationrange::datas(
+            tasks.count,
+            period,
+            row_tasks,
+            row_deadlines,
+            row_starts,
+            row_stops,
+        ),
     );
     both(both(counted, moded), both(tasked, rowed))
 }
 
-fn bytes_in_range<'a>(held: &'a [u8; 128], modes: u8) -> bool
-    ensures { λ r. ⌜ r ≡ all (heldTest (now (held .entry)) modes) (upTo 8) ⌝ }
+fn bytes_in_range<'a>(held: &'a [u8; NodeNo::MOST * ModuleNo::MOST], modes: u8) -> bool
+    ensures { λ r. ⌜ r ≡ all (heldTest (now (held .entry)) modes) (upTo mostNodes) ⌝ }
 {
     let mut good = true;
     let mut n = 0;
-    while n < 8 {
+    while n < NodeNo::MOST {
         good = both(good, stationrange::bytes(held, modes, n));
         n += 1;
     }
@@ -150,13 +162,13 @@ fn state_in_range(modules: Modules, modes: Modes, period: Ticks, play: Play) -> 
 }
 
 fn judged<'a>(
-    results: [Given; 32],
-    changes: [Change; 16],
+    results: [Given; TaskNo::MOST],
+    changes: [Change; ModuleNo::MOST],
     modules: Modules,
     modes: Modes,
     tasks: Tasks,
     play: Play,
-    runs: &'a [u32; 1024],
+    runs: &'a [u32; ModeNo::MOST * TaskNo::MOST],
 ) -> Verdict
     ensures { λ r. ⌜ heard r ≡ judgedBy results changes modules modes tasks play (now (runs .entry)) ⌝ }
 {
@@ -185,8 +197,8 @@ fn judged<'a>(
 
 // Refusals 40 to 44.
 pub fn refused<'a>(
-    results: [Given; 32],
-    changes: [Change; 16],
+    results: [Given; TaskNo::MOST],
+    changes: [Change; ModuleNo::MOST],
     modules: Modules,
     modes: Modes,
     tasks: Tasks,
@@ -194,13 +206,13 @@ pub fn refused<'a>(
     datas: u16,
     period: Ticks,
     play: Play,
-    runs: &'a [u32; 1024],
-    carries: &'a [u8; 256],
-    deadlines: &'a [u32; 256],
-    starts: &'a [u32; 256],
-    stops: &'a [u32; 256],
+    runs: &'a [u32; ModeNo::MOST * TaskNo::MOST],
+    row_tasks: &'a [u8; Frame::MOST],
+    row_deadlines: &'a [u32; Frame::MOST],
+    row_starts: &'a [u32; Frame::MOST],
+    row_stops: &'a [u32; Frame::MOST],
 ) -> Verdict
-    ensures { λ r. ⌜ heard r ≡ refusedBy results changes modules modes tasks controls datas period play (now (runs .entry)) (now (carries .entry)) (now (deadlines .entry)) (now (starts .entry)) (now (stops .entry)) ⌝ }
+    ensures { λ r. ⌜ heard r ≡ refusedBy results changes modules modes tasks controls datas period play (now (runs .entry)) (now («row_tasks» .entry)) (now («row_deadlines» .entry)) (now («row_starts» .entry)) (now («row_stops» .entry)) ⌝ }
 {
     let kept = kept_in_range(
         modules,
@@ -210,10 +222,10 @@ pub fn refused<'a>(
         datas,
         period,
         runs,
-        carries,
-        deadlines,
-        starts,
-        stops,
+        row_tasks,
+        row_deadlines,
+        row_starts,
+        row_stops,
     );
     if both(kept, state_in_range(modules, modes, period, play)) {
         judged(results, changes, modules, modes, tasks, play, runs)

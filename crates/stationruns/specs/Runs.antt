@@ -6,11 +6,12 @@ use lib.ListN.{getD}
 use Prim.Native.Nat.{ℕ, _+_, _-_, _*_, _%_}
 use Rattle.laws.specs.Numbers.{divides}
 use Rattle.laws.specs.Res.{_>>_}
+use Rattle.rules.specs.Limits.{mostTasks}
 use Rattle.stationruns.specs.declared.Run.{Run}
 
--- the period of a task in a mode: 32 places for each mode
+-- the period of a task in a mode: a place for each task, mode after mode
 abbrev pub periodAt : List ℕ → ℕ → ℕ → ℕ
-periodAt runs μ t = getD runs (μ * 32 + t) 0
+periodAt runs μ t = getD runs (μ * mostTasks + t) 0
 
 -- the period of the task's invocation in the mode that runs, and the time since that mode began
 abbrev pub runAt : List ℕ → List ℕ → List ℕ → List ℕ → ℕ → Run

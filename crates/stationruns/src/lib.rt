@@ -2,17 +2,21 @@
 ghost use mathlib.Core.Path.{_≡_};
 ghost use mathlib.Core.Bool.{not, _||_};
 ghost use lib.Dec.{ltb};
-ghost use Prim.Native.Nat.{_-_, _<_, _^_};
+ghost use Prim.Native.Nat.{_-_, _^_};
 ghost use Rattle.rules.specs.Playing.{isGiven};
 ghost use Rattle.rules.specs.Station.{fitsIn};
 ghost use Rattle.stationruns.specs.Inputs.{changeOf, resultOf};
 ghost use Rattle.stationruns.specs.Runs.{awaits, endsRun, lastChance, periodAt, runAt, sinceRelease, underWay};
 use figures::both;
 use figures::divides;
+use figures::place;
 use figures::rest;
 use places::byte_at;
 use places::number_at;
+use units::ByteCount;
 use units::ModeNo;
+use units::ModuleNo;
+use units::TaskNo;
 use units::Ticks;
 
 // What a tick is given at a task's place.
@@ -34,27 +38,29 @@ pub struct Run {
 }
 
 // The period of a task in a mode.
-pub fn period_at<'a>(runs: &'a [u32; 1024], mode: usize, task: usize) -> u32
-    requires { ⌜ (mode < 256) × (task < 256) ⌝ }
-    ensures { λ r. ⌜ r ≡ periodAt (now (runs .entry)) mode task ⌝ }
+pub fn period_at<'a>(
+    runs: &'a [u32; ModeNo::MOST * TaskNo::MOST],
+    mode: ModeNo,
+    task: TaskNo,
+) -> Ticks
+    ensures { λ r. ⌜ r ≡ record { 0 = periodAt (now (runs .entry)) (mode .0) (task .0) } ⌝ }
 {
-    number_at(runs, mode * 32 + task)
+    Ticks(number_at(runs, place(mode.0) * TaskNo::MOST + place(task.0)))
 }
 
 pub fn run_at<'a>(
-    runs: &'a [u32; 1024],
-    modes: &'a [u8; 16],
-    ages: &'a [u32; 16],
-    homes: &'a [u8; 32],
-    task: usize,
+    runs: &'a [u32; ModeNo::MOST * TaskNo::MOST],
+    modes: &'a [u8; ModuleNo::MOST],
+    ages: &'a [u32; ModuleNo::MOST],
+    homes: &'a [u8; TaskNo::MOST],
+    task: TaskNo,
 ) -> Run
-    requires { ⌜ task < 256 ⌝ }
-    ensures { λ r. ⌜ r ≡ runAt (now (runs .entry)) (now (modes .entry)) (now (ages .entry)) (now (homes .entry)) task ⌝ }
+    ensures { λ r. ⌜ r ≡ runAt (now (runs .entry)) (now (modes .entry)) (now (ages .entry)) (now (homes .entry)) (task .0) ⌝ }
 {
-    let home = byte_at(homes, task);
-    let period = period_at(runs, byte_at(modes, home), task);
+    let home = byte_at(homes, task.place());
+    let period = period_at(runs, ModeNo(byte_at(modes, home) as u8), task);
     Run {
-        period: Ticks(period),
+        period,
         age: Ticks(number_at(ages, home)),
     }
 }
@@ -73,31 +79,33 @@ impl Run {
     }
 
     // The run's age, 1 to its period: the tick of a release is the last of the run before.
-    fn since_release(self) -> u32
-        ensures { λ r. ⌜ r ≡ sinceRelease self ⌝ }
+    fn since_release(self) -> Ticks
+        ensures { λ r. ⌜ r .0 ≡ sinceRelease self ⌝ }
     {
-        rest(less_one(self.age.0), self.period.0) + 1
+        Ticks(rest(less_one(self.age.0), self.period.0) + 1)
     }
 
-    fn is_awaited(self, in_plan: bool, given: bool, worst: u32) -> bool
-        ensures { λ r. ⌜ r ≡ awaits self in_plan given worst ⌝ }
+    fn is_awaited(self, in_plan: bool, given: bool, worst: Ticks) -> bool
+        ensures { λ r. ⌜ r ≡ awaits self in_plan given (worst .0) ⌝ }
     {
         if both(in_plan, self.is_under_way()) {
             if given {
                 false
             } else {
-                self.since_release() <= worst
+                let since = self.since_release();
+                since.0 <= worst.0
             }
         } else {
             false
         }
     }
 
-    fn is_last_chance(self, in_plan: bool, worst: u32) -> bool
-        ensures { λ r. ⌜ r ≡ lastChance self in_plan worst ⌝ }
+    fn is_last_chance(self, in_plan: bool, worst: Ticks) -> bool
+        ensures { λ r. ⌜ r ≡ lastChance self in_plan (worst .0) ⌝ }
     {
         if both(in_plan, self.is_under_way()) {
-            self.since_release() == worst
+            let since = self.since_release();
+            since.0 == worst.0
         } else {
             false
         }
@@ -132,8 +140,8 @@ pub fn is_change(change: Change) -> bool
     }
 }
 
-pub fn is_awaited(given: Given, run: Run, in_plan: bool, had: bool, worst: u32) -> bool
-    ensures { λ r. ⌜ r ≡ (not (isGiven (resultOf given)) || awaits run in_plan had worst) ⌝ }
+pub fn is_awaited(given: Given, run: Run, in_plan: bool, had: bool, worst: Ticks) -> bool
+    ensures { λ r. ⌜ r ≡ (not (isGiven (resultOf given)) || awaits run in_plan had (worst .0)) ⌝ }
 {
     if is_result(given) {
         run.is_awaited(in_plan, had, worst)
@@ -155,10 +163,10 @@ const ABOVE: [u64; 8] = [
 ];
 
 // Whether a value has at most this many bytes.
-fn has_bytes(value: u64, size: u8) -> bool
-    ensures { λ r. ⌜ r ≡ ltb value (256 ^ size) ⌝ }
+fn has_bytes(value: u64, size: ByteCount) -> bool
+    ensures { λ r. ⌜ r ≡ ltb value (256 ^ size .0) ⌝ }
 {
-    let bytes = size as usize;
+    let bytes = size.0 as usize;
     if bytes < 8 {
         value < ABOVE[bytes]
     } else {
@@ -166,8 +174,8 @@ fn has_bytes(value: u64, size: u8) -> bool
     }
 }
 
-pub fn fits(given: Given, size: u8) -> bool
-    ensures { λ r. ⌜ r ≡ fitsIn size (resultOf given) ⌝ }
+pub fn fits(given: Given, size: ByteCount) -> bool
+    ensures { λ r. ⌜ r ≡ fitsIn (size .0) (resultOf given) ⌝ }
 {
     match given {
         Given::Nothing => true,
@@ -175,8 +183,8 @@ pub fn fits(given: Given, size: u8) -> bool
     }
 }
 
-pub fn is_in_time(given: Given, run: Run, in_plan: bool, had: bool, worst: u32) -> bool
-    ensures { λ r. ⌜ r ≡ (not (lastChance run in_plan worst) || (had || isGiven (resultOf given))) ⌝ }
+pub fn is_in_time(given: Given, run: Run, in_plan: bool, had: bool, worst: Ticks) -> bool
+    ensures { λ r. ⌜ r ≡ (not (lastChance run in_plan (worst .0)) || (had || isGiven (resultOf given))) ⌝ }
 {
     if had {
         true

@@ -5,6 +5,7 @@ ghost use mathlib.Core.Option.{Option·getD};
 ghost use lib.ListN.{getD, replicate};
 ghost use Prim.Native.Nat.{ℕ, _<_};
 ghost use Rattle.laws.specs.Loops.{stores};
+ghost use Rattle.rules.specs.Limits.{mostModules, mostTasks};
 ghost use Rattle.rules.specs.Playing.{isGiven};
 ghost use Rattle.rules.specs.Station.{oneOn};
 ghost use Rattle.stationruns.specs.Inputs.{changeAt, changeOf, resultOf};
@@ -18,6 +19,10 @@ use stationruns::Given;
 use stationruns::is_change;
 use stationruns::is_result;
 use stationruns::run_at;
+use units::ModeNo;
+use units::ModuleNo;
+use units::TaskNo;
+use units::Ticks;
 
 fn out_at(given: Given, old: u64) -> u64
     ensures { λ r. ⌜ r ≡ Option·getD (resultOf given) old ⌝ }
@@ -29,12 +34,15 @@ fn out_at(given: Given, old: u64) -> u64
 }
 
 // (a)
-pub fn out_after(results: [Given; 32], mut out: [u64; 32]) -> [u64; 32]
-    ensures { λ r. ⌜ r ≡ stores out (outRule results out) 32 ⌝ }
+pub fn out_after(
+    results: [Given; TaskNo::MOST],
+    mut out: [u64; TaskNo::MOST],
+) -> [u64; TaskNo::MOST]
+    ensures { λ r. ⌜ r ≡ stores out (outRule results out) mostTasks ⌝ }
     ensures reads { λ r. ⌜ ((t : ℕ) → getD r t 0 ≡ outRule results out t) ⌝ }
 {
     let mut t = 0;
-    while t < 32 {
+    while t < TaskNo::MOST {
         let given = results[t];
         out[t] = out_at(given, out[t]);
         t += 1;
@@ -44,83 +52,97 @@ pub fn out_after(results: [Given; 32], mut out: [u64; 32]) -> [u64; 32]
 
 // Whether the run of each task ends now.
 pub fn ends_now<'a>(
-    runs: &'a [u32; 1024],
-    modes: &'a [u8; 16],
-    ages: &'a [u32; 16],
-    homes: &'a [u8; 32],
-) -> [bool; 32]
-    ensures { λ r. ⌜ r ≡ stores (replicate 32 false) (endsRule (now (runs .entry)) (now (modes .entry)) (now (ages .entry)) (now (homes .entry))) 32 ⌝ }
+    runs: &'a [u32; ModeNo::MOST * TaskNo::MOST],
+    modes: &'a [u8; ModuleNo::MOST],
+    ages: &'a [u32; ModuleNo::MOST],
+    homes: &'a [u8; TaskNo::MOST],
+) -> [bool; TaskNo::MOST]
+    ensures { λ r. ⌜ r ≡ stores (replicate mostTasks false) (endsRule (now (runs .entry)) (now (modes .entry)) (now (ages .entry)) (now (homes .entry))) mostTasks ⌝ }
 {
-    let mut ends = [false; 32];
+    let mut ends = [false; TaskNo::MOST];
     let mut t = 0;
-    while t < 32 {
-        ends[t] = run_at(runs, modes, ages, homes, t).ends();
+    while t < TaskNo::MOST {
+        ends[t] = run_at(runs, modes, ages, homes, TaskNo(t as u8)).ends();
         t += 1;
     }
     ends
 }
 
-fn mode_at(change: Change, old: u8) -> u8
-    ensures { λ r. ⌜ r ≡ Option·getD (changeOf change) old ⌝ }
+fn mode_at(change: Change, old: ModeNo) -> ModeNo
+    ensures { λ r. ⌜ r .0 ≡ Option·getD (changeOf change) (old .0) ⌝ }
 {
     match change {
         Change::Nothing => old,
-        Change::To(mode) => mode.0,
+        Change::To(mode) => mode,
     }
 }
 
 // (d)
-pub fn modes_after(changes: [Change; 16], mut modes: [u8; 16]) -> [u8; 16]
-    ensures { λ r. ⌜ r ≡ stores modes (modeRule changes modes) 16 ⌝ }
+pub fn modes_after(
+    changes: [Change; ModuleNo::MOST],
+    mut modes: [u8; ModuleNo::MOST],
+) -> [u8; ModuleNo::MOST]
+    ensures { λ r. ⌜ r ≡ stores modes (modeRule changes modes) mostModules ⌝ }
     ensures reads { λ r. ⌜ ((m : ℕ) → getD r m 0 ≡ modeRule changes modes m) ⌝ }
 {
     let mut m = 0;
-    while m < 16 {
+    while m < ModuleNo::MOST {
         let change = changes[m];
-        modes[m] = mode_at(change, modes[m]);
+        let mode = mode_at(change, ModeNo(modes[m]));
+        modes[m] = mode.0;
         m += 1;
     }
     modes
 }
 
-// One tick on, from 1 to a period and again from 1.
-pub fn one_on(time: u32, period: u32) -> u32
-    ensures { λ r. ⌜ r ≡ oneOn time period ⌝ }
+// The next number, from 1 to the last and again from 1.
+fn next(number: u32, last: u32) -> u32
+    ensures { λ r. ⌜ r ≡ oneOn number last ⌝ }
 {
-    if time < period { time + 1 } else { 1 }
+    if number < last { number + 1 } else { 1 }
 }
 
-fn age_at(change: Change, age: u32, period: u32) -> u32
-    ensures { λ r. ⌜ r ≡ cond (isGiven (changeOf change)) 1 (oneOn age period) ⌝ }
+// One tick on, from 1 to a period and again from 1.
+pub fn one_on(time: Ticks, period: Ticks) -> Ticks
+    ensures { λ r. ⌜ r ≡ record { 0 = oneOn (time .0) (period .0) } ⌝ }
+{
+    Ticks(next(time.0, period.0))
+}
+
+fn age_at(change: Change, age: Ticks, period: Ticks) -> Ticks
+    ensures { λ r. ⌜ r .0 ≡ cond (isGiven (changeOf change)) 1 (oneOn (age .0) (period .0)) ⌝ }
 {
     if is_change(change) {
-        1
+        Ticks(1)
     } else {
         one_on(age, period)
     }
 }
 
 pub fn ages_after<'a>(
-    changes: [Change; 16],
-    mut ages: [u32; 16],
-    modes: &'a [u8; 16],
-    periods: &'a [u32; 32],
-) -> [u32; 16]
-    ensures { λ r. ⌜ r ≡ stores ages (ageRule changes (now (modes .entry)) (now (periods .entry)) ages) 16 ⌝ }
+    changes: [Change; ModuleNo::MOST],
+    mut ages: [u32; ModuleNo::MOST],
+    modes: &'a [u8; ModuleNo::MOST],
+    periods: &'a [u32; ModeNo::MOST],
+) -> [u32; ModuleNo::MOST]
+    ensures { λ r. ⌜ r ≡ stores ages (ageRule changes (now (modes .entry)) (now (periods .entry)) ages) mostModules ⌝ }
 {
     let mut m = 0;
-    while m < 16 {
+    while m < ModuleNo::MOST {
         let change = changes[m];
-        ages[m] = age_at(change, ages[m], number_at(periods, byte_at(modes, m)));
+        let period = Ticks(number_at(periods, byte_at(modes, m)));
+        let age = age_at(change, Ticks(ages[m]), period);
+        ages[m] = age.0;
         m += 1;
     }
     ages
 }
 
-fn changed(changes: [Change; 16], m: usize) -> bool
+// Whether a change stands at this place; behind the places none does.
+fn changed(changes: [Change; ModuleNo::MOST], m: usize) -> bool
     ensures { λ r. ⌜ r ≡ isGiven (changeAt changes m) ⌝ }
 {
-    if m < 16 {
+    if m < ModuleNo::MOST {
         let change = changes[m];
         is_change(change)
     } else {
@@ -143,16 +165,16 @@ fn given_at(given: Given, ends: bool, change: bool, had: bool) -> bool
 }
 
 pub fn givens_after<'a>(
-    results: [Given; 32],
-    changes: [Change; 16],
-    mut givens: [u8; 32],
-    ends: &'a [bool; 32],
-    homes: &'a [u8; 32],
-) -> [u8; 32]
-    ensures { λ r. ⌜ r ≡ stores givens (givenRule results changes (now (ends .entry)) (now (homes .entry)) givens) 32 ⌝ }
+    results: [Given; TaskNo::MOST],
+    changes: [Change; ModuleNo::MOST],
+    mut givens: [u8; TaskNo::MOST],
+    ends: &'a [bool; TaskNo::MOST],
+    homes: &'a [u8; TaskNo::MOST],
+) -> [u8; TaskNo::MOST]
+    ensures { λ r. ⌜ r ≡ stores givens (givenRule results changes (now (ends .entry)) (now (homes .entry)) givens) mostTasks ⌝ }
 {
     let mut t = 0;
-    while t < 32 {
+    while t < TaskNo::MOST {
         let given = results[t];
         givens[t] = flag_byte(given_at(
             given,

@@ -13,6 +13,10 @@ use stationrefusals::Modes;
 use stationrefusals::Modules;
 use stationrefusals::Play;
 use stationrefusals::Tasks;
+use units::Frame;
+use units::ModeNo;
+use units::ModuleNo;
+use units::TaskNo;
 use units::Ticks;
 
 #[repr(C)]
@@ -36,17 +40,17 @@ pub fn turn_for<'a>(
     datas: u16,
     period: Ticks,
     play: Play,
-    runs: &'a [u32; 1024],
-    carries: &'a [u8; 256],
-    deadlines: &'a [u32; 256],
-    starts: &'a [u32; 256],
-    stops: &'a [u32; 256],
-    results: &[u64; 32],
-    given: &[u8; 32],
-    modes: &[u8; 16],
-    changed: &[u8; 16],
+    runs: &'a [u32; ModeNo::MOST * TaskNo::MOST],
+    row_tasks: &'a [u8; Frame::MOST],
+    row_deadlines: &'a [u32; Frame::MOST],
+    row_starts: &'a [u32; Frame::MOST],
+    row_stops: &'a [u32; Frame::MOST],
+    results: &[u64; TaskNo::MOST],
+    given: &[u8; TaskNo::MOST],
+    modes: &[u8; ModuleNo::MOST],
+    changed: &[u8; ModuleNo::MOST],
 ) -> Answered
-    ensures { λ r. ⌜ TurnsWith (stationBy modules running tasks controls datas period (now (runs .entry)) (now (carries .entry)) (now (deadlines .entry)) (now (starts .entry)) (now (stops .entry)) play)
+    ensures { λ r. ⌜ TurnsWith (stationBy modules running tasks controls datas period (now (runs .entry)) (now («row_tasks» .entry)) (now («row_deadlines» .entry)) (now («row_starts» .entry)) (now («row_stops» .entry)) play)
         (now (results .entry)) (now (given .entry)) (now (modes .entry)) (now (changed .entry)) r ⌝ }
 {
     let turned = station::turned_by(
@@ -60,10 +64,10 @@ pub fn turn_for<'a>(
         period,
         play,
         runs,
-        carries,
-        deadlines,
-        starts,
-        stops,
+        row_tasks,
+        row_deadlines,
+        row_starts,
+        row_stops,
     );
     let said = turned.said;
     let turn = turned.turn;

@@ -121,4 +121,7 @@ returns c =
 pub control-rows-spec : {M : Type 1} → statement M
 control-rows-spec =
     tie.close
-    (tie.spec Inv-loop μ-loop (λ c κs. search needs) (λ c. search needs) loop-holds (λ c. omega arith) (λ c. omega arith) (λ c κs. search needs) (λ c κs. search needs) add-stop (λ c. omega arith) array-write-nodes cast-starts mul-starts array-write-starts cast-stops mul-stops array-write-stops add-count add-start (λ c. omega arith) (λ c. search needs) loop-again returns)
+    (tie.spec Inv-loop μ-loop (λ c κs. search needs) (λ c. search needs) loop-holds (λ c. omega arith) (λ c. omega arith)
+    (λ c κs. search needs) (λ c κs. search needs) add-stop (λ c. omega arith) array-write-nodes cast-starts mul-starts
+    array-write-starts cast-stops mul-stops array-write-stops add-count add-start (λ c. omega arith) (λ c. search needs)
+    loop-again returns)

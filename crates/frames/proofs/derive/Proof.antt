@@ -71,4 +71,5 @@ returns-2 c = walked-all _ _ _ _ _ _ _ _ _ (c .before .loop .inv .0) (c .before 
 pub derive-spec : {M : Type 1} → statement M
 derive-spec =
     tie.close
-    (tie.spec Inv-loop μ-loop (λ c. search needs) (λ c. search needs) (λ c κs. search needs) plant-requires grow-requires (λ c. search needs) loop-holds (λ c κs. search needs) meet-requires put-requires returns loop-less loop-again returns-2)
+    (tie.spec Inv-loop μ-loop (λ c. search needs) (λ c. search needs) (λ c κs. search needs) plant-requires grow-requires
+    (λ c. search needs) loop-holds (λ c κs. search needs) meet-requires put-requires returns loop-less loop-again returns-2)

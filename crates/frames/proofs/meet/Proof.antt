@@ -75,4 +75,7 @@ returns c =
 pub meet-spec : {M : Type 1} → statement M
 meet-spec =
     tie.close
-    (tie.spec Inv-loop μ-loop (λ c. search needs) (λ c. search needs) (λ c. search needs) (λ c. search needs) (λ c. search needs) loop-holds (λ c. search needs) (λ c. search needs) (λ c. search needs) (λ c. search needs) (λ c. search needs) behind-release-requires (λ c κs. search needs) (λ c. search needs) (λ c. search needs) mul-raise-4 add-raise raise-requires loop-less loop-again returns)
+    (tie.spec Inv-loop μ-loop (λ c. search needs) (λ c. search needs) (λ c. search needs) (λ c. search needs) (λ c. search needs)
+    loop-holds (λ c. search needs) (λ c. search needs) (λ c. search needs) (λ c. search needs) (λ c. search needs)
+    behind-release-requires (λ c κs. search needs) (λ c. search needs) (λ c. search needs) mul-raise-4 add-raise raise-requires
+    loop-less loop-again returns)

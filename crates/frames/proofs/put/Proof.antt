@@ -17,4 +17,5 @@ returns-3 c = put-one _ _ _ _ _ _ _ (c .before .before .if1 .left) (c .before .i
 pub put-spec : {M : Type 1} → statement M
 put-spec =
     tie.close
-    (tie.spec returns (λ c. search needs) returns-2 (λ c. search needs) (λ c. search needs) (λ c. search needs) (λ c. search needs) (λ c. search needs) (λ c. search needs) (λ c. search needs) returns-3)
+    (tie.spec returns (λ c. search needs) returns-2 (λ c. search needs) (λ c. search needs) (λ c. search needs)
+    (λ c. search needs) (λ c. search needs) (λ c. search needs) (λ c. search needs) returns-3)

@@ -26,20 +26,26 @@ add-rows-judged c =
 
 rows-judged-requires : tie.Need-rows-judged-requires
 rows-judged-requires c κs =
-    let start = c .before .before .before .before .before .before .before .before .before .before .before .before .before .before .before .before .before .before .before .before .before .before .before .before .before .before in
+    let c1 = c .before .before .before .before in
+    let c2 = c1 .before .before .before in
+    let c3 = c2 .before .before .before .before in
+    let c4 = c3 .before .before .before .before in
+    let c5 = c4 .before .before .before .before .before in
+    let c6 = c5 .before .before in
+    let start = c6 .before .before .before .before in
     let a = start .args in
     let few : a .t1 .rows ≤ 256 = omega (arith, start .pre .0 .room, start .pre .1 .0, start .pre .1 .1) in (
       omega (arith, start .pre .0 .room, start .pre .1 .0, start .pre .1 .1),
       (
-        spot-among (isNew (c .before .before .before .before .before .before .before .before .before .before .before .before .before .before .before .before .before .before .before .before .before .before .numbers .result) (a .frames)) (a .t1 .rows) 256 (c .before .before .before .before .before .before .before .before .before .before .before .before .before .before .before .before .before .before .before .before .first-unnamed .ensures) few,
+        spot-among (isNew (c6 .numbers .result) (a .frames)) (a .t1 .rows) 256 (c5 .first-unnamed .ensures) few,
         (
           spot-among (timeKept (a .t1 .tasks) (a .t1 .starts) (a .t1 .stops) (now (a .times)) (a .bounds .resolution .0))
-              (a .t1 .rows) 256 (c .before .before .before .before .before .before .before .before .before .before .before .before .before .before .before .first-mistimed .ensures) few,
+              (a .t1 .rows) 256 (c4 .first-mistimed .ensures) few,
           (
-            spot-only (a .early-too) (releaseKept (a .t1 .starts) (now (a .releases)) (c .before .before .before .before .before .before .before .before .before .before .before .before .before .before .before .before .before .before .before .before .before .before .numbers .result)) (a .t1 .rows) 256 (c .before .before .before .before .before .before .before .before .before .before .before .early-in .ensures) few,
+            spot-only (a .early-too) (releaseKept (a .t1 .starts) (now (a .releases)) (c6 .numbers .result)) (a .t1 .rows) 256 (c3 .early-in .ensures) few,
             (
-              spot-among (dueKept (a .t1 .stops) (a .t1 .deadlines)) (a .t1 .rows) 256 (c .before .before .before .before .before .before .before .first-late .ensures) few,
-              spot-among (gapKept (a .t1 .starts) (a .t1 .stops) (c .before .before .before .before .last-stop .result .0) (a .bounds .gap .0)) (a .t1 .rows) 256 (c .first-crowded .ensures) few,
+              spot-among (dueKept (a .t1 .stops) (a .t1 .deadlines)) (a .t1 .rows) 256 (c2 .first-late .ensures) few,
+              spot-among (gapKept (a .t1 .starts) (a .t1 .stops) (c1 .last-stop .result .0) (a .bounds .gap .0)) (a .t1 .rows) 256 (c .first-crowded .ensures) few,
             ),
           ),
         ),
@@ -53,12 +59,20 @@ starts-by-frame-requires c κs =
 
 returns : tie.Need-returns
 returns c =
-    let start = c .before .before .before .before .before .before .before .before .before .before .before .before .before .before .before .before .before .before .before .before .before .before .before .before .before .before .before .before .before .before .before in
+    let c1 = c .before .before .before .before in
+    let c2 = c1 .before in
+    let c3 = c2 .before .before .before .before in
+    let c4 = c3 .before .before .before in
+    let c5 = c4 .before .before .before .before in
+    let c6 = c5 .before .before .before .before in
+    let c7 = c6 .before .before .before .before .before in
+    let c8 = c7 .before .before in
+    let start = c8 .before .before .before .before in
     let a = start .args in
     rows-right (now (a .tasks)) (now (a .releases)) (now (a .deadlines)) (now (a .times)) (a .frames) (start .pre .0) (a .bounds)
     (a .t1) (omega (arith, start .pre .0 .room, start .pre .1 .0, start .pre .1 .1))
-    (c .before .before .before .before .before .before .before .before .before .before .before .before .before .before .before .before .before .before .before .before .before .before .before .before .before .before .before .numbers .ensures) (c .before .before .before .before .before .before .before .before .before .before .before .before .before .before .before .before .before .before .before .before .before .before .before .before .before .first-unnamed .ensures) (c .before .before .before .before .before .before .before .before .before .before .before .before .before .before .before .before .before .before .before .before .first-mistimed .ensures) (c .before .before .before .before .before .before .before .before .before .before .before .before .before .before .before .before .early-in .ensures) (c .before .before .before .before .before .before .before .before .before .before .before .before .first-late .ensures)
-    (c .before .before .before .before .before .before .before .before .before .last-stop .ensures) (c .before .before .before .before .before .first-crowded .ensures) _ (c .before .before .before .before .rows-judged .ensures) (c .starts-by-frame .ensures)
+    (c8 .numbers .ensures) (c7 .first-unnamed .ensures) (c6 .first-mistimed .ensures) (c5 .early-in .ensures) (c4 .first-late .ensures)
+    (c3 .last-stop .ensures) (c2 .first-crowded .ensures) _ (c1 .rows-judged .ensures) (c .starts-by-frame .ensures)
 
 pub by-rows-spec : {M : Type 1} → statement M
 by-rows-spec =

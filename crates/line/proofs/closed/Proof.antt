@@ -107,4 +107,6 @@ returns-4 c =
 pub closed-spec : {M : Type 1} → statement M
 closed-spec =
     tie.close
-    (tie.spec (λ c κs. search needs) (λ c κs. search needs) returns (λ c. search needs) controls-fit-requires (λ c κs. search needs) returns-2 control-end-requires (λ c. search needs) (λ c κs. search needs) returns-3 control-rows-requires line-of-requires returns-4)
+    (tie.spec (λ c κs. search needs) (λ c κs. search needs) returns (λ c. search needs) controls-fit-requires
+    (λ c κs. search needs) returns-2 control-end-requires (λ c. search needs) (λ c κs. search needs) returns-3
+    control-rows-requires line-of-requires returns-4)

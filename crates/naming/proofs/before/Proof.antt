@@ -61,4 +61,5 @@ returns c = bracket-end _ _ _ _ (c .before .loop .low) (c .before .loop .high) (
 pub before-spec : {M : Type 1} → statement M
 before-spec =
     tie.close
-    (tie.spec Inv-loop μ-loop loop-holds (λ c. omega arith) add-middle mul-t9 element-copy-out-t14 element-copy-out-t18 (λ c κs. search needs) add-low loop-less loop-again loop-less-2 loop-again-2 returns)
+    (tie.spec Inv-loop μ-loop loop-holds (λ c. omega arith) add-middle mul-t9 element-copy-out-t14 element-copy-out-t18
+    (λ c κs. search needs) add-low loop-less loop-again loop-less-2 loop-again-2 returns)

@@ -101,10 +101,10 @@ use Rattle.olbiothar.proofs.olbiothar_tick.Proof.Fields.{
   period-at,
   datas-at,
   runs-at,
-  carries-at,
-  deadlines-at,
-  starts-at,
-  stops-at,
+  row-tasks-at,
+  row-deadlines-at,
+  row-starts-at,
+  row-stops-at,
   play-at,
   nodes-at,
   turn-at,
@@ -425,10 +425,10 @@ module _ {M : Type 1} (𝓤 : URA M) (H : Heap 𝓤) (A : Atoms 𝓤) (W : Given
         assigns ! (of-opd ! (load ! (from ! (hop ! (look ! 50 refl) (fld ! period-at (stop !)))) (look-in ! 0 (period-part 𝓤 H A W h b o)))) (from ! (stop !)) (init ! 28 refl (typed-period h was)) $
         assigns ! (of-opd ! (load ! (from ! (hop ! (look ! 50 refl) (fld ! play-at (stop !)))) (look-in ! 0 (play-part 𝓤 H A W h b o)))) (from ! (stop !)) (init ! 26 refl (typed-play (h .play) (play-known h was))) $
         assigns ! (addr ! (from ! (hop ! (look ! 50 refl) (fld ! runs-at (stop !))))) (from ! (stop !)) (init ! 24 refl (tt, tt)) $
-        assigns ! (addr ! (from ! (hop ! (look ! 50 refl) (fld ! carries-at (stop !))))) (from ! (stop !)) (init ! 22 refl (tt, tt)) $
-        assigns ! (addr ! (from ! (hop ! (look ! 50 refl) (fld ! deadlines-at (stop !))))) (from ! (stop !)) (init ! 20 refl (tt, tt)) $
-        assigns ! (addr ! (from ! (hop ! (look ! 50 refl) (fld ! starts-at (stop !))))) (from ! (stop !)) (init ! 18 refl (tt, tt)) $
-        assigns ! (addr ! (from ! (hop ! (look ! 50 refl) (fld ! stops-at (stop !))))) (from ! (stop !)) (init ! 16 refl (tt, tt)) $
+        assigns ! (addr ! (from ! (hop ! (look ! 50 refl) (fld ! row-tasks-at (stop !))))) (from ! (stop !)) (init ! 22 refl (tt, tt)) $
+        assigns ! (addr ! (from ! (hop ! (look ! 50 refl) (fld ! row-deadlines-at (stop !))))) (from ! (stop !)) (init ! 20 refl (tt, tt)) $
+        assigns ! (addr ! (from ! (hop ! (look ! 50 refl) (fld ! row-starts-at (stop !))))) (from ! (stop !)) (init ! 18 refl (tt, tt)) $
+        assigns ! (addr ! (from ! (hop ! (look ! 50 refl) (fld ! row-stops-at (stop !))))) (from ! (stop !)) (init ! 16 refl (tt, tt)) $
         calling
 
   walk : (𝓣 : Tables 𝓤 H) → FmC 𝓤 H (W .laws) (𝓣 .C) → Triple 𝓤 (𝓣 .C #turn) Turning′ → Triple 𝓤 (𝓣 .C #move) Moving′

@@ -140,6 +140,7 @@ returns-4 c =
 pub first-unfit-spec : {M : Type 1} → statement M
 first-unfit-spec =
     tie.close
-    (tie.spec (λ c κs. search needs) (λ c κs. search needs) (λ c κs. search needs) (λ c κs. search needs) first-without-mode-requires
+    (tie.spec (λ c κs. search needs) (λ c κs. search needs) (λ c κs. search needs) (λ c κs. search needs)
+    first-without-mode-requires
     add-t12 returns first-bad-switch-requires add-t13 add-t14 returns-2 (λ c κs. search needs) first-repeat-requires
     (λ c κs. search needs) add-t17 add-t18 add-t19 add-t20 returns-3 returns-4)

@@ -41,4 +41,5 @@ returns-2 c = none-upTo _ _ _ (c .before .loop .inv .0) (c .loop-test .left) (c 
 pub first-without-mode-spec : {M : Type 1} → statement M
 first-without-mode-spec =
     tie.close
-    (tie.spec Inv-loop μ-loop loop-holds (λ c. search needs) (λ c κs. search needs) returns (λ c. search needs) (λ c. search needs) loop-again returns-2)
+    (tie.spec Inv-loop μ-loop loop-holds (λ c. search needs) (λ c κs. search needs) returns (λ c. search needs)
+    (λ c. search needs) loop-again returns-2)

@@ -49,4 +49,5 @@ returns-2 c =
 pub has-mode-spec : {M : Type 1} → statement M
 has-mode-spec =
     tie.close
-    (tie.spec Inv-loop μ-loop loop-holds (λ c. search needs) (λ c. search needs) returns (λ c. search needs) (λ c. search needs) loop-again returns-2)
+    (tie.spec Inv-loop μ-loop loop-holds (λ c. search needs) (λ c. search needs) returns (λ c. search needs) (λ c. search needs)
+    loop-again returns-2)

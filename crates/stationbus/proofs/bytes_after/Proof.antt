@@ -11,7 +11,7 @@ use Rattle.stationbus.proofs.bytes_after.Tie as tie
 returns : tie.Need-returns
 returns c =
     let a = c .before .before .args in
-    stores-idle (a .bytes) (modeByteRule (now (a .sends)) (now (a .nodes)) (numberAt (now (a .modes))) (now (a .senders))
+    stores-idle (a .bytes) (modeByteRule (now (a .sends)) (now (a .nodes)) (numberAt (now (a .modes))) (now (a .control-nodes))
     (a .bytes) (placeIn (a .row))) 16 0 (λ k w. rw (c .enum-told .given .1))
 
 returns-2 : tie.Need-returns-2

@@ -12,23 +12,25 @@ use Rattle.stationbus.proofs.has_message.Tie as tie
 
 returns : tie.Need-returns
 returns c =
-    let c1 = c .before .before .before in
-    let c2 = c1 .before .before in
+    let c1 = c .before .before .before .before in
+    let c2 = c1 .before .before .before in
     let a = c2 .before .args in
-    message-yes (flagAt (now (a .bus)) (a .task)) (ltb 0 (periodAt (now (a .runs)) (a .mode) (a .task)))
-    (divides (periodAt (now (a .runs)) (a .mode) (a .task)) (a .deadline))
-    (c .before .before .both .ensures ∙ rw (c1 .flag-at .ensures, c2 .period-at .ensures)) (c .before .if1 .taken)
-    (c .divides .ensures ∙ rw (c2 .period-at .ensures))
+    message-yes (flagAt (now (a .bus)) (a .task .0)) (ltb 0 (periodAt (now (a .runs)) (a .mode .0) (a .task .0)))
+    (divides (periodAt (now (a .runs)) (a .mode .0) (a .task .0)) (a .deadline .0))
+    (c .before .before .both .ensures ∙ rw (c1 .flag-at .ensures, c1 .before .place .ensures, c2 .period-at .ensures))
+    (c .before .if1 .taken) (c .divides .ensures ∙ rw (c2 .period-at .ensures))
 
 returns-2 : tie.Need-returns-2
 returns-2 c =
-    let c1 = c .before .before .before .before in
-    let a = c1 .before .args in
-    message-no (flagAt (now (a .bus)) (a .task)) (ltb 0 (periodAt (now (a .runs)) (a .mode) (a .task)))
-    (divides (periodAt (now (a .runs)) (a .mode) (a .task)) (a .deadline))
-    (c .before .both .ensures ∙ rw (c .before .before .flag-at .ensures, c1 .period-at .ensures)) (c .if1 .left)
+    let c1 = c .before .before .before in
+    let c2 = c1 .before .before .before in
+    let a = c2 .before .args in
+    message-no (flagAt (now (a .bus)) (a .task .0)) (ltb 0 (periodAt (now (a .runs)) (a .mode .0) (a .task .0)))
+    (divides (periodAt (now (a .runs)) (a .mode .0) (a .task .0)) (a .deadline .0))
+    (c .before .both .ensures ∙ rw (c1 .flag-at .ensures, c1 .before .place .ensures, c2 .period-at .ensures)) (c .if1 .left)
 
 pub has-message-spec : {M : Type 1} → statement M
 has-message-spec =
     tie.close
-    (tie.spec (λ c κs. search needs) (λ c κs. search needs) (λ c κs. search needs) (λ c κs. search needs) returns returns-2)
+    (tie.spec (λ c κs. search needs) (λ c κs. search needs) (λ c κs. search needs) (λ c κs. search needs)
+    (λ c κs. search needs) returns returns-2)

@@ -14,12 +14,12 @@ returns : tie.Need-returns
 returns c =
     let a = c .before .before .args in
     let size : length (a .held) ≡ 128 = search needs in
-    let e : a .held ≡ stores (a .held) (heldRule (now (a .sends)) (now (a .nodes)) (now (a .bytes)) (now (a .senders)) (a .held)
+    let e : a .held ≡ stores (a .held) (heldRule (now (a .sends)) (now (a .nodes)) (now (a .bytes)) (now (a .control-nodes)) (a .held)
     (placeIn (a .row))) 128 = stores-idle (a .held)
-    (heldRule (now (a .sends)) (now (a .nodes)) (now (a .bytes)) (now (a .senders)) (a .held) (placeIn (a .row))) 128 0
+    (heldRule (now (a .sends)) (now (a .nodes)) (now (a .bytes)) (now (a .control-nodes)) (a .held) (placeIn (a .row))) 128 0
     (λ k w. rw (c .enum-told .given .1)) in (
       e,
-      stores-within (a .held) (heldRule (now (a .sends)) (now (a .nodes)) (now (a .bytes)) (now (a .senders)) (a .held)
+      stores-within (a .held) (heldRule (now (a .sends)) (now (a .nodes)) (now (a .bytes)) (now (a .control-nodes)) (a .held)
           (placeIn (a .row))) 128 0 size e,
     )
 
@@ -29,13 +29,13 @@ returns-2 c =
     let a = c1 .before .before .args in
     let size : length (a .held) ≡ 128 = search needs in
     let e : c .held-from .result ≡ stores (a .held)
-    (heldRule (now (a .sends)) (now (a .nodes)) (now (a .bytes)) (now (a .senders)) (a .held) (placeIn (a .row))) 128 =
+    (heldRule (now (a .sends)) (now (a .nodes)) (now (a .bytes)) (now (a .control-nodes)) (a .held) (placeIn (a .row))) 128 =
     c .held-from .ensures ∙ ap (λ s. stores (a .held) (heldAt (now (a .sends)) (now (a .nodes)) (now (a .bytes)) s (a .held))
     128) (c .before .byte-at .ensures .0) ∙ ap
-    (λ o. stores (a .held) (heldRule (now (a .sends)) (now (a .nodes)) (now (a .bytes)) (now (a .senders)) (a .held) o) 128)
+    (λ o. stores (a .held) (heldRule (now (a .sends)) (now (a .nodes)) (now (a .bytes)) (now (a .control-nodes)) (a .held) o) 128)
     (sym (ap placeIn (c1 .row .given .1))) in (
       e,
-      stores-within (a .held) (heldRule (now (a .sends)) (now (a .nodes)) (now (a .bytes)) (now (a .senders)) (a .held)
+      stores-within (a .held) (heldRule (now (a .sends)) (now (a .nodes)) (now (a .bytes)) (now (a .control-nodes)) (a .held)
           (placeIn (a .row))) 128 0 size e,
     )
 

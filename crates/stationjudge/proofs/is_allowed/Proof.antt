@@ -5,15 +5,16 @@ use Rattle.stationjudge.proofs.is_allowed.Tie as tie
 
 returns-2 : tie.Need-returns-2
 returns-2 c =
-    let c1 = c .before .before .before in
-    let c2 = c1 .before .before .before .before .before .before in
+    let c1 = c .before .before .before .before in
+    let c2 = c1 .before .before .before in
     rw (
-      c2 .change .given .1,
+      c2 .before .before .before .before .change .given .1,
       c .both3 .ensures,
       c .before .before .both2 .ensures,
       c1 .both .ensures,
-      c1 .before .byte-at .ensures .0,
-      c1 .before .before .place .ensures,
+      c1 .before .place2 .ensures,
+      c1 .before .before .byte-at .ensures .0,
+      c2 .place .ensures,
       c .before .divides .ensures,
     )
 
@@ -21,4 +22,4 @@ pub is-allowed-spec : {M : Type 1} → statement M
 is-allowed-spec =
     tie.close
     (tie.spec (λ c. search needs) (λ c. search needs) (λ c κs. search needs) (λ c κs. search needs) (λ c κs. search needs)
-    (λ c κs. search needs) (λ c κs. search needs) (λ c κs. search needs) (λ c. search needs) returns-2)
+    (λ c κs. search needs) (λ c κs. search needs) (λ c κs. search needs) (λ c κs. search needs) (λ c. search needs) returns-2)

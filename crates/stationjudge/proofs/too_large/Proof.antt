@@ -17,13 +17,16 @@ loop-holds c = (search needs, passed-none)
 
 loop-again : tie.Need-loop-again Inv-loop μ-loop
 loop-again c =
-    let c1 = c .before .before .before .before .before in
-    (search needs, passed-turn (c1 .loop .inv .1) (c .before .fits2 .ensures) (c .if1 .taken))
+    let c1 = c .before .before .before .before .before .before in (
+      search needs,
+      passed-turn (c1 .loop .inv .1) (rw (c .before .before .wide .ensures) at (c .before .fits2 .ensures)) (c .if1 .taken),
+    )
 
 returns : tie.Need-returns Inv-loop μ-loop
 returns c =
-    let c1 = c .before .before .before .before in
-    passed-hit (c1 .before .loop .inv .1) (c1 .loop-test .taken) (c .before .fits2 .ensures) (c .if1 .left)
+    let c1 = c .before .before .before .before .before in
+    passed-hit (c1 .before .loop .inv .1) (c1 .loop-test .taken)
+    (rw (c .before .before .wide .ensures) at (c .before .fits2 .ensures)) (c .if1 .left)
 
 returns-2 : tie.Need-returns-2 Inv-loop μ-loop
 returns-2 c = passed-end (c .before .loop .inv .1) (c .before .loop .inv .0) (c .loop-test .left)
@@ -32,4 +35,4 @@ pub too-large-spec : {M : Type 1} → statement M
 too-large-spec =
     tie.close
     (tie.spec Inv-loop μ-loop loop-holds (λ c. search needs) (λ c. search needs) (λ c. search needs) (λ c κs. search needs)
-    (λ c. search needs) (λ c. search needs) loop-again returns returns-2)
+    (λ c κs. search needs) (λ c. search needs) (λ c. search needs) loop-again returns returns-2)

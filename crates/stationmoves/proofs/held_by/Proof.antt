@@ -9,7 +9,7 @@ use Rattle.stationmoves.proofs.held_by.Tie as tie
 returns : tie.Need-returns
 returns c =
     let c1 = c .before .before .before .before .before .before .before .before .before in
-    let a = c1 .before .before .before .before .args in
+    let a = c1 .before .before .before .before .before .args in
     let when = c1 .row-with .ensures in (
       c .held-after .ensures .0 ∙ ap (λ o. stores (a .t3 .held)
           (heldRule (a .t1 .sending) (a .t1 .sites) (a .t3 .bytes) (a .t2 .nodes) (a .t3 .held) o) 128) when,

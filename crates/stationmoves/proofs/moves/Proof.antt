@@ -15,11 +15,11 @@ returns c =
     let c1 = c .before .before .before .before in
     let c2 = c1 .before .before .before .before in
     let a = c2 .before .args in (
-      moved-made (saidBy (a .t6) (now (a .carries)) (now (a .deadlines)) (now (a .starts)) (now (a .stops)))
+      moved-made (saidBy (a .t6) (now (a .row-tasks)) (now (a .row-deadlines)) (now (a .row-starts)) (now (a .row-stops)))
           (λ x y. playBy (a .results) (a .changes) (a .modules) (a .modes) (a .tasks) (a .t6) (a .play) (a .period) x y
-          (now (a .ends)) (now (a .runs)) (now (a .carries)) (now (a .deadlines)))
+          (now (a .ends)) (now (a .runs)) (now (a .row-tasks)) (now (a .row-deadlines)))
           (c1 .row-with .ensures ∙ ap (rowWith (numberAt (a .t6 .starts)) (a .t6 .count)) (c2 .rest .ensures))
-          (c .before .before .row-with2 .ensures ∙ ap (rowWith (numberAt (now (a .starts))) (a .datas)) (c2 .rest .ensures))
+          (c .before .before .row-with2 .ensures ∙ ap (rowWith (numberAt (now (a .row-starts))) (a .datas)) (c2 .rest .ensures))
           (c .before .started .ensures) (c .played .ensures .0),
       c .played .ensures .1,
     )

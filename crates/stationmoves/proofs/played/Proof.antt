@@ -13,7 +13,7 @@ use Rattle.stationmoves.proofs.played.Tie as tie
 returns : tie.Need-returns
 unfolding playBy
 returns c =
-    let c1 = c .before .before .before .before in
+    let c1 = c .before .before .before .before .before in
     let c2 = c1 .before .before .before .before .before .before in
     let c3 = c2 .before .before .before .before .before .before .before .before in
     let c4 = c3 .before .before .before .before in
@@ -29,9 +29,9 @@ returns c =
           ∙ ap flagByte
           ((rw (c1 .before .before .before .before .before .is-set .ensures) at (c1 .full-after .ensures))
           ∙ full-same _ (modeRule (a .changes) (a .t7 .running)) (c5 .modes-after .ensures .1) (a .t5 .bus) (now (a .runs))
-          (a .t5 .homes) (now (a .carries)) (now (a .deadlines)) (isSet (a .t7 .full)) (placeIn (a .message))))
-          (c .before .before .load-after .ensures ∙ load-same _ (outRule (a .results) (a .t7 .out)) (c7 .out-after .ensures .1)
-          (now (a .carries)) (a .t7 .load) (placeIn (a .message))),
+          (a .t5 .homes) (now (a .row-tasks)) (now (a .row-deadlines)) (isSet (a .t7 .full)) (placeIn (a .message))))
+          (c .before .before .before .load-after .ensures ∙ load-same _ (outRule (a .results) (a .t7 .out)) (c7 .out-after .ensures .1)
+          (now (a .row-tasks)) (a .t7 .load) (placeIn (a .message))),
       record { out = c7 .out-after .ensures .1; held = c6 .held-by .ensures .1 },
     )
 

@@ -21,4 +21,4 @@ pub lands-spec : {M : Type 1} → statement M
 lands-spec =
     tie.close
     (tie.spec (λ c. search needs) (λ c. search needs) (λ c κs. search needs) (λ c κs. search needs) (λ c κs. search needs)
-    (λ c. search needs) returns-2 returns-3)
+    (λ c. search needs) (λ c. search needs) (λ c. search needs) returns-2 returns-3)

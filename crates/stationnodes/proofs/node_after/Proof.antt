@@ -16,7 +16,7 @@ returns c =
     let landed = c .before .before .before .landed-after in
     made (landed .ensures)
     (shown-of-landed (now (a .ends)) (now (a .homes)) (now (a .nodes)) (now (a .out)) (now (a .held)) (now (a .bus)) (now (a .runs))
-    (a .clock) (a .n) (a .node .landed) (a .node .shown) (landedRule (a .landing) (a .n) (a .node .landed)) size (landed .ensures)
+    (a .clock .0) (a .n) (a .node .landed) (a .node .shown) (landedRule (a .landing) (a .n) (a .node .landed)) size (landed .ensures)
     (c .shown-after .ensures))
 
 pub node-after-spec : {M : Type 1} → statement M

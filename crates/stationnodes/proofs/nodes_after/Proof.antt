@@ -9,7 +9,7 @@ use Rattle.stationnodes.proofs.nodes_after.Tie as tie
 
 abbrev Inv-loop : tie.InvT-loop
 Inv-loop landing ends homes nodes out held bus runs clock old₀ n₀ old n =
-    (n ≤ 8) × Filled old₀ (nodeRule ends homes nodes out held bus runs clock landing old₀) n old
+    (n ≤ 8) × Filled old₀ (nodeRule ends homes nodes out held bus runs (clock .0) landing old₀) n old
 
 abbrev μ-loop : tie.MeasureT-loop
 μ-loop landing ends homes nodes out held bus runs clock old₀ n₀ old n = 8 - n

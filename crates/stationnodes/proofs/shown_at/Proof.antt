@@ -18,8 +18,8 @@ returns c =
     let c2 = c1 .before .before .before .before in
     let a = c2 .before .before .args in
     shows-own (getD (now (a .ends)) (a .t) false) (eqb (getD (now (a .nodes)) (getD (now (a .homes)) (a .t) 0) 0) (a .n))
-    (messageIn (now (a .bus)) (now (a .runs)) (a .t) (getD (now (a .held)) (a .n * 16 + getD (now (a .homes)) (a .t) 0) 0)
-    (a .clock)) (getD (now (a .out)) (a .t) 0) (getD (now (a .landed)) (a .t) 0) (a .old)
+    (messageIn (now (a .bus)) (now (a .runs)) (getD (now (a .held)) (a .n * 16 + getD (now (a .homes)) (a .t) 0) 0) (a .t)
+    (a .clock .0)) (getD (now (a .out)) (a .t) 0) (getD (now (a .landed)) (a .t) 0) (a .old)
     (c2 .if1 .taken)
     (rw (← c1 .before .before .byte-at .ensures .0, ← c1 .byte-at2 .ensures .0, eq-eqb _ _ (c .before .before .if2 .taken)))
     (c .value-at .ensures)
@@ -32,8 +32,8 @@ returns-2 c =
     let c4 = c3 .before .before .before in
     let a = c4 .before .args in
     shows-landed (getD (now (a .ends)) (a .t) false) (eqb (getD (now (a .nodes)) (getD (now (a .homes)) (a .t) 0) 0) (a .n))
-    (messageIn (now (a .bus)) (now (a .runs)) (a .t) (getD (now (a .held)) (a .n * 16 + getD (now (a .homes)) (a .t) 0) 0)
-    (a .clock)) (getD (now (a .out)) (a .t) 0) (getD (now (a .landed)) (a .t) 0) (a .old)
+    (messageIn (now (a .bus)) (now (a .runs)) (getD (now (a .held)) (a .n * 16 + getD (now (a .homes)) (a .t) 0) 0) (a .t)
+    (a .clock .0)) (getD (now (a .out)) (a .t) 0) (getD (now (a .landed)) (a .t) 0) (a .old)
     (c3 .before .before .if1 .taken)
     (rw (← c3 .byte-at .ensures .0, ← c2 .before .byte-at2 .ensures .0, ne-eqb _ _ (c2 .if2 .left)))
     (sym (c1 .has-message .ensures ∙ rw (c1 .before .byte-at3 .ensures .0, c3 .byte-at .ensures .0))
@@ -46,8 +46,8 @@ returns-3 c =
     let c3 = c2 .before .before .before in
     let a = c3 .before .args in
     shows-old (getD (now (a .ends)) (a .t) false) (eqb (getD (now (a .nodes)) (getD (now (a .homes)) (a .t) 0) 0) (a .n))
-    (messageIn (now (a .bus)) (now (a .runs)) (a .t) (getD (now (a .held)) (a .n * 16 + getD (now (a .homes)) (a .t) 0) 0)
-    (a .clock)) (getD (now (a .out)) (a .t) 0) (getD (now (a .landed)) (a .t) 0) (a .old)
+    (messageIn (now (a .bus)) (now (a .runs)) (getD (now (a .held)) (a .n * 16 + getD (now (a .homes)) (a .t) 0) 0) (a .t)
+    (a .clock .0)) (getD (now (a .out)) (a .t) 0) (getD (now (a .landed)) (a .t) 0) (a .old)
     (c2 .before .before .if1 .taken)
     (rw (← c2 .byte-at .ensures .0, ← c1 .before .byte-at2 .ensures .0, ne-eqb _ _ (c1 .if2 .left)))
     (sym (c .before .has-message .ensures ∙ rw (c .before .before .byte-at3 .ensures .0, c2 .byte-at .ensures .0))
@@ -57,12 +57,13 @@ returns-4 : tie.Need-returns-4
 returns-4 c =
     let a = c .before .before .args in
     shows-none (getD (now (a .ends)) (a .t) false) (eqb (getD (now (a .nodes)) (getD (now (a .homes)) (a .t) 0) 0) (a .n))
-    (messageIn (now (a .bus)) (now (a .runs)) (a .t) (getD (now (a .held)) (a .n * 16 + getD (now (a .homes)) (a .t) 0) 0)
-    (a .clock)) (getD (now (a .out)) (a .t) 0) (getD (now (a .landed)) (a .t) 0) (a .old)
+    (messageIn (now (a .bus)) (now (a .runs)) (getD (now (a .held)) (a .n * 16 + getD (now (a .homes)) (a .t) 0) 0) (a .t)
+    (a .clock .0)) (getD (now (a .out)) (a .t) 0) (getD (now (a .landed)) (a .t) 0) (a .old)
     (c .if1 .left)
 
 pub shown-at-spec : {M : Type 1} → statement M
 shown-at-spec =
     tie.close
     (tie.spec (λ c. search needs) (λ c κs. search needs) (λ c κs. search needs) (λ c κs. search needs) returns (λ c. search needs)
-    (λ c. search needs) (λ c κs. search needs) (λ c κs. search needs) (λ c κs. search needs) returns-2 returns-3 returns-4)
+    (λ c. search needs) (λ c κs. search needs) (λ c. search needs) (λ c. search needs) (λ c κs. search needs)
+    (λ c κs. search needs) returns-2 returns-3 returns-4)

@@ -7,4 +7,4 @@ returns : tie.Need-returns
 returns c = cc
 
 pub control-row-spec : {M : Type 1} → statement M
-control-row-spec = tie.close (tie.spec (λ c κs. search needs) (λ c κs. search needs) returns)
+control-row-spec = tie.close (tie.spec (λ c. search needs) (λ c κs. search needs) (λ c κs. search needs) returns)

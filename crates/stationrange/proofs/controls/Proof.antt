@@ -7,7 +7,7 @@ use Rattle.stationrange.proofs.controls.Statement.{statement}
 use Rattle.stationrange.proofs.controls.Tie as tie
 
 abbrev Inv-loop : tie.InvT-loop
-Inv-loop period nodes starts stops good₀ row₀ good row = (row ≤ 8) × Tested (controlTest period nodes starts stops) row good
+Inv-loop period nodes starts stops good₀ row₀ good row = (row ≤ 8) × Tested (controlTest (period .0) nodes starts stops) row good
 
 abbrev μ-loop : tie.MeasureT-loop
 μ-loop period nodes starts stops good₀ row₀ good row = 8 - row

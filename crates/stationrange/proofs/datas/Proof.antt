@@ -8,7 +8,7 @@ use Rattle.stationrange.proofs.datas.Tie as tie
 
 abbrev Inv-loop : tie.InvT-loop
 Inv-loop tasks period rows deadlines starts stops good₀ row₀ good row =
-    (row ≤ 256) × Tested (dataTest tasks period rows deadlines starts stops) row good
+    (row ≤ 256) × Tested (dataTest tasks (period .0) rows deadlines starts stops) row good
 
 abbrev μ-loop : tie.MeasureT-loop
 μ-loop tasks period rows deadlines starts stops good₀ row₀ good row = 256 - row

@@ -20,7 +20,7 @@ loop-holds c = (search needs, tested-none)
 loop-again : tie.Need-loop-again Inv-loop μ-loop
 loop-again c =
     let c1 = c .before .before .before in
-    let c2 = c1 .before .before .before in
+    let c2 = c1 .before .before .before .before in
     let c3 = c2 .before .before .before in (
       search needs,
       tested-turn (c3 .before .before .before .loop .inv .1) (c .both .ensures)
@@ -39,5 +39,5 @@ pub plays-spec : {M : Type 1} → statement M
 plays-spec =
     tie.close
     (tie.spec Inv-loop μ-loop loop-holds (λ c κs. search needs) (λ c κs. search needs) (λ c κs. search needs) (λ c. search needs)
-    (λ c. search needs) (λ c κs. search needs) (λ c. search needs) (λ c κs. search needs) (λ c κs. search needs) (λ c. search needs)
-    (λ c. search needs) loop-again returns)
+    (λ c. search needs) (λ c. search needs) (λ c κs. search needs) (λ c. search needs) (λ c κs. search needs) (λ c κs. search needs)
+    (λ c. search needs) (λ c. search needs) loop-again returns)

@@ -8,7 +8,7 @@ use Rattle.stationrange.proofs.runs_of.Statement.{statement}
 use Rattle.stationrange.proofs.runs_of.Tie as tie
 
 abbrev Inv-loop : tie.InvT-loop
-Inv-loop runs mode period good₀ t₀ good t = (t ≤ 32) × Tested (runTest runs mode period) t good
+Inv-loop runs mode period good₀ t₀ good t = (t ≤ 32) × Tested (runTest runs mode (period .0)) t good
 
 abbrev μ-loop : tie.MeasureT-loop
 μ-loop runs mode period good₀ t₀ good t = 32 - t
@@ -17,7 +17,7 @@ loop-holds : tie.Need-loop-holds Inv-loop μ-loop
 loop-holds c = (search needs, tested-none)
 
 loop-again : tie.Need-loop-again Inv-loop μ-loop
-loop-again c = (search needs, tested-turn (c .before .before .before .loop .inv .1) (c .both .ensures) refl)
+loop-again c = (search needs, tested-turn (c .before .before .before .before .loop .inv .1) (c .both .ensures) refl)
 
 returns : tie.Need-returns Inv-loop μ-loop
 returns c = tested-end (c .before .loop .inv .1) (c .before .loop .inv .0) (c .loop-test .left)

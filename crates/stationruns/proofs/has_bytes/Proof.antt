@@ -33,10 +33,10 @@ large v size h w =
 
 returns : tie.Need-returns
 unfolding limits
-returns c = rw (limit (c .before .args .size) (c .if1 .taken))
+returns c = rw (limit (c .before .before .args .size .0) (c .if1 .taken))
 
 returns-2 : tie.Need-returns-2
-returns-2 c = sym (lt-ltb _ _ (large (c .before .args .value) (c .before .args .size) (omega arith) (c .if1 .left)))
+returns-2 c = sym (lt-ltb _ _ (large (c .before .before .args .value) (c .before .before .args .size .0) (omega arith) (c .if1 .left)))
 
 pub has-bytes-spec : {M : Type 1} → statement M
-has-bytes-spec = tie.close (tie.spec (λ c. search needs) (λ c. search needs) returns returns-2)
+has-bytes-spec = tie.close (tie.spec (λ c. search needs) (λ c. search needs) (λ c. search needs) returns returns-2)

@@ -16,19 +16,19 @@ missing true h g e = sym e
 missing false h g e = refl
 
 returns : tie.Need-returns
-returns c = let a = c .before .args in came (lastChance (a .run) (a .in-plan) (a .worst)) (a .had) _ (rw (c .if1 .taken))
+returns c = let a = c .before .args in came (lastChance (a .run) (a .in-plan) (a .worst .0)) (a .had) _ (rw (c .if1 .taken))
 
 returns-2 : tie.Need-returns-2
 returns-2 c =
     let a = c .before .before .before .args in
-    came (lastChance (a .run) (a .in-plan) (a .worst)) (a .had) _
+    came (lastChance (a .run) (a .in-plan) (a .worst .0)) (a .had) _
     (rw (c .before .before .if1 .left) (sym (c .before .is-result .ensures) ∙ c .if2 .taken))
 
 returns-3 : tie.Need-returns-3
 returns-3 c =
     let c1 = c .before .before .before in
     let a = c1 .before .args in
-    rw (c .is-last-chance .ensures) (missing (lastChance (a .run) (a .in-plan) (a .worst)) (a .had) _
+    rw (c .is-last-chance .ensures) (missing (lastChance (a .run) (a .in-plan) (a .worst .0)) (a .had) _
     (rw (c1 .if1 .left) (sym (c .before .before .is-result .ensures) ∙ c .before .if2 .left)))
 
 pub is-in-time-spec : {M : Type 1} → statement M

@@ -7,7 +7,7 @@ returns : tie.Need-returns
 returns c = rw (← c .before .is-change .ensures, c .if1 .taken)
 
 returns-2 : tie.Need-returns-2
-returns-2 c = rw (← c .before .before .is-change .ensures, c .before .if1 .left) (c .one-on .ensures)
+returns-2 c = rw (← c .before .before .is-change .ensures, c .before .if1 .left, c .one-on .ensures)
 
 pub age-at-spec : {M : Type 1} → statement M
 age-at-spec = tie.close (tie.spec (λ c κs. search needs) (λ c κs. search needs) returns returns-2)

@@ -1,17 +1,10 @@
--- Both exits compute: the test decides that of `oneOn`.
-use borrow.Author.Tests.{lt-ltb, le-ltb}
-use Rattle.rules.specs.Station.{oneOn}
+-- What `next` promises, as ticks.
 use borrow.Author.Needs.{needs}
 use Rattle.stationsteps.proofs.one_on.Statement.{statement}
 use Rattle.stationsteps.proofs.one_on.Tie as tie
 
 returns : tie.Need-returns
-unfolding oneOn
-returns c = rw (lt-ltb _ _ (c .if1 .taken))
-
-returns-2 : tie.Need-returns-2
-unfolding oneOn
-returns-2 c = rw (le-ltb _ _ (c .if1 .left))
+returns c = rw (c .next .ensures)
 
 pub one-on-spec : {M : Type 1} → statement M
-one-on-spec = tie.close (tie.spec (λ c. search needs) returns returns-2)
+one-on-spec = tie.close (tie.spec (λ c κs. search needs) returns)

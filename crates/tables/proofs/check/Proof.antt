@@ -249,7 +249,8 @@ module _ {M : Type 1} (𝓤 : URA M) (H : Heap 𝓤) (A : Atoms 𝓤) (W : Given
         land ! (from ! (stop !)) (init ! 26 refl (tt, tt)) $
         assigns ! (of-opd ! (load ! (from ! (fld ! refl (stop !))) (look-in ! 30 (sub ! 1 refl (whole !))))) (from ! (stop !)) (store ! 22 refl (tt, record { fits = gr .0 })) $
         move ! (4 ∷ 5 ∷ []) $ use2 W (raw (Settle .pre (to-settled m (EL.val B.the-type B′.the-laws (m .answer)) (LL.owed K.the-type K′.the-laws m _ is .0) early))) (goes-settled m (EL.val B.the-type B′.the-laws (m .answer)) (LL.owed K.the-type K′.the-laws m _ is .0) early) $
-        calls-at ! fm Settle known-settled (to-settled m (EL.val B.the-type B′.the-laws (m .answer)) (LL.owed K.the-type K′.the-laws m _ is .0) early) (and-then ! (load ! (from ! (stop !)) (look ! 33 refl)) (and-then ! (load ! (from ! (stop !)) (look ! 31 refl)) (and-then ! (load ! (from ! (stop !)) (look ! 21 refl)) (and-then ! (load ! (from ! (fld ! refl (stop !))) (look-in ! 27 (sub ! 0 refl (whole !)))) (and-then ! (load ! (from ! (stop !)) (look ! 25 refl)) (no-more !)))))) (λ u.
+        calls-at ! fm Settle known-settled (to-settled m (EL.val B.the-type B′.the-laws (m .answer)) (LL.owed K.the-type K′.the-laws m _ is .0) early)
+        (and-then ! (load ! (from ! (stop !)) (look ! 33 refl)) (and-then ! (load ! (from ! (stop !)) (look ! 31 refl)) (and-then ! (load ! (from ! (stop !)) (look ! 21 refl)) (and-then ! (load ! (from ! (fld ! refl (stop !))) (look-in ! 27 (sub ! 0 refl (whole !)))) (and-then ! (load ! (from ! (stop !)) (look ! 25 refl)) (no-more !)))))) (λ u.
         use1 W (later (some (λ (n : Ruling). (Tokens ⊛ ‵ (Z.the-row .own n (u ∷ []))) ⊛ raw (ensured 𝓤 H A settled.ended (settled.clauses 𝓤 H A mem run) (κ₀, (κ₁, tt)) (plan, (table, (length ys, (m .answer, (early, tt))))) tt n)))) (id⊢ 𝓤 _) $ await ! tt $ pick ! (λ n.
         split ! $ move ! (1 ∷ []) $ use1 W (raw (fact 𝓤 (Settles early (m .answer) (lentPassed (plan .now) (table .now) (length ys)) n))) (said-settled m (EL.val B.the-type B′.the-laws (m .answer)) (LL.owed K.the-type K′.the-laws m _ is .0) early n) $
         heard ! (Settles early (m .answer) (lentPassed (plan .now) (table .now) (length ys)) n) (λ en. split ! $ move ! (1 ∷ []) $ facts ! Z.the-row (Is Z.the-row) (shows 𝓤 H A Z.the-row) n (u ∷ []) (λ isn.
@@ -266,7 +267,8 @@ module _ {M : Type 1} (𝓤 : URA M) (H : Heap 𝓤) (A : Atoms 𝓤) (W : Given
         -- [obs; the borrow; κ₂; the tokens; _15; …]
         assigns ! (of-opd ! (load ! (from ! (fld ! refl (stop !))) (look-in ! 22 (sub ! 0 refl (whole !))))) (from ! (stop !)) (init ! 34 refl (typedB (n .answer) (LL.owed Z.the-type Z′.the-laws n _ isn .0))) $
         returns ! (look ! 34 refl) $ forget ! 4 refl $ forget ! 6 refl $ forget ! 8 refl $ forget ! 10 refl $ forget ! 12 refl $ forget ! 14 refl $ forget ! 16 refl $ forget ! 18 refl $ forget ! 20 refl $ forget ! 22 refl $ forget ! 24 refl $ forget ! 26 refl $ forget ! 28 refl $ forget ! 30 refl $ forget ! 32 refl $ forget ! 34 refl $
-        move ! (34 ∷ 35 ∷ []) $ free1 ! $ move ! (32 ∷ 33 ∷ []) $ free1 ! $ move ! (30 ∷ 31 ∷ []) $ free1 ! $ move ! (28 ∷ 29 ∷ []) $ free1 ! $ move ! (26 ∷ 27 ∷ []) $ free1 ! $ move ! (24 ∷ 25 ∷ []) $ free1 ! $ move ! (22 ∷ 23 ∷ []) $ free1 ! $ move ! (20 ∷ 21 ∷ []) $ free1 ! $ move ! (18 ∷ 19 ∷ []) $ free1 ! $ move ! (16 ∷ 17 ∷ []) $ free1 ! $ move ! (14 ∷ 15 ∷ []) $ free1 ! $ move ! (12 ∷ 13 ∷ []) $ free1 ! $ move ! (10 ∷ 11 ∷ []) $ free1 ! $ move ! (8 ∷ 9 ∷ []) $ free1 ! $ move ! (6 ∷ 7 ∷ []) $ free1 ! $ move ! (4 ∷ 5 ∷ []) $ free1 ! $ free0 ! $
+        move ! (34 ∷ 35 ∷ []) $ free1 ! $ move ! (32 ∷ 33 ∷ []) $ free1 ! $ move ! (30 ∷ 31 ∷ []) $ free1 ! $ move ! (28 ∷ 29 ∷ []) $ free1 ! $ move ! (26 ∷ 27 ∷ []) $ free1 ! $ move ! (24 ∷ 25 ∷ []) $ free1 ! $ move ! (22 ∷ 23 ∷ []) $ free1 ! $ move ! (20 ∷ 21 ∷ []) $ free1 ! $ move ! (18 ∷ 19 ∷ []) $ free1 ! $
+        move ! (16 ∷ 17 ∷ []) $ free1 ! $ move ! (14 ∷ 15 ∷ []) $ free1 ! $ move ! (12 ∷ 13 ∷ []) $ free1 ! $ move ! (10 ∷ 11 ∷ []) $ free1 ! $ move ! (8 ∷ 9 ∷ []) $ free1 ! $ move ! (6 ∷ 7 ∷ []) $ free1 ! $ move ! (4 ∷ 5 ∷ []) $ free1 ! $ free0 ! $
         by ! (exits n _ zs (LL.owed Z.the-type Z′.the-laws n _ isn .0) (same-z ∙ same-v ∙ same-w) (record { m = m; ws = ws; vs = vs; early = early; judged = em; filledRows = ew; looked = ev; settled = en; cleared = ez .1 })))))))))))))))))))))))))))))
 
 check-meets : {M : Type 1} (𝓤 : URA M) (H : Heap 𝓤) (A : Atoms 𝓤) (W : Given 𝓤 H A) (mem : Memory → SProp 𝓤) (run : Routine → Fun 𝓤) (𝓣 : Tables 𝓤 H)

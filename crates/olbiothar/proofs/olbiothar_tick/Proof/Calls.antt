@@ -139,12 +139,12 @@ module _ {M : Type 1} (𝓤 : URA M) (H : Heap 𝓤) (A : Atoms 𝓤) (at-mem : 
                         (
                           array 640 (γ .0) (h .runs),
                           (
-                            array 4736 (γ .1 .0) (h .carries),
+                            array 4736 (γ .1 .0) (h .«row_tasks»),
                             (
-                              array 4992 (γ .1 .1 .0) (h .deadlines),
+                              array 4992 (γ .1 .1 .0) (h .«row_deadlines»),
                               (
-                                array 6016 (γ .1 .1 .1 .0) (h .starts),
-                                (array 7040 (γ .1 .1 .1 .1) (h .stops), (rs, (gs, (ms, (cs, tt))))),
+                                array 6016 (γ .1 .1 .1 .0) (h .«row_starts»),
+                                (array 7040 (γ .1 .1 .1 .1) (h .«row_stops»), (rs, (gs, (ms, (cs, tt))))),
                               ),
                             ),
                           ),
@@ -226,13 +226,13 @@ module _ {M : Type 1} (𝓤 : URA M) (H : Heap 𝓤) (A : Atoms 𝓤) (at-mem : 
           qed W (‵ Memory′ ∷ ‵ (flft (α ∷ []) fullShare) ∷ (‵ Given′ ⊛ Tokens) ∷ []) ∵ updating ! $ bor-new ! tt (α ∷ []) $ bor-fracture ! tt (λ s. partAt T.the-row s h b o) fullShare $
           -- [the station's share; the way back; the token; what was given]
           shr-bor-dup ! $ move ! (0 ∷ 3 ∷ []) $ use2 W (later (some (λ (γ : GName). ‵ (ShrRef (named 0) (α ∷ []) (Array u32 1024) .own (array 640 γ (h .runs)) (vptr b (o + 640) ∷ [])) ⊛ ‵ (flft (α ∷ []) fullShare)))) (array-lent 𝓤 H A W (named 0) (α ∷ []) fullShare h b o 6 640 refl refl (h .runs) (numbers-same (h .runs))) $ await ! tt $ pick ! (λ γ₁. split ! $ move ! (2 ∷ []) $
-          shr-bor-dup ! $ move ! (0 ∷ 3 ∷ []) $ use2 W (later (some (λ (γ : GName). ‵ (ShrRef (named 0) (α ∷ []) (Array u8 256) .own (array 4736 γ (h .carries)) (vptr b (o + 4736) ∷ [])) ⊛ ‵ (flft (α ∷ []) fullShare)))) (array-lent 𝓤 H A W (named 0) (α ∷ []) fullShare h b o 7 4736 refl refl (h .carries) (numbers-same (h .carries))) $ await ! tt $ pick ! (λ γ₂. split ! $ move ! (2 ∷ []) $
-          shr-bor-dup ! $ move ! (0 ∷ 3 ∷ []) $ use2 W (later (some (λ (γ : GName). ‵ (ShrRef (named 0) (α ∷ []) (Array u32 256) .own (array 4992 γ (h .deadlines)) (vptr b (o + 4992) ∷ [])) ⊛ ‵ (flft (α ∷ []) fullShare)))) (array-lent 𝓤 H A W (named 0) (α ∷ []) fullShare h b o 8 4992 refl refl (h .deadlines) (numbers-same (h .deadlines))) $ await ! tt $ pick ! (λ γ₃. split ! $ move ! (2 ∷ []) $
-          shr-bor-dup ! $ move ! (0 ∷ 3 ∷ []) $ use2 W (later (some (λ (γ : GName). ‵ (ShrRef (named 0) (α ∷ []) (Array u32 256) .own (array 6016 γ (h .starts)) (vptr b (o + 6016) ∷ [])) ⊛ ‵ (flft (α ∷ []) fullShare)))) (array-lent 𝓤 H A W (named 0) (α ∷ []) fullShare h b o 9 6016 refl refl (h .starts) (numbers-same (h .starts))) $ await ! tt $ pick ! (λ γ₄. split ! $
-          move ! (2 ∷ 1 ∷ []) $ use2 W (later (some (λ (γ : GName). ‵ (ShrRef (named 0) (α ∷ []) (Array u32 256) .own (array 7040 γ (h .stops)) (vptr b (o + 7040) ∷ [])) ⊛ ‵ (flft (α ∷ []) fullShare)))) (array-lent 𝓤 H A W (named 0) (α ∷ []) fullShare h b o 10 7040 refl refl (h .stops) (numbers-same (h .stops))) $ await ! tt $ pick ! (λ γ₅. split ! $
-          -- [stops; the token; starts; deadlines; carries; runs; the way back; what was given]
+          shr-bor-dup ! $ move ! (0 ∷ 3 ∷ []) $ use2 W (later (some (λ (γ : GName). ‵ (ShrRef (named 0) (α ∷ []) (Array u8 256) .own (array 4736 γ (h .«row_tasks»)) (vptr b (o + 4736) ∷ [])) ⊛ ‵ (flft (α ∷ []) fullShare)))) (array-lent 𝓤 H A W (named 0) (α ∷ []) fullShare h b o 7 4736 refl refl (h .«row_tasks») (numbers-same (h .«row_tasks»))) $ await ! tt $ pick ! (λ γ₂. split ! $ move ! (2 ∷ []) $
+          shr-bor-dup ! $ move ! (0 ∷ 3 ∷ []) $ use2 W (later (some (λ (γ : GName). ‵ (ShrRef (named 0) (α ∷ []) (Array u32 256) .own (array 4992 γ (h .«row_deadlines»)) (vptr b (o + 4992) ∷ [])) ⊛ ‵ (flft (α ∷ []) fullShare)))) (array-lent 𝓤 H A W (named 0) (α ∷ []) fullShare h b o 8 4992 refl refl (h .«row_deadlines») (numbers-same (h .«row_deadlines»))) $ await ! tt $ pick ! (λ γ₃. split ! $ move ! (2 ∷ []) $
+          shr-bor-dup ! $ move ! (0 ∷ 3 ∷ []) $ use2 W (later (some (λ (γ : GName). ‵ (ShrRef (named 0) (α ∷ []) (Array u32 256) .own (array 6016 γ (h .«row_starts»)) (vptr b (o + 6016) ∷ [])) ⊛ ‵ (flft (α ∷ []) fullShare)))) (array-lent 𝓤 H A W (named 0) (α ∷ []) fullShare h b o 9 6016 refl refl (h .«row_starts») (numbers-same (h .«row_starts»))) $ await ! tt $ pick ! (λ γ₄. split ! $
+          move ! (2 ∷ 1 ∷ []) $ use2 W (later (some (λ (γ : GName). ‵ (ShrRef (named 0) (α ∷ []) (Array u32 256) .own (array 7040 γ (h .«row_stops»)) (vptr b (o + 7040) ∷ [])) ⊛ ‵ (flft (α ∷ []) fullShare)))) (array-lent 𝓤 H A W (named 0) (α ∷ []) fullShare h b o 10 7040 refl refl (h .«row_stops») (numbers-same (h .«row_stops»))) $ await ! tt $ pick ! (λ γ₅. split ! $
+          -- [the rows' stops; the token; their starts, deadlines, tasks; runs; the way back; what was given]
           at-once ! $ show ! (Asked α) (γ₁, (γ₂, (γ₃, (γ₄, γ₅)))) $ move ! (7 ∷ []) $ split ! $ move ! (3 ∷ 1 ∷ []) $ join ! $
-          -- [the tokens; the references given; stops; starts; deadlines; carries; runs; the way back]
+          -- [the tokens; the references given; the rows' stops, starts, deadlines, tasks; runs; the way back]
           move ! (2 ∷ 1 ∷ []) $ fjoin ! $ move ! (2 ∷ 0 ∷ []) $ fjoin ! $ move ! (2 ∷ 0 ∷ []) $ fjoin ! $ move ! (2 ∷ 0 ∷ []) $ fjoin ! $ move ! (2 ∷ 0 ∷ []) $ fjoin ! $
           owned ! Pl.the-row (Is Pl.the-row) (LL.makes Pl.the-type Pl′.the-plain 𝓤 H A) (h .play) _ (play-known h known) $ fjoin ! $
           owned ! Ti.the-row (Is Ti.the-row) (LL.makes Ti.the-type Ti′.the-plain 𝓤 H A) (h .period) _ (period-known h known) $ fjoin ! $

@@ -84,17 +84,17 @@ nodes-at = refl
 pub runs-at : fieldOf T′.mir 6 ≡ some (tyArray (tyInt w32) 1024, 640)
 runs-at = refl
 
-pub carries-at : fieldOf T′.mir 7 ≡ some (tyArray (tyInt w8) 256, 4736)
-carries-at = refl
+pub row-tasks-at : fieldOf T′.mir 7 ≡ some (tyArray (tyInt w8) 256, 4736)
+row-tasks-at = refl
 
-pub deadlines-at : fieldOf T′.mir 8 ≡ some (tyArray (tyInt w32) 256, 4992)
-deadlines-at = refl
+pub row-deadlines-at : fieldOf T′.mir 8 ≡ some (tyArray (tyInt w32) 256, 4992)
+row-deadlines-at = refl
 
-pub starts-at : fieldOf T′.mir 9 ≡ some (tyArray (tyInt w32) 256, 6016)
-starts-at = refl
+pub row-starts-at : fieldOf T′.mir 9 ≡ some (tyArray (tyInt w32) 256, 6016)
+row-starts-at = refl
 
-pub stops-at : fieldOf T′.mir 10 ≡ some (tyArray (tyInt w32) 256, 7040)
-stops-at = refl
+pub row-stops-at : fieldOf T′.mir 10 ≡ some (tyArray (tyInt w32) 256, 7040)
+row-stops-at = refl
 
 pub ticked-at : fieldOf R′.mir 0 ≡ some (K′.mir, 0)
 ticked-at = refl

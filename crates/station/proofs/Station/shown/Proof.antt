@@ -1,4 +1,4 @@
--- The promise of `shown_on` is `stateOf` unfolded, at the places of node and task.
+-- The promise of `shown_on` is `stateOf` unfolded.
 use Rattle.station.specs.Memory.{stateOf, stateBy}
 use borrow.Author.Needs.{needs}
 use Rattle.station.proofs.Station.shown.Statement.{statement}
@@ -6,7 +6,7 @@ use Rattle.station.proofs.Station.shown.Tie as tie
 
 returns : tie.Need-returns
 unfolding stateOf stateBy
-returns c = rw (c .shown-on .ensures, c .before .before .place .ensures, c .before .place2 .ensures)
+returns c = rw (c .shown-on .ensures)
 
 pub shown-spec : {M : Type 1} → statement M
-shown-spec = tie.close (tie.spec (λ c κs. search needs) (λ c κs. search needs) (λ c κs. search needs) returns)
+shown-spec = tie.close (tie.spec (λ c κs. search needs) returns)

@@ -14,13 +14,14 @@ returns c =
 
 returns-2 : tie.Need-returns-2
 returns-2 c =
-    let c1 = c .before .before .before in
+    let c1 = c .before .before in
+    let c2 = c1 .before .before .before in
     rw (
-      ← c1 .before .is-under-way .ensures,
-      ← c1 .both .ensures,
-      c .before .before .if1 .taken,
-      c .before .if2 .left,
-      c .since-release .ensures,
+      ← c2 .before .is-under-way .ensures,
+      ← c2 .both .ensures,
+      c1 .before .before .if1 .taken,
+      c1 .before .if2 .left,
+      c1 .since-release .ensures,
     )
 
 returns-3 : tie.Need-returns-3

@@ -5,11 +5,12 @@ use Rattle.stationruns.proofs.Run.is_last_chance.Tie as tie
 
 returns : tie.Need-returns
 returns c =
+    let c1 = c .before .before in
     rw (
-      ← c .before .before .before .is-under-way .ensures,
-      ← c .before .before .both .ensures,
-      c .before .if1 .taken,
-      c .since-release .ensures,
+      ← c1 .before .before .before .is-under-way .ensures,
+      ← c1 .before .before .both .ensures,
+      c1 .before .if1 .taken,
+      c1 .since-release .ensures,
     )
 
 returns-2 : tie.Need-returns-2
