@@ -101,7 +101,9 @@ olbiothar_answer olbiothar_check(const uint8_t *plan, size_t plan_length, const 
 /* A played station. It holds its own copy of what it needs of plan and table. All bytes zero, it is a station not begun. Its
  * fields may be read; `nodes[n].shown[t]` is what node n shows of task t after the last accepted tick. Any numbers may stand in a
  * station that is ticked, also in one that was kept elsewhere and read back: one outside its range makes the tick answer 40 at 0.
- * `sending`, `bus`, `givens` and `full` are flags: set where the byte is not 0, and stored as 0 or 1. */
+ * `fixed`, the runs and the pairs do not change while it plays. Bit m of `pair_modes[q]` says that mode m has the message of pair q;
+ * `pair_starts` and `pair_stops` are those of the row that the pair rides in. `sending`, `givens` and `full` are flags: set where the
+ * byte is not 0, and stored as 0 or 1. */
 typedef struct olbiothar_node {
     uint64_t landed[OLBIOTHAR_TASKS];
     uint64_t shown[OLBIOTHAR_TASKS];
@@ -109,36 +111,38 @@ typedef struct olbiothar_node {
 
 typedef struct olbiothar_station {
     struct {
-        uint8_t count;
-        uint8_t sites[OLBIOTHAR_MODULES];
-        uint8_t sending[OLBIOTHAR_MODULES];
-    } modules;
-    struct {
-        uint8_t count;
-        uint8_t homes[OLBIOTHAR_MODES];
-        uint32_t periods[OLBIOTHAR_MODES];
-        uint32_t switches[OLBIOTHAR_MODES];
-    } modes;
-    struct {
-        uint8_t count;
-        uint8_t homes[OLBIOTHAR_TASKS];
-        uint8_t sizes[OLBIOTHAR_TASKS];
-        uint32_t worsts[OLBIOTHAR_TASKS];
-        uint8_t bus[OLBIOTHAR_TASKS];
-    } tasks;
-    struct {
-        uint8_t count;
-        uint8_t nodes[OLBIOTHAR_NODES];
-        uint32_t starts[OLBIOTHAR_NODES];
-        uint32_t stops[OLBIOTHAR_NODES];
-    } controls;
-    uint32_t period;
-    uint16_t datas;
+        struct {
+            uint8_t count;
+            uint8_t sites[OLBIOTHAR_MODULES];
+            uint8_t sending[OLBIOTHAR_MODULES];
+        } modules;
+        struct {
+            uint8_t count;
+            uint8_t homes[OLBIOTHAR_MODES];
+            uint32_t periods[OLBIOTHAR_MODES];
+            uint32_t switches[OLBIOTHAR_MODES];
+        } modes;
+        struct {
+            uint8_t count;
+            uint8_t homes[OLBIOTHAR_TASKS];
+            uint8_t sizes[OLBIOTHAR_TASKS];
+            uint32_t worsts[OLBIOTHAR_TASKS];
+        } tasks;
+        struct {
+            uint8_t count;
+            uint8_t nodes[OLBIOTHAR_NODES];
+            uint32_t starts[OLBIOTHAR_NODES];
+            uint32_t stops[OLBIOTHAR_NODES];
+        } controls;
+        uint32_t period;
+        uint16_t pairs;
+    } fixed;
     uint32_t runs[OLBIOTHAR_MODES * OLBIOTHAR_TASKS];
-    uint8_t row_tasks[OLBIOTHAR_FRAMES];
-    uint32_t row_deadlines[OLBIOTHAR_FRAMES];
-    uint32_t row_starts[OLBIOTHAR_FRAMES];
-    uint32_t row_stops[OLBIOTHAR_FRAMES];
+    uint8_t pair_tasks[OLBIOTHAR_FRAMES];
+    uint32_t pair_deadlines[OLBIOTHAR_FRAMES];
+    uint32_t pair_starts[OLBIOTHAR_FRAMES];
+    uint32_t pair_stops[OLBIOTHAR_FRAMES];
+    uint32_t pair_modes[OLBIOTHAR_FRAMES];
     struct {
         uint32_t clock;
         uint8_t running[OLBIOTHAR_MODULES];
@@ -147,8 +151,8 @@ typedef struct olbiothar_station {
         uint8_t givens[OLBIOTHAR_TASKS];
         uint64_t out[OLBIOTHAR_TASKS];
         uint8_t held[OLBIOTHAR_NODES * OLBIOTHAR_MODULES];
-        uint8_t full;
-        uint64_t load;
+        uint8_t full[OLBIOTHAR_TASKS];
+        uint64_t loads[OLBIOTHAR_TASKS];
     } play;
     olbiothar_node nodes[OLBIOTHAR_NODES];
 } olbiothar_station;
@@ -159,14 +163,29 @@ typedef struct olbiothar_begun {
     olbiothar_station station;
 } olbiothar_begun;
 
-/* Begins a station with a plan, a table and a mode for each module: module m starts in mode `modes[m]` if `given[m]` is not 0.
+/* What a beginning is given: module m starts in mode `modes[m]` if `given[m]` is not 0. */
+typedef struct olbiothar_starting {
+    uint8_t modes[OLBIOTHAR_MODULES];
+    uint8_t given[OLBIOTHAR_MODULES];
+} olbiothar_starting;
+
+/* Begins a station with a plan, a table and a mode for each module.
  *
  * number 0: `station` has begun; its next tick is time 0.
  * number 1 to 11 and 20 to 27: what olbiothar_check gives for plan and table. number 40: of the 16 places, the lowest whose module
  *   is given no mode of its own, or that is given one behind the plan's modules. `station` is then a station not begun, all zero.
  */
 olbiothar_begun olbiothar_begin(const uint8_t *plan, size_t plan_length, const uint8_t *table, size_t table_length,
-                                const uint8_t modes[OLBIOTHAR_MODULES], const uint8_t given[OLBIOTHAR_MODULES]);
+                                olbiothar_starting starting);
+
+/* What a tick is given: the task t the result `results[t]` if `given[t]` is not 0; the module m a change to mode `modes[m]` if
+ * `changed[m]` is not 0. All bytes zero: nothing. */
+typedef struct olbiothar_input {
+    uint64_t results[OLBIOTHAR_TASKS];
+    uint8_t given[OLBIOTHAR_TASKS];
+    uint8_t modes[OLBIOTHAR_MODULES];
+    uint8_t changed[OLBIOTHAR_MODULES];
+} olbiothar_input;
 
 /* The row that starts at a tick: `kind` is 0 (none; the rest is 0), 17 (the control row of node `sender`; `deadline` is 0) or 18 (a
  * data row of task `sender`). */
@@ -178,22 +197,19 @@ typedef struct olbiothar_row {
     uint32_t stop;
 } olbiothar_row;
 
-/* A tick: the answer, and the row that starts at it. */
-typedef struct olbiothar_ticked {
+/* What a tick answers, and the row that starts at it. */
+typedef struct olbiothar_tick_answer {
     olbiothar_answer answer;
     olbiothar_row row;
-} olbiothar_ticked;
+} olbiothar_tick_answer;
 
-/* Plays one tick, in place. The task t is given the result `results[t]` if `given[t]` is not 0; the module m changes to mode
- * `modes[m]` if `changed[m]` is not 0. None of the four may lie within the station.
+/* Plays one tick, in place.
  *
  * number 0: the tick is accepted; `*station` is the station after it.
  * number 40 at 0: the station has not begun, or holds a number outside its range. number 41 to 44: a result or a change that is not
  *   allowed. `*station` is then as it stood: the same tick may be tried again with other results and changes.
  */
-olbiothar_ticked olbiothar_tick(olbiothar_station *station, const uint64_t results[OLBIOTHAR_TASKS],
-                                const uint8_t given[OLBIOTHAR_TASKS], const uint8_t modes[OLBIOTHAR_MODULES],
-                                const uint8_t changed[OLBIOTHAR_MODULES]);
+olbiothar_tick_answer olbiothar_tick(olbiothar_station *station, olbiothar_input input);
 
 /* The structs lie in memory as the library has them: a compiler for which one of these fails must not call it. */
 #ifdef __cplusplus
@@ -224,49 +240,60 @@ OLBIOTHAR_SIZE(olbiothar_node, 512, 8);
 OLBIOTHAR_AT(olbiothar_node, landed, 0, 256);
 OLBIOTHAR_AT(olbiothar_node, shown, 256, 256);
 
-OLBIOTHAR_SIZE(olbiothar_station, 12696, 8);
-OLBIOTHAR_AT(olbiothar_station, modules, 0, 33);
-OLBIOTHAR_AT(olbiothar_station, modules.count, 0, 1);
-OLBIOTHAR_AT(olbiothar_station, modules.sites, 1, 16);
-OLBIOTHAR_AT(olbiothar_station, modules.sending, 17, 16);
-OLBIOTHAR_AT(olbiothar_station, modes, 36, 292);
-OLBIOTHAR_AT(olbiothar_station, modes.count, 36, 1);
-OLBIOTHAR_AT(olbiothar_station, modes.homes, 37, 32);
-OLBIOTHAR_AT(olbiothar_station, modes.periods, 72, 128);
-OLBIOTHAR_AT(olbiothar_station, modes.switches, 200, 128);
-OLBIOTHAR_AT(olbiothar_station, tasks, 328, 228);
-OLBIOTHAR_AT(olbiothar_station, tasks.count, 328, 1);
-OLBIOTHAR_AT(olbiothar_station, tasks.homes, 329, 32);
-OLBIOTHAR_AT(olbiothar_station, tasks.sizes, 361, 32);
-OLBIOTHAR_AT(olbiothar_station, tasks.worsts, 396, 128);
-OLBIOTHAR_AT(olbiothar_station, tasks.bus, 524, 32);
-OLBIOTHAR_AT(olbiothar_station, controls, 556, 76);
-OLBIOTHAR_AT(olbiothar_station, controls.count, 556, 1);
-OLBIOTHAR_AT(olbiothar_station, controls.nodes, 557, 8);
-OLBIOTHAR_AT(olbiothar_station, controls.starts, 568, 32);
-OLBIOTHAR_AT(olbiothar_station, controls.stops, 600, 32);
-OLBIOTHAR_AT(olbiothar_station, period, 632, 4);
-OLBIOTHAR_AT(olbiothar_station, datas, 636, 2);
-OLBIOTHAR_AT(olbiothar_station, runs, 640, 4096);
-OLBIOTHAR_AT(olbiothar_station, row_tasks, 4736, 256);
-OLBIOTHAR_AT(olbiothar_station, row_deadlines, 4992, 1024);
-OLBIOTHAR_AT(olbiothar_station, row_starts, 6016, 1024);
-OLBIOTHAR_AT(olbiothar_station, row_stops, 7040, 1024);
-OLBIOTHAR_AT(olbiothar_station, play, 8064, 536);
-OLBIOTHAR_AT(olbiothar_station, play.clock, 8064, 4);
-OLBIOTHAR_AT(olbiothar_station, play.running, 8068, 16);
-OLBIOTHAR_AT(olbiothar_station, play.ages, 8084, 64);
-OLBIOTHAR_AT(olbiothar_station, play.bytes, 8148, 16);
-OLBIOTHAR_AT(olbiothar_station, play.givens, 8164, 32);
-OLBIOTHAR_AT(olbiothar_station, play.out, 8200, 256);
-OLBIOTHAR_AT(olbiothar_station, play.held, 8456, 128);
-OLBIOTHAR_AT(olbiothar_station, play.full, 8584, 1);
-OLBIOTHAR_AT(olbiothar_station, play.load, 8592, 8);
-OLBIOTHAR_AT(olbiothar_station, nodes, 8600, 4096);
+OLBIOTHAR_SIZE(olbiothar_station, 13960, 8);
+OLBIOTHAR_AT(olbiothar_station, fixed, 0, 608);
+OLBIOTHAR_AT(olbiothar_station, fixed.modules, 0, 33);
+OLBIOTHAR_AT(olbiothar_station, fixed.modules.count, 0, 1);
+OLBIOTHAR_AT(olbiothar_station, fixed.modules.sites, 1, 16);
+OLBIOTHAR_AT(olbiothar_station, fixed.modules.sending, 17, 16);
+OLBIOTHAR_AT(olbiothar_station, fixed.modes, 36, 292);
+OLBIOTHAR_AT(olbiothar_station, fixed.modes.count, 36, 1);
+OLBIOTHAR_AT(olbiothar_station, fixed.modes.homes, 37, 32);
+OLBIOTHAR_AT(olbiothar_station, fixed.modes.periods, 72, 128);
+OLBIOTHAR_AT(olbiothar_station, fixed.modes.switches, 200, 128);
+OLBIOTHAR_AT(olbiothar_station, fixed.tasks, 328, 196);
+OLBIOTHAR_AT(olbiothar_station, fixed.tasks.count, 328, 1);
+OLBIOTHAR_AT(olbiothar_station, fixed.tasks.homes, 329, 32);
+OLBIOTHAR_AT(olbiothar_station, fixed.tasks.sizes, 361, 32);
+OLBIOTHAR_AT(olbiothar_station, fixed.tasks.worsts, 396, 128);
+OLBIOTHAR_AT(olbiothar_station, fixed.controls, 524, 76);
+OLBIOTHAR_AT(olbiothar_station, fixed.controls.count, 524, 1);
+OLBIOTHAR_AT(olbiothar_station, fixed.controls.nodes, 525, 8);
+OLBIOTHAR_AT(olbiothar_station, fixed.controls.starts, 536, 32);
+OLBIOTHAR_AT(olbiothar_station, fixed.controls.stops, 568, 32);
+OLBIOTHAR_AT(olbiothar_station, fixed.period, 600, 4);
+OLBIOTHAR_AT(olbiothar_station, fixed.pairs, 604, 2);
+OLBIOTHAR_AT(olbiothar_station, runs, 608, 4096);
+OLBIOTHAR_AT(olbiothar_station, pair_tasks, 4704, 256);
+OLBIOTHAR_AT(olbiothar_station, pair_deadlines, 4960, 1024);
+OLBIOTHAR_AT(olbiothar_station, pair_starts, 5984, 1024);
+OLBIOTHAR_AT(olbiothar_station, pair_stops, 7008, 1024);
+OLBIOTHAR_AT(olbiothar_station, pair_modes, 8032, 1024);
+OLBIOTHAR_AT(olbiothar_station, play, 9056, 808);
+OLBIOTHAR_AT(olbiothar_station, play.clock, 9056, 4);
+OLBIOTHAR_AT(olbiothar_station, play.running, 9060, 16);
+OLBIOTHAR_AT(olbiothar_station, play.ages, 9076, 64);
+OLBIOTHAR_AT(olbiothar_station, play.bytes, 9140, 16);
+OLBIOTHAR_AT(olbiothar_station, play.givens, 9156, 32);
+OLBIOTHAR_AT(olbiothar_station, play.out, 9192, 256);
+OLBIOTHAR_AT(olbiothar_station, play.held, 9448, 128);
+OLBIOTHAR_AT(olbiothar_station, play.full, 9576, 32);
+OLBIOTHAR_AT(olbiothar_station, play.loads, 9608, 256);
+OLBIOTHAR_AT(olbiothar_station, nodes, 9864, 4096);
 
-OLBIOTHAR_SIZE(olbiothar_begun, 12712, 8);
+OLBIOTHAR_SIZE(olbiothar_begun, 13976, 8);
 OLBIOTHAR_AT(olbiothar_begun, answer, 0, 16);
-OLBIOTHAR_AT(olbiothar_begun, station, 16, 12696);
+OLBIOTHAR_AT(olbiothar_begun, station, 16, 13960);
+
+OLBIOTHAR_SIZE(olbiothar_starting, 32, 1);
+OLBIOTHAR_AT(olbiothar_starting, modes, 0, 16);
+OLBIOTHAR_AT(olbiothar_starting, given, 16, 16);
+
+OLBIOTHAR_SIZE(olbiothar_input, 320, 8);
+OLBIOTHAR_AT(olbiothar_input, results, 0, 256);
+OLBIOTHAR_AT(olbiothar_input, given, 256, 32);
+OLBIOTHAR_AT(olbiothar_input, modes, 288, 16);
+OLBIOTHAR_AT(olbiothar_input, changed, 304, 16);
 
 OLBIOTHAR_SIZE(olbiothar_row, 16, 4);
 OLBIOTHAR_AT(olbiothar_row, kind, 0, 1);
@@ -275,9 +302,9 @@ OLBIOTHAR_AT(olbiothar_row, deadline, 4, 4);
 OLBIOTHAR_AT(olbiothar_row, start, 8, 4);
 OLBIOTHAR_AT(olbiothar_row, stop, 12, 4);
 
-OLBIOTHAR_SIZE(olbiothar_ticked, 32, 8);
-OLBIOTHAR_AT(olbiothar_ticked, answer, 0, 16);
-OLBIOTHAR_AT(olbiothar_ticked, row, 16, 16);
+OLBIOTHAR_SIZE(olbiothar_tick_answer, 32, 8);
+OLBIOTHAR_AT(olbiothar_tick_answer, answer, 0, 16);
+OLBIOTHAR_AT(olbiothar_tick_answer, row, 16, 16);
 
 #undef OLBIOTHAR_AT
 #undef OLBIOTHAR_SIZE

@@ -83,7 +83,7 @@ pub struct Station(raw::Station);
 impl Station {
     /// Begins with a plan, a table that passes and a mode for each module; the next tick is time 0.
     pub fn begin(plan: &[u8], table: &[u8], modes: &Modes) -> Result<Station, Refusal> {
-        let (values, given) = split(modes);
+        let (modes, given) = split(modes);
         // SAFETY: each pointer leads to as many bytes as the number behind it says.
         let begun = unsafe {
             raw::olbiothar_begin(
@@ -91,8 +91,7 @@ impl Station {
                 plan.len(),
                 table.as_ptr(),
                 table.len(),
-                &values,
-                &given,
+                raw::Starting { modes, given },
             )
         };
         Refusal::of(begun.answer).map(|_| Station(begun.station))
@@ -101,11 +100,12 @@ impl Station {
     /// Plays one tick, and gives the row that starts at it. A refused tick changes nothing: it may
     /// be tried again with other results and changes.
     pub fn tick(&mut self, results: &Results, changes: &Modes) -> Result<Option<Row>, Refusal> {
-        let (values, given) = split(results);
+        let (results, given) = split(results);
         let (modes, changed) = split(changes);
-        let ticked = raw::olbiothar_tick(&mut self.0, &values, &given, &modes, &changed);
-        Refusal::of(ticked.answer)?;
-        let raw::Row { kind, sender, deadline, start, stop } = ticked.row;
+        let input = raw::Input { results, given, modes, changed };
+        let tick = raw::olbiothar_tick(&mut self.0, input);
+        Refusal::of(tick.answer)?;
+        let raw::Row { kind, sender, deadline, start, stop } = tick.row;
         Ok(match kind {
             17 => Some(Row::Control { node: sender, start, stop }),
             18 => Some(Row::Data { task: sender, deadline, start, stop }),

@@ -33,7 +33,6 @@ pub struct Tasks {
     pub homes: [u8; TASKS],
     pub sizes: [u8; TASKS],
     pub worsts: [u32; TASKS],
-    pub bus: [u8; TASKS],
 }
 
 #[repr(C)]
@@ -55,8 +54,8 @@ pub struct Play {
     pub givens: [u8; TASKS],
     pub out: [u64; TASKS],
     pub held: [u8; NODES * MODULES],
-    pub full: u8,
-    pub load: u64,
+    pub full: [u8; TASKS],
+    pub loads: [u64; TASKS],
 }
 
 #[repr(C)]
@@ -68,20 +67,41 @@ pub struct Node {
 
 #[repr(C)]
 #[derive(Clone, Copy)]
-pub struct Station {
+pub struct Fixed {
     pub modules: Modules,
     pub modes: Modes,
     pub tasks: Tasks,
     pub controls: Controls,
     pub period: u32,
-    pub datas: u16,
+    pub pairs: u16,
+}
+
+#[repr(C)]
+#[derive(Clone, Copy)]
+pub struct Station {
+    pub fixed: Fixed,
     pub runs: [u32; MODES * TASKS],
-    pub row_tasks: [u8; FRAMES],
-    pub row_deadlines: [u32; FRAMES],
-    pub row_starts: [u32; FRAMES],
-    pub row_stops: [u32; FRAMES],
+    pub pair_tasks: [u8; FRAMES],
+    pub pair_deadlines: [u32; FRAMES],
+    pub pair_starts: [u32; FRAMES],
+    pub pair_stops: [u32; FRAMES],
+    pub pair_modes: [u32; FRAMES],
     pub play: Play,
     pub nodes: [Node; NODES],
+}
+
+#[repr(C)]
+pub struct Starting {
+    pub modes: [u8; MODULES],
+    pub given: [u8; MODULES],
+}
+
+#[repr(C)]
+pub struct Input {
+    pub results: [u64; TASKS],
+    pub given: [u8; TASKS],
+    pub modes: [u8; MODULES],
+    pub changed: [u8; MODULES],
 }
 
 #[repr(C)]
@@ -100,7 +120,7 @@ pub struct Row {
 }
 
 #[repr(C)]
-pub struct Ticked {
+pub struct TickAnswer {
     pub answer: Answer,
     pub row: Row,
 }
@@ -120,25 +140,31 @@ lies!(Answer, size 16, alignment 8, number at 0, place at 8);
 lies!(Frame, size 16, alignment 4, task at 0, release at 4, deadline at 8, start at 12);
 lies!(Modules, size 33, alignment 1, count at 0, sites at 1, sending at 17);
 lies!(Modes, size 292, alignment 4, count at 0, homes at 1, periods at 36, switches at 164);
-lies!(Tasks, size 228, alignment 4, count at 0, homes at 1, sizes at 33, worsts at 68, bus at 196);
+lies!(Tasks, size 196, alignment 4, count at 0, homes at 1, sizes at 33, worsts at 68);
 lies!(Controls, size 76, alignment 4, count at 0, nodes at 1, starts at 12, stops at 44);
 lies!(
-    Play, size 536, alignment 8, clock at 0, running at 4, ages at 20, bytes at 84, givens at 100,
-    out at 136, held at 392, full at 520, load at 528
+    Play, size 808, alignment 8, clock at 0, running at 4, ages at 20, bytes at 84, givens at 100,
+    out at 136, held at 392, full at 520, loads at 552
 );
 lies!(Node, size 512, alignment 8, landed at 0, shown at 256);
 lies!(
-    Station, size 12_696, alignment 8, modules at 0, modes at 36, tasks at 328, controls at 556,
-    period at 632, datas at 636, runs at 640, row_tasks at 4_736, row_deadlines at 4_992,
-    row_starts at 6_016, row_stops at 7_040, play at 8_064, nodes at 8_600
+    Fixed, size 608, alignment 4, modules at 0, modes at 36, tasks at 328, controls at 524,
+    period at 600, pairs at 604
 );
-lies!(Begun, size 12_712, alignment 8, answer at 0, station at 16);
+lies!(
+    Station, size 13_960, alignment 8, fixed at 0, runs at 608, pair_tasks at 4_704,
+    pair_deadlines at 4_960, pair_starts at 5_984, pair_stops at 7_008, pair_modes at 8_032,
+    play at 9_056, nodes at 9_864
+);
+lies!(Starting, size 32, alignment 1, modes at 0, given at 16);
+lies!(Input, size 320, alignment 8, results at 0, given at 256, modes at 288, changed at 304);
+lies!(Begun, size 13_976, alignment 8, answer at 0, station at 16);
 lies!(Row, size 16, alignment 4, kind at 0, sender at 1, deadline at 4, start at 8, stop at 12);
-lies!(Ticked, size 32, alignment 8, answer at 0, row at 16);
+lies!(TickAnswer, size 32, alignment 8, answer at 0, row at 16);
 
 // SAFETY: these are the functions of the header, which the library exports as C functions; the structs above lie as it has them. All
-// but `olbiothar_tick` are lent memory by pointer and length, so that their callers answer for both; it is lent references alone, and
-// is proved to end and to stay within them whatever they hold, so that anyone may call it.
+// but `olbiothar_tick` are lent memory by pointer and length, so that their callers answer for both; it is lent one reference, and is
+// proved to end and to stay within it whatever it holds, so that anyone may call it.
 unsafe extern "C" {
     pub fn olbiothar_make(
         plan: *const u8,
@@ -163,15 +189,8 @@ unsafe extern "C" {
         plan_length: usize,
         table: *const u8,
         table_length: usize,
-        modes: &[u8; MODULES],
-        given: &[u8; MODULES],
+        starting: Starting,
     ) -> Begun;
 
-    pub safe fn olbiothar_tick(
-        station: &mut Station,
-        results: &[u64; TASKS],
-        given: &[u8; TASKS],
-        modes: &[u8; MODULES],
-        changed: &[u8; MODULES],
-    ) -> Ticked;
+    pub safe fn olbiothar_tick(station: &mut Station, input: Input) -> TickAnswer;
 }

@@ -22,8 +22,8 @@ enum { LENGTH = 75, MODE = 1, FRAME_STARTS = 19904, FRAME_STOPS = 20000, VALUE =
 static uint8_t plan[256], table[LENGTH];
 static size_t plan_length;
 static olbiothar_frame rows[OLBIOTHAR_FRAMES];
-static const uint8_t no_modes[OLBIOTHAR_MODULES];
-static const uint8_t modes[OLBIOTHAR_MODULES] = {MODE, 2}, given[OLBIOTHAR_MODULES] = {1, 1};
+static const olbiothar_starting no_modes;
+static const olbiothar_starting two_modes = {.modes = {MODE, 2}, .given = {1, 1}};
 
 static int is(olbiothar_answer answer, uint32_t number, uint64_t place) {
     return answer.number == number && answer.place == place;
@@ -45,8 +45,8 @@ static void nothing_lent(void) {
     HOLDS(is(olbiothar_check(NULL, 0, NULL, 0, NULL, 0), OLBIOTHAR_TOO_FEW_ROWS, OLBIOTHAR_FRAMES));
     HOLDS(is(olbiothar_check(NULL, 0, NULL, 0, rows, OLBIOTHAR_FRAMES), OLBIOTHAR_BAD_RECORDS, 0));
     HOLDS(is(olbiothar_check(plan, plan_length, NULL, 0, rows, OLBIOTHAR_FRAMES), OLBIOTHAR_BAD_TABLE_RECORDS, 0));
-    HOLDS(is(olbiothar_begin(NULL, 0, NULL, 0, no_modes, no_modes).answer, OLBIOTHAR_BAD_RECORDS, 0));
-    HOLDS(is(olbiothar_begin(plan, plan_length, NULL, 0, modes, given).answer, OLBIOTHAR_BAD_TABLE_RECORDS, 0));
+    HOLDS(is(olbiothar_begin(NULL, 0, NULL, 0, no_modes).answer, OLBIOTHAR_BAD_RECORDS, 0));
+    HOLDS(is(olbiothar_begin(plan, plan_length, NULL, 0, two_modes).answer, OLBIOTHAR_BAD_TABLE_RECORDS, 0));
     /* A caller asks for the bytes needed, and lends so many. */
     olbiothar_answer asked = olbiothar_make(plan, plan_length, rows, OLBIOTHAR_FRAMES, NULL, 0);
     HOLDS(is(asked, OLBIOTHAR_BUFFER_TOO_SHORT, LENGTH));
@@ -57,18 +57,20 @@ static void nothing_lent(void) {
 static olbiothar_station begun_by_hand(void) {
     olbiothar_station s;
     memset(&s, 0, sizeof s);
-    s.modules.count = 2, s.modules.sites[1] = 1, s.modules.sending[0] = 1;
-    s.modes.count = 3, s.modes.homes[2] = 1;
-    for (size_t mode = 0; mode < 3; mode++) s.modes.periods[mode] = s.modes.switches[mode] = 60000;
-    s.tasks.count = 2, s.tasks.homes[1] = 1, s.tasks.bus[0] = 1;
-    for (size_t task = 0; task < 2; task++) s.tasks.sizes[task] = 4, s.tasks.worsts[task] = 1000;
-    s.controls.count = 1, s.controls.stops[0] = 72;
-    s.period = 60000, s.datas = 4;
+    s.fixed.modules.count = 2, s.fixed.modules.sites[1] = 1, s.fixed.modules.sending[0] = 1;
+    s.fixed.modes.count = 3, s.fixed.modes.homes[2] = 1;
+    for (size_t mode = 0; mode < 3; mode++) s.fixed.modes.periods[mode] = s.fixed.modes.switches[mode] = 60000;
+    s.fixed.tasks.count = 2, s.fixed.tasks.homes[1] = 1;
+    for (size_t task = 0; task < 2; task++) s.fixed.tasks.sizes[task] = 4, s.fixed.tasks.worsts[task] = 1000;
+    s.fixed.controls.count = 1, s.fixed.controls.stops[0] = 72;
+    s.fixed.period = 60000, s.fixed.pairs = 4;
     s.runs[0] = 30000, s.runs[OLBIOTHAR_TASKS] = 20000, s.runs[2 * OLBIOTHAR_TASKS + 1] = 60000;
-    const uint32_t deadlines[] = {20000, 30000, 40000, 60000};
-    for (size_t row = 0; row < 4; row++) {
-        s.row_deadlines[row] = s.row_stops[row] = deadlines[row];
-        s.row_starts[row] = deadlines[row] - 96;
+    /* Mode 1 has the messages at 20000, 40000 and 60000, mode 0 those at 30000 and 60000. */
+    const uint32_t deadlines[] = {20000, 30000, 40000, 60000}, modes[] = {2, 1, 2, 3};
+    for (size_t pair = 0; pair < 4; pair++) {
+        s.pair_deadlines[pair] = s.pair_stops[pair] = deadlines[pair];
+        s.pair_starts[pair] = deadlines[pair] - 96;
+        s.pair_modes[pair] = modes[pair];
     }
     s.play.running[0] = MODE, s.play.running[1] = 2;
     return s;
@@ -77,27 +79,27 @@ static olbiothar_station begun_by_hand(void) {
 #define SAME(field) (memcmp(&a->field, &b->field, sizeof a->field) == 0)
 
 static int same_kept(const olbiothar_station *a, const olbiothar_station *b) {
-    return SAME(modules.count) && SAME(modules.sites) && SAME(modules.sending) && SAME(modes.count) && SAME(modes.homes) &&
-           SAME(modes.periods) && SAME(modes.switches) && SAME(tasks.count) && SAME(tasks.homes) && SAME(tasks.sizes) &&
-           SAME(tasks.worsts) && SAME(tasks.bus) && SAME(controls.count) && SAME(controls.nodes) && SAME(controls.starts) &&
-           SAME(controls.stops) && SAME(period) && SAME(datas) && SAME(runs) && SAME(row_tasks) && SAME(row_deadlines) &&
-           SAME(row_starts) && SAME(row_stops);
+    return SAME(fixed.modules.count) && SAME(fixed.modules.sites) && SAME(fixed.modules.sending) && SAME(fixed.modes.count) &&
+           SAME(fixed.modes.homes) && SAME(fixed.modes.periods) && SAME(fixed.modes.switches) && SAME(fixed.tasks.count) &&
+           SAME(fixed.tasks.homes) && SAME(fixed.tasks.sizes) && SAME(fixed.tasks.worsts) &&
+           SAME(fixed.controls.count) && SAME(fixed.controls.nodes) && SAME(fixed.controls.starts) && SAME(fixed.controls.stops) &&
+           SAME(fixed.period) && SAME(fixed.pairs) && SAME(runs) && SAME(pair_tasks) && SAME(pair_deadlines) && SAME(pair_starts) &&
+           SAME(pair_stops) && SAME(pair_modes);
 }
 
 static int same_state(const olbiothar_station *a, const olbiothar_station *b) {
     return SAME(play.clock) && SAME(play.running) && SAME(play.ages) && SAME(play.bytes) && SAME(play.givens) && SAME(play.out) &&
-           SAME(play.held) && SAME(play.full) && SAME(play.load) && SAME(nodes);
+           SAME(play.held) && SAME(play.full) && SAME(play.loads) && SAME(nodes);
 }
 
 /* A tick; both tasks get their result at time 1. */
-static olbiothar_ticked play(olbiothar_station *station, uint32_t time) {
-    const uint64_t results[OLBIOTHAR_TASKS] = {VALUE, VALUE + 1};
-    const uint8_t now[OLBIOTHAR_TASKS] = {time == 1, time == 1};
-    return olbiothar_tick(station, results, now, no_modes, no_modes);
+static olbiothar_tick_answer play(olbiothar_station *station, uint32_t time) {
+    olbiothar_input input = {.results = {VALUE, VALUE + 1}, .given = {time == 1, time == 1}};
+    return olbiothar_tick(station, input);
 }
 
 static void fields(olbiothar_station *station) {
-    olbiothar_begun begun = olbiothar_begin(plan, plan_length, table, LENGTH, modes, given);
+    olbiothar_begun begun = olbiothar_begin(plan, plan_length, table, LENGTH, two_modes);
     olbiothar_station by_hand = begun_by_hand();
     HOLDS(is(begun.answer, OLBIOTHAR_DONE, 0));
     HOLDS(same_kept(&begun.station, &by_hand) && same_state(&begun.station, &by_hand));
@@ -110,8 +112,8 @@ static void fields(olbiothar_station *station) {
     by_hand.play.clock = FRAME_STOPS + 1;
     for (size_t module = 0; module < OLBIOTHAR_MODULES; module++) by_hand.play.ages[module] = FRAME_STOPS + 1;
     by_hand.play.bytes[0] = MODE;
-    by_hand.play.out[0] = by_hand.play.load = VALUE, by_hand.play.out[1] = VALUE + 1;
-    by_hand.play.givens[1] = by_hand.play.full = 1;
+    by_hand.play.out[0] = by_hand.play.loads[0] = VALUE, by_hand.play.out[1] = VALUE + 1;
+    by_hand.play.givens[1] = by_hand.play.full[0] = 1;
     /* The frames have landed on every node but their sender's, 0. */
     by_hand.nodes[0].shown[0] = VALUE;
     for (size_t node = 1; node < OLBIOTHAR_NODES; node++) {
@@ -121,23 +123,25 @@ static void fields(olbiothar_station *station) {
     HOLDS(same_kept(&sent, &by_hand) && same_state(&sent, &by_hand));
 }
 
-/* Every byte but 0 sets a flag, and a tick stores 0 or 1. `station` stands where the data frame starts. */
+/* Every byte but 0 sets a flag, and a tick stores 0 or 1. `station` stands where the data frame of task 0 starts: whether it has a value
+ * is by the modes of its pair; what the bus has of task 1 stays. */
 static void flags(const olbiothar_station *station) {
     olbiothar_station full = *station;
-    full.play.full = 1;
+    full.play.full[0] = full.play.full[1] = 1;
     olbiothar_station one = full;
     HOLDS(is(play(&one, FRAME_STARTS).answer, OLBIOTHAR_DONE, 0));
     for (unsigned byte = 2; byte < 256; byte++) {
         olbiothar_station other = full;
-        other.modules.sending[0] = other.tasks.bus[0] = other.play.givens[1] = other.play.full = (uint8_t)byte;
+        other.fixed.modules.sending[0] = other.play.givens[1] = other.play.full[0] = other.play.full[1] = (uint8_t)byte;
         HOLDS(is(play(&other, FRAME_STARTS).answer, OLBIOTHAR_DONE, 0));
         HOLDS(same_state(&one, &other));
-        HOLDS(other.modules.sending[0] == byte && other.tasks.bus[0] == byte);
+        HOLDS(other.fixed.modules.sending[0] == byte);
     }
     olbiothar_station empty = full;
-    empty.tasks.bus[0] = 0;
+    empty.pair_modes[0] = 0;
     HOLDS(is(play(&empty, FRAME_STARTS).answer, OLBIOTHAR_DONE, 0));
-    HOLDS(one.play.full == 1 && empty.play.full == 0);
+    HOLDS(one.play.full[0] == 1 && empty.play.full[0] == 0);
+    HOLDS(one.play.full[1] == 1 && empty.play.full[1] == 1);
 }
 
 static uint64_t seed = 1;

@@ -154,14 +154,13 @@ static void check(void) {
 }
 
 static void begin(void) {
-    uint8_t modes[OLBIOTHAR_MODULES], given[OLBIOTHAR_MODULES];
+    olbiothar_starting starting;
     size_t plan_length = take_u32(), table_length = take_u32();
     take_file(&plan, plan_length);
     take_file(&table, table_length);
-    take(modes, sizeof modes);
-    take(given, sizeof given);
-    olbiothar_begun begun =
-        olbiothar_begin(plan.memory.lent, plan_length, table.memory.lent, table_length, modes, given);
+    take(starting.modes, sizeof starting.modes);
+    take(starting.given, sizeof starting.given);
+    olbiothar_begun begun = olbiothar_begin(plan.memory.lent, plan_length, table.memory.lent, table_length, starting);
     look_unchanged(&plan);
     look_unchanged(&table);
     station = begun.station;
@@ -169,19 +168,18 @@ static void begin(void) {
 }
 
 static void tick(void) {
-    uint64_t results[OLBIOTHAR_TASKS];
-    uint8_t given[OLBIOTHAR_TASKS], modes[OLBIOTHAR_MODULES], changed[OLBIOTHAR_MODULES];
-    take(results, sizeof results);
-    take(given, sizeof given);
-    take(modes, sizeof modes);
-    take(changed, sizeof changed);
-    olbiothar_ticked ticked = olbiothar_tick(&station, results, given, modes, changed);
-    give_answer(ticked.answer);
-    give(&ticked.row.kind, 1);
-    give(&ticked.row.sender, 1);
-    give_u32(ticked.row.deadline);
-    give_u32(ticked.row.start);
-    give_u32(ticked.row.stop);
+    olbiothar_input input;
+    take(input.results, sizeof input.results);
+    take(input.given, sizeof input.given);
+    take(input.modes, sizeof input.modes);
+    take(input.changed, sizeof input.changed);
+    olbiothar_tick_answer tick = olbiothar_tick(&station, input);
+    give_answer(tick.answer);
+    give(&tick.row.kind, 1);
+    give(&tick.row.sender, 1);
+    give_u32(tick.row.deadline);
+    give_u32(tick.row.start);
+    give_u32(tick.row.stop);
     for (size_t node = 0; node < OLBIOTHAR_NODES; node++)
         give(station.nodes[node].shown, sizeof station.nodes[node].shown);
 }

@@ -5,6 +5,7 @@ use lib.Dec.{eqb}
 use lib.ListN.{getD}
 use Prim.Native.Nat.{ℕ, zero, suc}
 use Rattle.laws.specs.Lists.{all, upTo}
+use Rattle.rules.specs.Limits.{mostNodes, mostTasks}
 use Rattle.text.specs.Text.{decimal, lineFeed, refusedLine}
 use Rattle.answers.specs.Refusals.{numberOf, placeOf}
 use Rattle.answers.specs.declared.Refusal.{Refusal}
@@ -38,7 +39,7 @@ unfoldable pub shownAt : ℕ → List ℕ → ℕ → List ℕ
 shownAt n shown t = placeShown n t (getD shown t 0)
 
 unfoldable pub nodeShown : List Node → ℕ → List ℕ
-nodeShown nodes n = texts (shownAt n (getD nodes n noNode .shown)) 32
+nodeShown nodes n = texts (shownAt n (getD nodes n noNode .shown)) mostTasks
 
 -- `shown`
 abbrev pub shownWord : List ℕ
@@ -51,7 +52,7 @@ orDash (b ∷ text) = (b ∷ text) ++ lineFeed
 
 -- `shown NODE/TASK=VALUE ..`, nodes then tasks ascending
 unfoldable pub shownLine : List Node → List ℕ
-shownLine nodes = shownWord ++ orDash (texts (nodeShown nodes) 8)
+shownLine nodes = shownWord ++ orDash (texts (nodeShown nodes) mostNodes)
 
 -- `refused N at P`
 unfoldable pub refusalLine : Refusal → List ℕ
@@ -86,4 +87,4 @@ abbrev pub samePlace : List ℕ → List ℕ → ℕ → Bool
 samePlace a b t = eqb (getD a t 0) (getD b t 0)
 
 unfoldable pub sameOn : List Node → List Node → ℕ → Bool
-sameOn a b n = all (samePlace (getD a n noNode .shown) (getD b n noNode .shown)) (upTo 32)
+sameOn a b n = all (samePlace (getD a n noNode .shown) (getD b n noNode .shown)) (upTo mostTasks)

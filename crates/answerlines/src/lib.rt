@@ -4,6 +4,7 @@ ghost use Prim.Native.Nat.{_+_, _≤_};
 ghost use lib.ListN.{length};
 ghost use lib.Seq.{sets};
 ghost use Rattle.laws.specs.Lists.{all, upTo};
+ghost use Rattle.rules.specs.Limits.{mostNodes, mostTasks};
 ghost use Rattle.answerlines.specs.Writing.{afterLine, begunLine, marked, nodeShown, numberedLine, placeShown, refusalLine, sameOn, samePlace, shownAt, shownLine, texts, tickedLine, unreadableLine};
 use answers::Refusal;
 use figures::both;
@@ -12,6 +13,8 @@ use stationnodes::Node;
 use text::put_bytes;
 use text::put_decimal;
 use text::put_refused;
+use units::NodeNo;
+use units::TaskNo;
 
 // A number behind a mark.
 fn put_marked(out: &mut [u8], at: usize, mark: &[u8], x: u64) -> usize
@@ -37,28 +40,28 @@ fn put_place(out: &mut [u8], at: usize, n: usize, t: usize, value: u64) -> usize
     put_marked(&mut *out, value_at, b"=", value)
 }
 
-fn put_node<'a>(out: &mut [u8], at: usize, n: usize, shown: &'a [u64; 32]) -> usize
+fn put_node<'a>(out: &mut [u8], at: usize, n: usize, shown: &'a [u64; TaskNo::MOST]) -> usize
     requires { ⌜ at + 2016 ≤ 18446744073709551615 ⌝ }
-    ensures { λ r. ⌜ (now (out .exit) ≡ sets (now (out .entry)) at (texts (shownAt n (now (shown .entry))) 32)) × (r ≡ at + length (texts (shownAt n (now (shown .entry))) 32)) ⌝ }
+    ensures { λ r. ⌜ (now (out .exit) ≡ sets (now (out .entry)) at (texts (shownAt n (now (shown .entry))) mostTasks)) × (r ≡ at + length (texts (shownAt n (now (shown .entry))) mostTasks)) ⌝ }
     ensures few { λ r. ⌜ r ≤ at + 2016 ⌝ }
 {
     let mut next = at;
     let mut t = 0;
-    while t < 32 {
+    while t < TaskNo::MOST {
         next = put_place(&mut *out, next, n, t, shown[t]);
         t += 1;
     }
     next
 }
 
-fn put_nodes(out: &mut [u8], at: usize, nodes: [Node; 8]) -> usize
+fn put_nodes(out: &mut [u8], at: usize, nodes: [Node; NodeNo::MOST]) -> usize
     requires { ⌜ at + 16128 ≤ 18446744073709551615 ⌝ }
-    ensures { λ r. ⌜ (now (out .exit) ≡ sets (now (out .entry)) at (texts (nodeShown nodes) 8)) × (r ≡ at + length (texts (nodeShown nodes) 8)) ⌝ }
+    ensures { λ r. ⌜ (now (out .exit) ≡ sets (now (out .entry)) at (texts (nodeShown nodes) mostNodes)) × (r ≡ at + length (texts (nodeShown nodes) mostNodes)) ⌝ }
     ensures few { λ r. ⌜ r ≤ at + 16128 ⌝ }
 {
     let mut next = at;
     let mut n = 0;
-    while n < 8 {
+    while n < NodeNo::MOST {
         let node = nodes[n];
         next = put_node(&mut *out, next, n, &node.shown);
         n += 1;
@@ -67,7 +70,7 @@ fn put_nodes(out: &mut [u8], at: usize, nodes: [Node; 8]) -> usize
 }
 
 // The line `shown NODE/TASK=VALUE ..` of all places that are not zero, with at most 16,136 bytes.
-pub fn put_shown(out: &mut [u8], nodes: [Node; 8]) -> usize
+pub fn put_shown(out: &mut [u8], nodes: [Node; NodeNo::MOST]) -> usize
     ensures { λ r. ⌜ (now (out .exit) ≡ sets (now (out .entry)) 0 (shownLine nodes)) × (r ≡ length (shownLine nodes)) ⌝ }
     ensures few { λ r. ⌜ r ≤ 16136 ⌝ }
 {
@@ -88,7 +91,7 @@ pub fn put_refusal(out: &mut [u8], why: Refusal) -> usize
 }
 
 // What a tick is answered: its refusal, or what is shown after it.
-pub fn put_ticked(out: &mut [u8], said: Said, nodes: [Node; 8]) -> usize
+pub fn put_ticked(out: &mut [u8], said: Said, nodes: [Node; NodeNo::MOST]) -> usize
     ensures { λ r. ⌜ (now (out .exit) ≡ sets (now (out .entry)) 0 (tickedLine said nodes)) × (r ≡ length (tickedLine said nodes)) ⌝ }
     ensures few { λ r. ⌜ r ≤ 16136 ⌝ }
 {
@@ -132,12 +135,12 @@ pub fn put_begun(out: &mut [u8]) -> usize
     put_bytes(out, 0, b"begun\n")
 }
 
-fn same_places<'a>(a: &'a [u64; 32], b: &'a [u64; 32]) -> bool
-    ensures { λ r. ⌜ r ≡ all (samePlace (now (a .entry)) (now (b .entry))) (upTo 32) ⌝ }
+fn same_places<'a>(a: &'a [u64; TaskNo::MOST], b: &'a [u64; TaskNo::MOST]) -> bool
+    ensures { λ r. ⌜ r ≡ all (samePlace (now (a .entry)) (now (b .entry))) (upTo mostTasks) ⌝ }
 {
     let mut same = true;
     let mut t = 0;
-    while t < 32 {
+    while t < TaskNo::MOST {
         same = both(same, a[t] == b[t]);
         t += 1;
     }
@@ -145,12 +148,12 @@ fn same_places<'a>(a: &'a [u64; 32], b: &'a [u64; 32]) -> bool
 }
 
 // Whether the same is shown, on every node of every task.
-pub fn same_shown(a: [Node; 8], b: [Node; 8]) -> bool
-    ensures { λ r. ⌜ r ≡ all (sameOn a b) (upTo 8) ⌝ }
+pub fn same_shown(a: [Node; NodeNo::MOST], b: [Node; NodeNo::MOST]) -> bool
+    ensures { λ r. ⌜ r ≡ all (sameOn a b) (upTo mostNodes) ⌝ }
 {
     let mut same = true;
     let mut n = 0;
-    while n < 8 {
+    while n < NodeNo::MOST {
         let first = a[n];
         let second = b[n];
         same = both(same, same_places(&first.shown, &second.shown));

@@ -1,3 +1,4 @@
+pub mod Keeping
 pub mod Passing
 pub mod Unique
 pub mod Shown

@@ -13,9 +13,11 @@ use Rattle.laws.specs.Lists.{tab}
 use Rattle.laws.specs.Res.{Res, ok, refuse}
 use Rattle.laws.proofs.Bus.{table-at}
 use Rattle.laws.proofs.Res.{refuse≢ok}
+use Rattle.places.specs.Bits.{bitAt}
 use Rattle.places.specs.Flags.{flagAt, flagBytes, isSet}
+use Rattle.places.proofs.Bits.{bits-are}
 use Rattle.places.proofs.Flags.{set-byte}
-use Rattle.rules.specs.Frames.{taskNode}
+use Rattle.rules.specs.Traffic.{taskNode}
 use Rattle.rules.specs.History.{boardValue, consumes}
 use Rattle.rules.specs.Plan.{Plan, readPlan}
 use Rattle.rules.specs.Playing.{Input}
@@ -27,16 +29,16 @@ use Rattle.rules.specs.Allowed.{MayTell, Allowed}
 use Rattle.rules.proofs.StationKept.{SameKept, follows-kept, ticked-kept}
 use Rattle.rules.proofs.StationPlaces.{Agree, SameAnswer, answer-ok, Follows, transparent-follows, transparent-follows-own}
 use Rattle.rules.proofs.FollowsTold.{also-ok, follows-shown, follows-allowed, follows-exact}
-use Rattle.stationruns.specs.Inputs.{changeAt}
-use Rattle.stationruns.specs.declared.Change.{Change}
+use Rattle.stationruns.specs.Inputs.{startingAt}
+use Rattle.stationruns.specs.declared.Starting.{Starting}
 use Rattle.stationnodes.specs.Nodes.{noNode, zeroNode}
-use Rattle.station.specs.Memory.{keptBy, keptOf, laid, notBegun, stateOf}
+use Rattle.station.specs.Memory.{keptOf, laid, notBegun, stateOf}
 use Rattle.station.specs.declared.Station.{Station}
 use Rattle.station.proofs.Plays.{Plays, Behind, plays-follows}
 use Rattle.station.proofs.Sized.{Sized, laid-agrees, sized-laid}
 use Rattle.answers.specs.declared.Verdict.the-variants.{Fine}
 use Rattle.starting.specs.declared.Begun.{Begun}
-use Rattle.beginning.specs.Begins.{Begins, keptLaid, runLaid, stationLaid}
+use Rattle.beginning.specs.Begins.{Begins, keptLaid, modesLaid, runLaid, stationLaid}
 use Rattle.answers.specs.Refusals.{heard}
 
 -- a mode and one of the 32 tasks have a place of their own
@@ -51,13 +53,18 @@ run-place k μ t v w =
 flag-place : (n : ℕ) (flags : ℕ → Bool) (k : ℕ) → k < n → flagAt (tab (flagBytes flags) 0 n) k ≡ flags k
 flag-place n flags k w = ap isSet (table-at n (flagBytes flags) k 0 w) ∙ set-byte (flags k)
 
+-- a mode that is kept as a bit
+mode-bit : (k : Kept) (q μ : ℕ) → q < 256 → μ < 32 → bitAt (getD (tab (modesLaid k) 0 256) q 0) μ ≡ k .pairHas q μ
+unfolding modesLaid
+mode-bit k q μ v w = ap (λ (word : ℕ). bitAt word μ) (table-at 256 (modesLaid k) q 0 v) ∙ bits-are (k .pairHas q) 32 μ w
+
 module _ (b : rules.Begun) where
   abbrev k : Kept
   k = b .kept
 
   -- what is kept is the rules' (rule 8.2)
   pub same-kept : SameKept (keptOf (stationLaid b)) k
-  unfolding stationLaid laid keptLaid keptOf keptBy
+  unfolding stationLaid laid keptLaid keptOf
   same-kept =
       record {
         modules = refl;
@@ -72,17 +79,17 @@ module _ (b : rules.Begun) where
         taskHome = λ t w. table-at 32 (k .taskHome) t 0 w;
         taskSize = λ t w. table-at 32 (k .taskSize) t 0 w;
         taskWorst = λ t w. table-at 32 (k .taskWorst) t 0 w;
-        isBus = λ t w. flag-place 32 (k .isBus) t w;
         run = λ μ v t w. run-place k μ t v w;
         controls = refl;
         controlNode = λ r w. table-at 8 (k .controlNode) r 0 w;
         controlStart = λ r w. table-at 8 (k .controlStart) r 0 w;
         controlStop = λ r w. table-at 8 (k .controlStop) r 0 w;
-        datas = refl;
-        dataTask = λ r w. table-at 256 (k .dataTask) r 0 w;
-        dataDeadline = λ r w. table-at 256 (k .dataDeadline) r 0 w;
-        dataStart = λ r w. table-at 256 (k .dataStart) r 0 w;
-        dataStop = λ r w. table-at 256 (k .dataStop) r 0 w;
+        pairs = refl;
+        pairTask = λ q w. table-at 256 (k .pairTask) q 0 w;
+        pairDeadline = λ q w. table-at 256 (k .pairDeadline) q 0 w;
+        pairStart = λ q w. table-at 256 (k .pairStart) q 0 w;
+        pairStop = λ q w. table-at 256 (k .pairStop) q 0 w;
+        pairHas = λ q v μ w. mode-bit k q μ v w;
       }
 
   sized-kept : Sized (keptLaid k)
@@ -95,6 +102,8 @@ module _ (b : rules.Begun) where
         givens = refl;
         out = refl;
         held = refl;
+        full = refl;
+        loads = refl;
         nodes = refl;
         landed = λ n w. zero-node n w .0;
         shown = λ n w. zero-node n w .1;
@@ -151,29 +160,29 @@ module _ (plan table : List ℕ) (starting : ℕ → Option ℕ) (b : rules.Begu
       )
 
 -- The same by the contracts of `begin` and `tick`: what is seen of the station behind the calls is told by the history, and so is
-module _ (plan table : List ℕ) (starting : List Change) (r : Begun) (begins : Begins r (rules.begin plan table (changeAt starting)))
+module _ (plan table : List ℕ) (starting : Starting) (r : Begun) (begins : Begins r (rules.begin plan table (startingAt starting)))
     (started : r .answer ≡ Fine) (p : Plan) (reads : readPlan plan ≡ ok p) (history : List Input) (after : Station)
     (plays : Plays (r .station) history after) where
-  abbrev by : Beginning r (rules.begin plan table (changeAt starting))
-  by = begun-by r (rules.begin plan table (changeAt starting)) begins started
+  abbrev by : Beginning r (rules.begin plan table (startingAt starting))
+  by = begun-by r (rules.begin plan table (startingAt starting)) begins started
 
   played : Plays (stationLaid (by .b)) history after
   played = subst (λ (st : Station). Plays st history after) (by .station) plays
 
-  pub shown-told : ShowsTold p (changeAt starting) history (stateOf after .shown)
-  shown-told = shows-told plan table (changeAt starting) (by .b) (by .is) p reads history after played
+  pub shown-told : ShowsTold p (startingAt starting) history (stateOf after .shown)
+  shown-told = shows-told plan table (startingAt starting) (by .b) (by .is) p reads history after played
 
   followed : Follows (by .b .kept) (stateOf (stationLaid (by .b))) history (stateOf after)
-  followed = follows plan table (changeAt starting) (by .b) (by .is) p reads history after played
+  followed = follows plan table (startingAt starting) (by .b) (by .is) p reads history after played
 
   -- the one board's value, on every node that consumes a task of another node
-  pub shown-consumed : (n t : ℕ) → consumes p n t ≡ true → stateOf after .shown n t ≡ boardValue p (changeAt starting) t history
+  pub shown-consumed : (n t : ℕ) → consumes p n t ≡ true → stateOf after .shown n t ≡ boardValue p (startingAt starting) t history
   shown-consumed n t c =
-      transparent-follows plan table (changeAt starting) (by .b) (by .is) p reads (stateOf (stationLaid (by .b))) (same-state (by .b)) history
+      transparent-follows plan table (startingAt starting) (by .b) (by .is) p reads (stateOf (stationLaid (by .b))) (same-state (by .b)) history
       (stateOf after) followed n t c
 
   -- and on a task's own node
-  pub shown-own : (t : ℕ) → t < length (p .tasks) → stateOf after .shown (taskNode p t) t ≡ boardValue p (changeAt starting) t history
+  pub shown-own : (t : ℕ) → t < length (p .tasks) → stateOf after .shown (taskNode p t) t ≡ boardValue p (startingAt starting) t history
   shown-own t w =
-      transparent-follows-own plan table (changeAt starting) (by .b) (by .is) p reads (stateOf (stationLaid (by .b))) (same-state (by .b))
+      transparent-follows-own plan table (startingAt starting) (by .b) (by .is) p reads (stateOf (stationLaid (by .b))) (same-state (by .b))
       history (stateOf after) followed t w

@@ -8,10 +8,9 @@ use Rattle.rules.specs.Playing.{Input}
 use Rattle.rules.specs.Station as rules
 use Rattle.rules.specs.StationRange.{countsInRange, inRange, isBetween, keptInRange, ticked}
 use Rattle.stationruns.specs.Inputs.{inputOf}
-use Rattle.stationruns.specs.declared.Change.{Change}
-use Rattle.stationruns.specs.declared.Given.{Given}
+use Rattle.stationruns.specs.declared.Input as given
 use Rattle.station.specs.Answers.{Answers, answerOf}
-use Rattle.station.specs.Memory.{keptBy, keptOf, notBegun, stateOf}
+use Rattle.station.specs.Memory.{keptOf, notBegun, ruled, stateOf}
 use Rattle.station.specs.declared.Ticked.{Ticked}
 use Rattle.answers.specs.declared.Verdict.the-variants.{Refused}
 use Rattle.starting.specs.declared.Begun.{Begun}
@@ -19,7 +18,7 @@ use Rattle.beginning.specs.Begins.{Begins}
 use Rattle.answers.specs.Refusals.{heard}
 
 not-begun-ticked : (i : Input) → ticked (keptOf notBegun) (stateOf notBegun) i ≡ refuse 40 0
-unfolding ticked inRange keptInRange countsInRange isBetween keptOf keptBy notBegun
+unfolding ticked inRange keptInRange countsInRange isBetween keptOf notBegun
 not-begun-ticked i = refl
 
 module _ (r : Begun) (why : Refusal) (refused : r .answer ≡ Refused why) where
@@ -27,7 +26,7 @@ module _ (r : Begun) (why : Refusal) (refused : r .answer ≡ Refused why) where
   refused-zero (ok b) h = refuse≢ok (sym (ap heard refused) ∙ h .answered)
   refused-zero (refuse n p) h = h .left
 
-  pub refused-forty : (rule : Res rules.Begun) → Begins r rule → (results : List Given) (changes : List Change) (x : Ticked)
-      → Answers (r .station) (ticked (keptOf (r .station)) (stateOf (r .station)) (inputOf results changes)) x → answerOf x ≡ refuse 40 0
-  refused-forty rule h results changes x a =
-      a .says ∙ rw (refused-zero rule h, not-begun-ticked (inputOf results changes))
+  pub refused-forty : (rule : Res rules.Begun) → Begins r rule → (input : given.Input) (x : Ticked)
+      → Answers (r .station) (ruled (r .station) input) x → answerOf x ≡ refuse 40 0
+  refused-forty rule h input x a =
+      a .says ∙ rw (refused-zero rule h, not-begun-ticked (inputOf input))

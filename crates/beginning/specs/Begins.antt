@@ -3,6 +3,7 @@ use mathlib.Core.Path.{_≡_}
 use Prim.Native.Nat.{ℕ, _*_, _/_, _%_}
 use Rattle.laws.specs.Lists.{tab}
 use Rattle.laws.specs.Res.{Res, ok, refuse}
+use Rattle.places.specs.Bits.{bitsOf}
 use Rattle.places.specs.Flags.{flagBytes}
 use Rattle.rules.specs.Limits.{mostNodes, mostModules, mostModes, mostTasks, mostFrames}
 use Rattle.rules.specs.Station as rules
@@ -16,40 +17,47 @@ use Rattle.answers.specs.Refusals.{heard}
 unfoldable pub runLaid : Kept → ℕ → ℕ
 runLaid k j = k .run (j / mostTasks) (j % mostTasks)
 
+-- the modes that have the message of a pair, as bits
+unfoldable pub modesLaid : Kept → ℕ → ℕ
+modesLaid k q = bitsOf (k .pairHas q) mostModes
+
 -- Rule 8.2, what is kept: each thing at the place of its number, and nothing played.
 unfoldable pub keptLaid : Kept → Station
 keptLaid k =
     record {
-      modules = record { count = k .modules; sites = tab (k .moduleNode) 0 mostModules; sending = tab (flagBytes (k .sends)) 0 mostModules };
-      modes =
+      fixed =
           record {
-            count = k .modes;
-            homes = tab (k .modeHome) 0 mostModes;
-            periods = tab (k .modePeriod) 0 mostModes;
-            switches = tab (k .modeSwitch) 0 mostModes;
+            modules = record { count = k .modules; sites = tab (k .moduleNode) 0 mostModules; sending = tab (flagBytes (k .sends)) 0 mostModules };
+            modes =
+                record {
+                  count = k .modes;
+                  homes = tab (k .modeHome) 0 mostModes;
+                  periods = tab (k .modePeriod) 0 mostModes;
+                  switches = tab (k .modeSwitch) 0 mostModes;
+                };
+            tasks =
+                record {
+                  count = k .tasks;
+                  homes = tab (k .taskHome) 0 mostTasks;
+                  sizes = tab (k .taskSize) 0 mostTasks;
+                  worsts = tab (k .taskWorst) 0 mostTasks;
+                };
+            controls =
+                record {
+                  count = k .controls;
+                  nodes = tab (k .controlNode) 0 mostNodes;
+                  starts = tab (k .controlStart) 0 mostNodes;
+                  stops = tab (k .controlStop) 0 mostNodes;
+                };
+            period = record { 0 = k .period };
+            pairs = k .pairs;
           };
-      tasks =
-          record {
-            count = k .tasks;
-            homes = tab (k .taskHome) 0 mostTasks;
-            sizes = tab (k .taskSize) 0 mostTasks;
-            worsts = tab (k .taskWorst) 0 mostTasks;
-            bus = tab (flagBytes (k .isBus)) 0 mostTasks;
-          };
-      controls =
-          record {
-            count = k .controls;
-            nodes = tab (k .controlNode) 0 mostNodes;
-            starts = tab (k .controlStart) 0 mostNodes;
-            stops = tab (k .controlStop) 0 mostNodes;
-          };
-      period = record { 0 = k .period };
-      datas = k .datas;
       runs = tab (runLaid k) 0 (mostModes * mostTasks);
-      «row_tasks» = tab (k .dataTask) 0 mostFrames;
-      «row_deadlines» = tab (k .dataDeadline) 0 mostFrames;
-      «row_starts» = tab (k .dataStart) 0 mostFrames;
-      «row_stops» = tab (k .dataStop) 0 mostFrames;
+      «pair_tasks» = tab (k .pairTask) 0 mostFrames;
+      «pair_deadlines» = tab (k .pairDeadline) 0 mostFrames;
+      «pair_starts» = tab (k .pairStart) 0 mostFrames;
+      «pair_stops» = tab (k .pairStop) 0 mostFrames;
+      «pair_modes» = tab (modesLaid k) 0 mostFrames;
       play = notBegun .play;
       nodes = notBegun .nodes;
     }

@@ -1,30 +1,26 @@
 // The beginning of a played station: what it keeps of a passed plan and table, and its starting modes.
 ghost use Rattle.rules.specs.Station as rules;
-ghost use Rattle.stationruns.specs.Inputs.{changeAt};
+ghost use Rattle.stationruns.specs.Inputs.{startingAt};
 ghost use Rattle.beginning.specs.Begins.{Begins};
 use answers::Verdict;
-use checker::check;
-use planrules::read;
+use checker::passed;
+use keeping::kept;
 use starting::Begun;
 use starting::begin_with;
 use starting::refused;
-use stationruns::Change;
-use tableread::read_table;
-use units::Frame;
-use units::ModuleNo;
+use stationruns::Starting;
 
 // A station begins only with a passed table, else the checker's number is given; and with one mode of its own for each module.
-pub fn begin(plan: &[u8], table: &[u8], starting: [Change; ModuleNo::MOST]) -> Begun
-    ensures { λ r. ⌜ Begins r (rules.begin (now (plan .entry)) (now (table .entry)) (changeAt starting)) ⌝ }
+pub fn begin(plan: &[u8], table: &[u8], starting: Starting) -> Begun
+    ensures { λ r. ⌜ Begins r (rules.begin (now (plan .entry)) (now (table .entry)) (startingAt starting)) ⌝ }
 {
-    let checked = check(plan, table, Frame::MOST);
-    let answer = checked.answer;
+    let found = passed(plan, table);
+    let answer = found.answer;
     match answer {
         Verdict::Refused(why) => refused(why),
         Verdict::Fine => {
-            let reading = read(plan);
-            let gathered = read_table(table);
-            begin_with(keeping::kept(reading.plan, gathered.table), starting)
+            let starts = found.starts;
+            begin_with(kept(found.plan, found.line, starts), starting)
         }
     }
 }

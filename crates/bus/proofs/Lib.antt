@@ -1,3 +1,5 @@
 pub mod Tables
 pub mod Things
 pub mod Marks
+pub mod Columns
+pub mod Multiples

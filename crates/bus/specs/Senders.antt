@@ -5,8 +5,8 @@ use lib.ListN.{length}
 use Prim.Native.Nat.{ℕ}
 use Rattle.laws.specs.Lists.{keep, any, tab, upTo}
 use Rattle.rules.specs.Plan.{Plan, Invocation, Connection, theTask}
-use Rattle.rules.specs.Frames.{invokes, leaves, isBusTask, isSending, controlPayload, livesIn, standsOn}
-use Rattle.bus.specs.declared.Senders.{Senders}
+use Rattle.rules.specs.Traffic.{invokes, leaves, isBusTask, isSending, controlPayload, livesIn, standsOn}
+use Rattle.bus.specs.declared.senders.Senders.{Senders}
 
 abbrev pub everyByte : ℕ
 everyByte = 256

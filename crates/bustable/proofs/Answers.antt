@@ -6,6 +6,7 @@ use lib.ListN.{length}
 use lib.Seq.{sets}
 use borrow.Author.Tests.{le-leb, lt-leb}
 use Prim.Native.Nat.{ℕ, _≤_, _<_}
+use Rattle.rules.specs.Limits.{mostFrames}
 use Rattle.io.specs.Counts.{Counts}
 use Rattle.laws.specs.Res.{Res, ok, refuse}
 use Rattle.laws.proofs.Res.{refuse≢ok, ok-injective, refuse-number, refuse-place}
@@ -50,11 +51,11 @@ long-response plan old out n h a =
     (rw (too-long (length old) plan h) a, λ room. front-counts tooLongLine old out n a (omega arith))
 
 -- with 256 rows lent, 19 does not apply
-rows-lent : (plan : List ℕ) (room : ℕ) → lentFor plan 256 room ≡ tableFor plan room
+rows-lent : (plan : List ℕ) (room : ℕ) → lentFor plan mostFrames room ≡ tableFor plan room
 unfolding lentFor
 rows-lent plan room = refl
 
-module _ (plan old out : List ℕ) (r : Making) (short : length plan ≤ 65536) (makes : Makes r old out (lentFor plan 256 (length old))) where
+module _ (plan old out : List ℕ) (r : Making) (short : length plan ≤ 65536) (makes : Makes r old out (lentFor plan mostFrames (length old))) where
   makes-table : Makes r old out (tableFor plan (length old))
   makes-table = subst (Makes r old out) (rows-lent plan (length old)) makes
 

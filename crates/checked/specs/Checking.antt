@@ -24,7 +24,7 @@ verdict (refuse n p) = refuse n p
 
 -- the frames by number with the start of the table that was checked; none where it is refused
 abbrev pub rowsOf : Res rules.Passed → List FrameRow
-rowsOf (ok c) = map (checkedRow (c .table)) (c .layout .frames)
+rowsOf (ok c) = map (checkedRow (c .table)) (c .layout .pairs)
 rowsOf (refuse n p) = []
 
 -- A check says what the rules say: the same number and place, or that the table passes, with the rows.
@@ -41,7 +41,7 @@ lentPassed plan table lent = do
 -- the frames of a line in arrays, with a start for each
 unfoldable pub rowsOn : Line → List ℕ → Rows
 rowsOn l starts =
-    record { frames = l .frames; task = l .tasks; release = l .releases; deadline = l .deadlines; start = starts }
+    record { frames = l .frames; tasks = l .tasks; releases = l .releases; deadlines = l .deadlines; starts = starts }
 
 -- The answer passes exactly the tables of laid out plans that keep every rule.
 unfoldable pub PassesExactly : Verdict → List ℕ → List ℕ → ℕ → Type 0

@@ -29,14 +29,14 @@ pub fn refused(why: Refusal) -> Checked
 pub fn rows_on(line: Line, starts: [u32; Frame::MOST]) -> Rows
     ensures { λ r. ⌜ r ≡ rowsOn line starts ⌝ }
 {
-    let task = line.tasks;
-    let release = line.releases;
-    let deadline = line.deadlines;
+    let tasks = line.tasks;
+    let releases = line.releases;
+    let deadlines = line.deadlines;
     Rows {
         frames: line.frames,
-        task: task,
-        release: release,
-        deadline: deadline,
-        start: starts,
+        tasks,
+        releases,
+        deadlines,
+        starts,
     }
 }

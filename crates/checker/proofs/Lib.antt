@@ -1,1 +1,3 @@
 pub mod Ways
+pub mod Handing
+pub mod Unique

@@ -10,14 +10,17 @@ use Prim.Native.Nat.{ℕ, _≤_, _<_}
 use Rattle.laws.specs.Res.{Res, ok, refuse, _>>_}
 use Rattle.laws.specs.Loops.{padTo}
 use Rattle.laws.proofs.Lists.{true-false}
-use Rattle.laws.proofs.Res.{refuse≢ok, ok-injective, refuse-number, refuse-place, bind-case, bind-refused, then-case}
+use Rattle.laws.proofs.Res.{refuse≢ok, ok-injective, refuse-number, refuse-place, bind-case, bind-refused, then-case, then-refused}
 use Rattle.units.specs.declared.Offset.{Offset}
 use Rattle.rules.specs.Records.{Rec, records, tableFollows}
-use Rattle.rules.specs.Plan.{readPlan}
-use Rattle.rules.specs.Frames.{Layout, layout}
+use Rattle.rules.specs.Plan.{Plan, readPlan}
+use Rattle.rules.specs.Traffic.{basic}
+use Rattle.rules.specs.Frames.{layout, layoutOf}
 use Rattle.rules.specs.Checker as rules
-use Rattle.rules.specs.Checker.{TableRead, tableOf, judged, checkFiles, startIn, checkedRow}
+use Rattle.rules.specs.Checker.{TableRead, tableOf, judged, checkFiles, checkedRow}
 use Rattle.rules.proofs.RecordsExact.{records-refused}
+use Rattle.rules.proofs.LaidOut.{laid-out}
+use Rattle.rules.proofs.SingleRows.{table-single}
 use Rattle.answers.specs.declared.Refusal.{Refusal}
 use Rattle.answers.specs.declared.Refusal.the-variants.{TooFewRows, BadTableRecords}
 use Rattle.answers.specs.Refusals.{numberOf, placeOf, said, heard}
@@ -25,13 +28,13 @@ use Rattle.line.specs.declared.Laid.{Laid}
 use Rattle.line.specs.declared.Line.{Line}
 use Rattle.line.specs.Line.{lineOf, taskOf, releaseOf, deadlineOf}
 use Rattle.line.specs.Laying as laying
-use Rattle.line.specs.Laying.{Lays, fileLaid}
-use Rattle.tableread.specs.declared.Reading.{Reading}
-use Rattle.tableread.specs.declared.Outcome.the-variants.{Whole, Broken}
+use Rattle.line.specs.Laying.{Lays, laid, fileLaid}
+use Rattle.table.specs.declared.read.Reading.{Reading}
+use Rattle.table.specs.declared.read.Outcome.the-variants.{Whole, Broken}
 use Rattle.judging.specs.declared.Judgement.{Judgement}
 use Rattle.naming.specs.Places.{Numbered}
-use Rattle.tableread.specs.Memory.{layOut, seen, readingOf}
-use Rattle.judging.specs.Judged.{framesOn, lineJudged, NoneEarly, Right}
+use Rattle.table.specs.Memory.{layOut, seen, readingOf}
+use Rattle.judging.specs.Judged.{framesOn, lineJudged, startIn, NoneEarly, Right}
 use Rattle.line.proofs.Drawn.{Drawn, drawn}
 use Rattle.judging.proofs.Layouts.{line-numbered, line-controls, line-right}
 use Rattle.rows.specs.declared.Rows.{Rows}
@@ -83,29 +86,44 @@ module _ (plan table : List ℕ) (lent : ℕ) (all : Checked) (h : Judged true l
 
 -- ---- a plan that was laid out
 
-laid-refused : (n p : ℕ) (rule : Res Layout) → laying.verdict rule ≡ refuse n p → rule ≡ refuse n p
-laid-refused n p (ok l) e = refuse≢ok (sym e)
-laid-refused n p (refuse m q) e = rw (refuse-number e, refuse-place e)
+pub laid-refused : (n at : ℕ) (rule : Res Plan) → laying.verdict rule ≡ refuse n at → rule ≡ refuse n at
+laid-refused n at (ok p) e = refuse≢ok (sym e)
+laid-refused n at (refuse m q) e = rw (refuse-number e, refuse-place e)
 
-laid-sound : {C : Type 0} (rule : Res Layout) (x : Laid) → Lays x rule → x .answer ≡ Fine → ((l : Layout) → rule ≡ ok l → x .line ≡ lineOf l → C) → C
-laid-sound (ok l) x h e go = go l refl (h .left)
-laid-sound (refuse n p) x h e go =
-    let z : ok tt ≡ refuse n p = sym (ap heard e) ∙ h .answered in refuse≢ok (sym z)
+pub laid-sound : {C : Type 0} (rule : Res Plan) (x : Laid) → Lays x rule → x .answer ≡ Fine → ((p : Plan) → rule ≡ ok p → x .line ≡ lineOf p → C) → C
+laid-sound (ok p) x h e go = go p refl (h .left)
+laid-sound (refuse n at) x h e go =
+    let z : ok tt ≡ refuse n at = sym (ap heard e) ∙ h .answered in refuse≢ok (sym z)
 
-file-drawn : (plan : List ℕ) (l : Layout) → fileLaid plan ≡ ok l → Drawn l
-unfolding fileLaid
-file-drawn plan l e = bind-case (readPlan plan) layout e λ p isRead isLaid. drawn plan p l isRead isLaid
+-- a file that passes 1 to 11
+pub file-laid : {C : Type 0} (file : List ℕ) (p : Plan) → fileLaid file ≡ ok p → (readPlan file ≡ ok p → layout p ≡ ok (layoutOf p) → C) → C
+unfolding laid fileLaid
+file-laid {C} file p e go =
+    bind-case (readPlan file) _ e λ q isRead e₁.
+    then-case (layout q) (ok q) e₁ λ l isLaid same.
+    let is : q ≡ p = ok-injective same in
+    go (isRead ∙ ap ok is) (ap layout (sym is) ∙ isLaid ∙ ap ok (sym (laid-out q l isLaid .is) ∙ ap layoutOf is))
+
+pub file-drawn : (file : List ℕ) (p : Plan) → fileLaid file ≡ ok p → Drawn p
+file-drawn file p e = file-laid file p e λ isRead isLaid. drawn file p (layoutOf p) isRead isLaid
 
 module _ (plan : List ℕ) (x : Laid) (h : Lays x (fileLaid plan)) (e : x .answer ≡ Fine) where
   pub judge-ready : Numbered (x .line .tasks) (x .line .deadlines) (x .line .frames) × (x .line .controls ≤ 8)
   judge-ready =
-      laid-sound (fileLaid plan) x h e λ l q same.
-      let d = file-drawn plan l q in
-      rw same (line-numbered l d, line-controls l d)
+      laid-sound (fileLaid plan) x h e λ p q same.
+      let d = file-drawn plan p q in
+      rw same (line-numbered p d, line-controls p d)
+
+-- a plan that 1 to 11 refuse
+pub plan-refused : (plan table : List ℕ) (n at : ℕ) → fileLaid plan ≡ refuse n at → checkFiles plan table ≡ refuse n at
+unfolding checkFiles laid fileLaid
+plan-refused plan table n at e =
+    bind-refused (readPlan plan) _ e (λ a. rw a)
+    (λ q a b. then-refused (layout q) (ok q) b (λ c. rw (a, c)) (λ l c f. refuse≢ok (sym f)))
 
 -- ---- a table that was read
 
-reading-broken : (m : Res (List Rec)) (r : Reading) (at : Offset) → r ≡ readingOf m → r .outcome ≡ Broken at → (n : ℕ) × (m ≡ refuse n (at .0))
+pub reading-broken : (m : Res (List Rec)) (r : Reading) (at : Offset) → r ≡ readingOf m → r .outcome ≡ Broken at → (n : ℕ) × (m ≡ refuse n (at .0))
 reading-broken (ok rs) r at e q =
     let z : Whole ≡ Broken at = sym (ap (λ (x : Reading). x .outcome) e) ∙ q in
     let y : _≡_ {A = ℕ} 0 1 = cc in absurd (omega arith)
@@ -113,7 +131,7 @@ reading-broken (refuse n p) r at e q =
     let z : Broken (record { 0 = p }) ≡ Broken at = sym (ap (λ (x : Reading). x .outcome) e) ∙ q in
     let same : record { 0 = p } ≡ at = cc in (n, ap (λ (x : Offset). refuse n (x .0)) same)
 
-reading-whole : {C : Type 0} (m : Res (List Rec)) (r : Reading) → r ≡ readingOf m → r .outcome ≡ Whole
+pub reading-whole : {C : Type 0} (m : Res (List Rec)) (r : Reading) → r ≡ readingOf m → r .outcome ≡ Whole
     → ((rs : List Rec) → m ≡ ok rs → r .table ≡ layOut (tableOf rs) → C) → C
 reading-whole (ok rs) r e q go = go rs refl (ap (λ (x : Reading). x .table) e)
 reading-whole (refuse n p) r e q go =
@@ -126,35 +144,42 @@ map-twice : {A B : Type 0} (f : A → B) (g : B → ℕ) (h : A → ℕ) (l : Li
 map-twice f g h [] e = refl
 map-twice f g h (a ∷ l) e = rw (e a, map-twice f g h l e)
 
-rows-laid : (l : Layout) (t : TableRead) → rowsOn (lineOf l) (padTo 256 0 (map (startIn (t .rows)) (l .frames))) ≡ rowsLaid (map (checkedRow t) (l .frames))
-unfolding rowsOn lineOf rowsLaid checkedRow
-rows-laid l t =
+rows-laid : (p : Plan) (t : TableRead)
+    → rowsOn (lineOf p) (padTo 256 0 (map (startIn (t .rows)) (layoutOf p .pairs))) ≡ rowsLaid (map (checkedRow t) (layoutOf p .pairs))
+unfolding rowsOn lineOf rowsLaid checkedRow startIn
+rows-laid p t =
+    let pairs = layoutOf p .pairs in
     sym (rw (
-      length-map (l .frames) (checkedRow t),
-      map-twice (checkedRow t) rowTask taskOf (l .frames) (λ f. refl),
-      map-twice (checkedRow t) rowRelease releaseOf (l .frames) (λ f. refl),
-      map-twice (checkedRow t) rowDeadline deadlineOf (l .frames) (λ f. refl),
-      map-twice (checkedRow t) rowStart (startIn (t .rows)) (l .frames) (λ f. refl),
+      length-map pairs (checkedRow t),
+      map-twice (checkedRow t) rowTask taskOf pairs (λ f. refl),
+      map-twice (checkedRow t) rowRelease releaseOf pairs (λ f. refl),
+      map-twice (checkedRow t) rowDeadline deadlineOf pairs (λ f. refl),
+      map-twice (checkedRow t) rowStart (startIn (t .rows)) pairs (λ f. refl),
     ))
 
-module _ (l : Layout) (d : Drawn l) (t : TableRead) (early : Bool) (j : Judgement) (right : Right early (lineOf l .releases) (lineOf l .frames) (judged l t) (l .frames) t j) where
-  -- the rules' answer to the judgement
-  passing : (m : Res (Unit {0})) → m ≡ verdict (_>>_ m (ok (record { layout = l; table = t })))
-  passing (ok u) = refl
-  passing (refuse n p) = refl
+-- what the rules hand on of a table that passes
+abbrev pub passedOf : Plan → TableRead → rules.Passed
+passedOf p t = record { plan = p; traffic = basic p; layout = layoutOf p; table = t }
 
-  judged-by : (lent : ℕ) (r : Checked) (rule : Res rules.Passed) → 256 ≤ lent → rule ≡ _>>_ (judged l t) (ok (record { layout = l; table = t }))
-      → r ≡ record { answer = j .verdict; rows = rowsOn (lineOf l) (j .starts) } → Judged early lent r rule
+module _ (p : Plan) (d : Drawn p) (t : TableRead) (early : Bool) (j : Judgement)
+    (right : Right early (lineOf p .releases) (lineOf p .frames) (judged (layoutOf p) t) (layoutOf p .pairs) t j) where
+  -- the rules' answer to the judgement
+  passing : (m : Res (Unit {0})) → m ≡ verdict (_>>_ m (ok (passedOf p t)))
+  passing (ok u) = refl
+  passing (refuse n at) = refl
+
+  judged-by : (lent : ℕ) (r : Checked) (rule : Res rules.Passed) → 256 ≤ lent → rule ≡ _>>_ (judged (layoutOf p) t) (ok (passedOf p t))
+      → r ≡ record { answer = j .verdict; rows = rowsOn (lineOf p) (j .starts) } → Judged early lent r rule
   unfolding rowsOn
   judged-by lent r rule enough q e =
       record {
-        answered = λ h. rw (e, q) (right .verdict (looked (rw e at h)) ∙ passing (judged l t));
-        left = λ c p. then-case (judged l t) (ok (record { layout = l; table = t })) (sym q ∙ p) λ _ passed is.
-            rw (e, sym (ok-injective is), right .starts passed) (rows-laid l t);
-        few = rw e (line-numbered l d .room);
+        answered = λ h. rw (e, q) (right .verdict (looked (rw e at h)) ∙ passing (judged (layoutOf p) t));
+        left = λ c h. then-case (judged (layoutOf p) t) (ok (passedOf p t)) (sym q ∙ h) λ _ passed is.
+            rw (e, sym (ok-injective is), right .starts passed) (rows-laid p t);
+        few = rw e (line-numbered p d .room);
       }
     where
-      looked : (early ≡ true) ⊎ (256 ≤ lent → NoneEarly (lineOf l .releases) (j .starts) (lineOf l .frames)) → (early ≡ true) ⊎ NoneEarly (lineOf l .releases) (j .starts) (lineOf l .frames)
+      looked : (early ≡ true) ⊎ (256 ≤ lent → NoneEarly (lineOf p .releases) (j .starts) (lineOf p .frames)) → (early ≡ true) ⊎ NoneEarly (lineOf p .releases) (j .starts) (lineOf p .frames)
       looked (inl h) = inl h
       looked (inr h) = inr (h enough)
 
@@ -167,45 +192,40 @@ module _ (plan table : List ℕ) (lent : ℕ) (early : Bool) (r : Checked) where
 
   module _ (enough : 256 ≤ lent) (x : Laid) (h : Lays x (fileLaid plan)) where
     -- 1 to 11
-    plan-refused : (n p : ℕ) → fileLaid plan ≡ refuse n p → checkFiles plan table ≡ refuse n p
-    unfolding checkFiles fileLaid
-    plan-refused n p e = bind-refused (readPlan plan) layout e (λ a. rw a) (λ q a b. rw (a, b))
-
     pub way-plan : (why : Refusal) → x .answer ≡ Refused why → r ≡ refusedBy why → Judged early lent r (lentPassed plan table lent)
     way-plan why q e =
         let n : fileLaid plan ≡ said why = laid-refused (numberOf why) (placeOf why) (fileLaid plan) (sym (h .answered) ∙ ap heard q) in
-        judged-refused early lent why r (lentPassed plan table lent) e (enough-is plan table lent enough ∙ plan-refused (numberOf why) (placeOf why) n)
+        judged-refused early lent why r (lentPassed plan table lent) e (enough-is plan table lent enough ∙ plan-refused plan table (numberOf why) (placeOf why) n)
 
     module _ (sound : x .answer ≡ Fine) (reading : Reading) (is : reading ≡ readingOf (records tableFollows 20 table)) where
       -- 20
-      broken-refused : (l : Layout) → fileLaid plan ≡ ok l → (n p : ℕ) → records tableFollows 20 table ≡ refuse n p → checkFiles plan table ≡ refuse 20 p
-      unfolding checkFiles fileLaid
-      broken-refused l laid n p e =
-          bind-case (readPlan plan) layout laid λ q isRead isLaid.
-          rw (isRead, isLaid, e, records-refused tableFollows 20 table n p .0 e .0)
+      broken-refused : (p : Plan) → fileLaid plan ≡ ok p → (n at : ℕ) → records tableFollows 20 table ≡ refuse n at → checkFiles plan table ≡ refuse 20 at
+      unfolding checkFiles
+      broken-refused p laid n at e =
+          file-laid plan p laid λ isRead isLaid. rw (isRead, isLaid, e, records-refused tableFollows 20 table n at .0 e .0)
 
       pub way-records : (at : Offset) → reading .outcome ≡ Broken at → r ≡ refusedBy (BadTableRecords at) → Judged early lent r (lentPassed plan table lent)
       way-records at q e =
-          laid-sound (fileLaid plan) x h sound λ l laid same.
+          laid-sound (fileLaid plan) x h sound λ p laid same.
           let b = reading-broken (records tableFollows 20 table) reading at is q in
           judged-refused early lent (BadTableRecords at) r (lentPassed plan table lent) e
-          (enough-is plan table lent enough ∙ broken-refused l laid (b .0) (at .0) (b .1))
+          (enough-is plan table lent enough ∙ broken-refused p laid (b .0) (at .0) (b .1))
 
       -- 21 to 27
-      judged-is : (l : Layout) (rs : List Rec) → fileLaid plan ≡ ok l → records tableFollows 20 table ≡ ok rs
-          → lentPassed plan table lent ≡ _>>_ (judged l (tableOf rs)) (ok (record { layout = l; table = tableOf rs }))
-      unfolding checkFiles fileLaid
-      judged-is l rs laid areRows = enough-is plan table lent enough ∙ bind-case (readPlan plan) layout laid λ q isRead isLaid. rw (isRead, isLaid, areRows)
+      judged-is : (p : Plan) (rs : List Rec) → fileLaid plan ≡ ok p → records tableFollows 20 table ≡ ok rs
+          → lentPassed plan table lent ≡ _>>_ (judged (layoutOf p) (tableOf rs)) (ok (passedOf p (tableOf rs)))
+      unfolding checkFiles
+      judged-is p rs laid areRows = enough-is plan table lent enough ∙ file-laid plan p laid λ isRead isLaid. rw (isRead, isLaid, areRows)
 
       pub way-judged : reading .outcome ≡ Whole → (j : Judgement)
           → Right early (x .line .releases) (x .line .frames) (lineJudged (x .line) (seen (reading .table))) (framesOn (x .line)) (seen (reading .table)) j
           → (rows : Rows) → rows ≡ rowsOn (x .line) (j .starts) → r ≡ record { answer = j .verdict; rows = rows } → Judged early lent r (lentPassed plan table lent)
       way-judged whole j right rows e same-r =
-          laid-sound (fileLaid plan) x h sound λ l laid same.
+          laid-sound (fileLaid plan) x h sound λ p laid same.
           reading-whole (records tableFollows 20 table) reading is whole λ rs areRows held.
-          let d = file-drawn plan l laid in
-          let seenRight : Right early (lineOf l .releases) (lineOf l .frames) (judged l (tableOf rs)) (l .frames) (tableOf rs) j = line-right l d (tableOf rs) (rw (same, held) at right) in
-          judged-by l d (tableOf rs) early j seenRight lent r (lentPassed plan table lent) enough (judged-is l rs laid areRows) (same-r ∙ ap (λ (z : Rows). record { answer = j .verdict; rows = z }) (e ∙ ap (λ (z : Line). rowsOn z (j .starts)) same))
+          let d = file-drawn plan p laid in
+          let seenRight : Right early (lineOf p .releases) (lineOf p .frames) (judged (layoutOf p) (tableOf rs)) (layoutOf p .pairs) (tableOf rs) j = line-right p d (tableOf rs) (table-single rs) (rw (same, held) at right) in
+          judged-by p d (tableOf rs) early j seenRight lent r (lentPassed plan table lent) enough (judged-is p rs laid areRows) (same-r ∙ ap (λ (z : Rows). record { answer = j .verdict; rows = z }) (e ∙ ap (λ (z : Line). rowsOn z (j .starts)) same))
 
 -- ---- after the scan
 

@@ -1,1 +1,2 @@
 pub mod Unscanned
+pub mod Passing

@@ -18,7 +18,7 @@ use Rattle.checker.specs.declared.Ruling.{Ruling}
 
 -- no frame row starts before its release
 abbrev pub NoRowEarly : Rows → Type 0
-NoRowEarly r = (k : ℕ) → k < r .frames → getD (r .release) k 0 ≤ getD (r .start) k 0
+NoRowEarly r = (k : ℕ) → k < r .frames → getD (r .releases) k 0 ≤ getD (r .starts) k 0
 
 -- The answer is that of the rules where rule 25 was looked at, or where no frame row is early if enough rows are lent; the rows are those of a table that the rules pass.
 pub record Judged (early-too : Bool) (lent : ℕ) (r : Checked) (rule : Res Passed) : Type 0 where

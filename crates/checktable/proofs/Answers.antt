@@ -6,6 +6,7 @@ use native.Mathlib.Omega.{arith}
 use lib.ListN.{length}
 use borrow.Author.Tests.{le-leb, lt-leb}
 use Prim.Native.Nat.{ℕ, _≤_, _<_}
+use Rattle.rules.specs.Limits.{mostFrames}
 use Rattle.io.specs.Counts.{Counts}
 use Rattle.laws.specs.Res.{Res, ok, refuse}
 use Rattle.laws.proofs.Res.{refuse≢ok, refuse-number, refuse-place}
@@ -44,13 +45,13 @@ module _ (plan table old out : List ℕ) (n : ℕ) where
   unfolding answerFor isShort
   long-table h a = too-long (rw (lt-leb (length table) 65536 h, both-false)) a
 
-  module _ (p : length plan ≤ 65536) (t : length table ≤ 65536) (r : Checked) (h : Checks r (lentPassed plan table 256)) where
+  module _ (p : length plan ≤ 65536) (t : length table ≤ 65536) (r : Checked) (h : Checks r (lentPassed plan table mostFrames)) where
     short : answerFor plan table ≡ lineFor (checkFiles plan table)
     unfolding answerFor isShort
     short = rw (le-leb (length plan) 65536 p, le-leb (length table) 65536 t)
 
     says : heard (r .answer) ≡ verdict (checkFiles plan table)
-    says = h .answered ∙ ap verdict (enough-is plan table 256 (omega arith))
+    says = h .answered ∙ ap verdict (enough-is plan table mostFrames (omega arith))
 
     passed-line : (m : Res rules.Passed) → ok tt ≡ verdict m → lineFor m ≡ passedLine
     passed-line (ok c) e = refl

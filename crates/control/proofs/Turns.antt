@@ -12,7 +12,8 @@ use Rattle.laws.specs.Loops.{padTo}
 use Rattle.laws.proofs.Lists.{keep-snoc-no, upTo-more, keep-snoc-yes, map-snoc, length-snoc, length-keep, length-upTo, padTo-none, padTo-snoc, tested}
 use mathlib.Core.Logic.{_⊎_, inl, inr}
 use Rattle.rules.specs.Plan.{Plan}
-use Rattle.rules.specs.Frames.{ControlRow, noControlRow, sendingTime, gapTime, controlPayload, isSendingNode, sendingNodes, controlFrom, controlRows, controlEnd}
+use Rattle.rules.specs.Traffic.{controlPayload, isSendingNode, sendingNodes}
+use Rattle.rules.specs.Frames.{ControlRow, noControlRow, sendingTime, gapTime, controlFrom, controlRows, controlEnd}
 use Rattle.bus.specs.Senders.{byNumber}
 use Rattle.bus.proofs.Tables.{at-number}
 use Rattle.control.specs.Control.{nodeOf, startOf, stopOf, column}

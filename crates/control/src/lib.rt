@@ -3,6 +3,7 @@ ghost use mathlib.Core.Path.{_≡_};
 ghost use Prim.Native.Nat.{_≤_, _<_, _^_};
 ghost use Rattle.plan.specs.Memory.{seen};
 ghost use Rattle.rules.specs.Limits.{mostNodes};
+ghost use Rattle.rules.specs.Traffic.{controlPayload};
 ghost use Rattle.rules.specs.Frames as rules;
 ghost use Rattle.bus.specs.Senders.{byNumber};
 ghost use Rattle.control.specs.Control.{controlLaid};
@@ -34,7 +35,7 @@ fn control_time(p: Plan, payload: ByteCount) -> Span
 // C, the last control stop plus gap.
 pub fn control_end(p: Plan, payloads: [u8; BYTES]) -> Span
     requires { ⌜ seen p .nodes ≤ mostNodes ⌝ }
-    requires { ⌜ payloads ≡ byNumber (rules.controlPayload (seen p)) ⌝ }
+    requires { ⌜ payloads ≡ byNumber (controlPayload (seen p)) ⌝ }
     ensures { λ r. ⌜ r .0 ≡ rules.controlEnd (seen p) ⌝ }
 {
     let bus = p.bus;
@@ -56,7 +57,7 @@ pub fn control_end(p: Plan, payloads: [u8; BYTES]) -> Span
 // Where C fits, so does each stop.
 pub fn control_rows(p: Plan, payloads: [u8; BYTES]) -> Control
     requires { ⌜ seen p .nodes ≤ mostNodes ⌝ }
-    requires { ⌜ payloads ≡ byNumber (rules.controlPayload (seen p)) ⌝ }
+    requires { ⌜ payloads ≡ byNumber (controlPayload (seen p)) ⌝ }
     requires { ⌜ rules.controlEnd (seen p) < 2 ^ 32 ⌝ }
     ensures { λ r. ⌜ r ≡ controlLaid (rules.controlRows (seen p)) ⌝ }
 {

@@ -12,13 +12,14 @@ use Rattle.laws.proofs.Lists.{both-left, both-right, length-keep}
 use Rattle.laws.proofs.Divisors.{divides-true, divides-is}
 use Rattle.laws.proofs.Members.{All, empty, also, all-weaker, all-keep, all-map, all-getD}
 use Rattle.rules.specs.Plan.{Plan, Invocation, noMode, noTask, theMode, theTask}
-use Rattle.rules.specs.Frames.{Run, runOf, ofBusTask, busRuns, busPeriod, someBusTask, switchGrid, messages, framesOf, frames}
+use Rattle.rules.specs.Traffic.{Run, runOf, ofBusTask, busRuns, busPeriod, switchGrid, messages, basic}
+use Rattle.rules.specs.Frames.{someBusTask, pairsOf, pairs}
 use Rattle.rules.proofs.Period.{periodDivides, period-divides}
 use Rattle.rules.proofs.PlanKept.{Between, PlanKept, InvocationKept}
 use Rattle.rules.proofs.LaidOut.{sending-mode, period-divides-mode}
-use Rattle.cycle.specs.declared.runs.Runs.{Runs}
-use Rattle.cycle.specs.Runs.{runsLaid, runsSeen}
-use Rattle.cycle.proofs.Columns.{laid-seen}
+use Rattle.bus.specs.declared.runs.Runs.{Runs}
+use Rattle.bus.specs.Runs.{runsLaid, runsSeen}
+use Rattle.bus.proofs.Columns.{laid-seen}
 use Rattle.frames.specs.Walk.{isFair}
 
 -- what a plan says of a run
@@ -68,6 +69,6 @@ module _ (p : Plan) (k : PlanKept p) where
     runs-fair e = rw (e, laid-seen (busRuns p) few-runs) fair-runs
 
   -- and the frames made of them are the plan's
-  pub frames-are : {runs : Runs} → runs ≡ runsLaid (busRuns p) → framesOf (messages (busPeriod p) (runsSeen runs)) ≡ frames p
-  unfolding frames
+  pub frames-are : {runs : Runs} → runs ≡ runsLaid (busRuns p) → pairsOf (messages (busPeriod p) (runsSeen runs)) ≡ pairs p
+  unfolding pairs basic
   frames-are e = rw (e, laid-seen (busRuns p) few-runs)

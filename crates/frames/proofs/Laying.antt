@@ -12,16 +12,17 @@ use Rattle.laws.specs.Loops.{padTo}
 use Rattle.laws.proofs.Members.{pairs-getD}
 use Rattle.laws.proofs.Lists.{length-tab, getD-tab, padTo-none, getD-padTo}
 use Rattle.rules.specs.Limits.{mostFrames}
-use Rattle.rules.specs.Frames.{Frame, framesOf}
-use Rattle.rules.proofs.FramesOf.{before-case, frames-of}
-use Rattle.rules.proofs.Grid.{frame}
+use Rattle.rules.specs.Traffic.{Message}
+use Rattle.rules.specs.Frames.{Pair, pairsOf}
+use Rattle.rules.proofs.PairsOf.{before-case, pairs-of}
+use Rattle.rules.proofs.Grid.{pair}
 use Rattle.frames.specs.declared.laid.Frames.{Frames}
 use Rattle.frames.specs.Walk.{taskOf, releaseOf, deadlineOf, Derived}
 use Rattle.frames.specs.Laid.{column, framesLaid, frameIn, framesSeen}
 
 -- ---- laid into zeros
 
-map-take : (number : Frame → ℕ) (n : ℕ) (fs : List Frame) → map number (take n fs) ≡ take n (map number fs)
+map-take : (number : Pair → ℕ) (n : ℕ) (fs : List Pair) → map number (take n fs) ≡ take n (map number fs)
 map-take number zero fs = refl
 map-take number (suc n) [] = refl
 map-take number (suc n) (f ∷ fs) = ap (λ (l : List ℕ). number f ∷ l) (map-take number n fs)
@@ -38,11 +39,11 @@ laid-in-zeros n l =
     sets-eq (take n l) (replicate n 0) 0 (rw (length-replicate {A = ℕ} n 0, z) h)
     ∙ ap (λ (k : ℕ). take n l ++ drop k (replicate n 0)) z ∙ sym (padded n l)
 
-column-is : (number : Frame → ℕ) (fs : List Frame) → sets (replicate mostFrames 0) 0 (map number (take mostFrames fs)) ≡ column number fs
+column-is : (number : Pair → ℕ) (fs : List Pair) → sets (replicate mostFrames 0) 0 (map number (take mostFrames fs)) ≡ column number fs
 unfolding column
 column-is number fs = ap (sets (replicate mostFrames 0) 0) (map-take number mostFrames fs) ∙ laid-in-zeros mostFrames (map number fs)
 
-pub laid-is : {tasks releases deadlines : List ℕ} {n : ℕ} {fs : List Frame} → Derived (replicate mostFrames 0) (replicate mostFrames 0) (replicate mostFrames 0) fs tasks releases deadlines n
+pub laid-is : {tasks releases deadlines : List ℕ} {n : ℕ} {fs : List Pair} → Derived (replicate mostFrames 0) (replicate mostFrames 0) (replicate mostFrames 0) fs tasks releases deadlines n
     → _≡_ {A = Frames} (record { count = n; tasks = tasks; releases = releases; deadlines = deadlines }) (framesLaid fs)
 unfolding framesLaid
 laid-is {fs = fs} d =
@@ -50,36 +51,36 @@ laid-is {fs = fs} d =
 
 -- ---- the struct stands for what was laid
 
-column-at : (number : Frame → ℕ) (fs : List Frame) (k : ℕ) → number (frame 0 0 0) ≡ 0 → length fs ≤ mostFrames → k < length fs → getD (column number fs) k 0 ≡ number (getD fs k (frame 0 0 0))
+column-at : (number : Pair → ℕ) (fs : List Pair) (k : ℕ) → number (pair 0 0 0) ≡ 0 → length fs ≤ mostFrames → k < length fs → getD (column number fs) k 0 ≡ number (getD fs k (pair 0 0 0))
 unfolding column
 column-at number fs k z h w =
-    getD-padTo mostFrames 0 (map number fs) k (omega arith) ∙ ap (getD (map number fs) k) (sym z) ∙ List·getD-map number fs k (frame 0 0 0)
+    getD-padTo mostFrames 0 (map number fs) k (omega arith) ∙ ap (getD (map number fs) k) (sym z) ∙ List·getD-map number fs k (pair 0 0 0)
 
-pub laid-seen : (fs : List Frame) → length fs ≤ mostFrames → framesSeen (framesLaid fs) ≡ fs
+pub laid-seen : (fs : List Pair) → length fs ≤ mostFrames → framesSeen (framesLaid fs) ≡ fs
 unfolding framesSeen framesLaid frameIn
-laid-seen fs h = let e : min (suc mostFrames) (length fs) ≡ length fs = omega arith in ap (tab (frameIn (framesLaid fs)) 0) e ∙ ext-getD (frame 0 0 0) (tab at 0 (length fs)) fs (length-tab at 0 (length fs)) (λ k w. here k (rw (length-tab at 0 (length fs)) at w))
+laid-seen fs h = let e : min (suc mostFrames) (length fs) ≡ length fs = omega arith in ap (tab (frameIn (framesLaid fs)) 0) e ∙ ext-getD (pair 0 0 0) (tab at 0 (length fs)) fs (length-tab at 0 (length fs)) (λ k w. here k (rw (length-tab at 0 (length fs)) at w))
   where
-    at : ℕ → Frame
+    at : ℕ → Pair
     at = frameIn (framesLaid fs)
 
-    here : (k : ℕ) → k < length fs → getD (tab at 0 (length fs)) k (frame 0 0 0) ≡ getD fs k (frame 0 0 0)
+    here : (k : ℕ) → k < length fs → getD (tab at 0 (length fs)) k (pair 0 0 0) ≡ getD fs k (pair 0 0 0)
     here k w =
-        getD-tab at 0 (length fs) k (frame 0 0 0) w
+        getD-tab at 0 (length fs) k (pair 0 0 0) w
         ∙ rw (zero-add k, column-at taskOf fs k refl h w, column-at releaseOf fs k refl h w, column-at deadlineOf fs k refl h w)
 
 -- ---- the deadlines rise
 
-pub deadlines-rise : (ms : List Frame) → length (framesOf ms) ≤ mostFrames → (i j : ℕ) → i ≤ j → j < length (framesOf ms) → getD (framesLaid (framesOf ms) .deadlines) i 0 ≤ getD (framesLaid (framesOf ms) .deadlines) j 0
+pub deadlines-rise : (ms : List Message) → length (pairsOf ms) ≤ mostFrames → (i j : ℕ) → i ≤ j → j < length (pairsOf ms) → getD (framesLaid (pairsOf ms) .deadlines) i 0 ≤ getD (framesLaid (pairsOf ms) .deadlines) j 0
 unfolding framesLaid
 deadlines-rise ms h i j a b = which (eq-or-lt-of-le a)
   where
-    fs : List Frame
-    fs = framesOf ms
+    fs : List Pair
+    fs = pairsOf ms
 
     which : (i ≡ j) ⊎ (i < j) → getD (column deadlineOf fs) i 0 ≤ getD (column deadlineOf fs) j 0
     which (inl e) = rw e (omega arith)
     which (inr l) =
-        let x : Frame = getD fs i (frame 0 0 0) in
-        let y : Frame = getD fs j (frame 0 0 0) in
-        let q : x .deadline ≤ y .deadline = before-case x y (pairs-getD (frame 0 0 0) (frames-of ms .sorted) i j l b) (λ s. omega arith) (λ e s. omega arith) in
+        let x : Pair = getD fs i (pair 0 0 0) in
+        let y : Pair = getD fs j (pair 0 0 0) in
+        let q : x .deadline ≤ y .deadline = before-case x y (pairs-getD (pair 0 0 0) (pairs-of ms .sorted) i j l b) (λ s. omega arith) (λ e s. omega arith) in
         rw (column-at deadlineOf fs i refl h (omega arith), column-at deadlineOf fs j refl h b) q

@@ -3,3 +3,4 @@ pub mod Storing
 pub mod Walking
 pub mod Laying
 pub mod FairRuns
+pub mod Modeless

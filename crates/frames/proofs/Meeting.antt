@@ -16,7 +16,7 @@ use Rattle.laws.specs.Numbers.{divides}
 use Rattle.laws.proofs.Lists.{both-left, both-right, all-true, length-tab, getD-tab, tested}
 use Rattle.laws.proofs.Orders.{le-or-lt}
 use Rattle.laws.proofs.Divisors.{divides-is}
-use Rattle.rules.specs.Frames.{Run}
+use Rattle.rules.specs.Traffic.{Run}
 use Rattle.rules.proofs.Grid.{ends, latest, next-divides}
 use Rattle.tree.specs.Tree.{Grown, Raised}
 use Rattle.frames.specs.Walk.{runAt, runsIn, isFair, Ready, codeOf, keyOf, limitOf, Planted, Waits, Waiting, CellMet}

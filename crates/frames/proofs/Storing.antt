@@ -10,45 +10,45 @@ use Rattle.laws.proofs.Lists.{map-append}
 use Rattle.laws.proofs.Laid.{sets-append}
 use Rattle.laws.proofs.Orders.{le-or-lt}
 use Rattle.rules.specs.Limits.{mostFrames}
-use Rattle.rules.specs.Frames.{Frame}
-use Rattle.rules.proofs.Grid.{frame, cell}
+use Rattle.rules.specs.Frames.{Pair}
+use Rattle.rules.proofs.Grid.{pair, cell}
 use Rattle.frames.specs.Walk.{frameAt, taskOf, releaseOf, deadlineOf, stored, Stored, Derived}
 
 -- ---- one number of each frame
 
-module _ (number : Frame → ℕ) where
+module _ (number : Pair → ℕ) where
   none-stored : (old : List ℕ) (n : ℕ) → old ≡ stored number old n []
   unfolding stored
-  none-stored old n = rw (take-nil {A = Frame} (mostFrames - n))
+  none-stored old n = rw (take-nil {A = Pair} (mostFrames - n))
 
-  one-stored : (old : List ℕ) (n : ℕ) (f : Frame) → n < mostFrames → set old n (number f) ≡ stored number old n (f ∷ [])
+  one-stored : (old : List ℕ) (n : ℕ) (f : Pair) → n < mostFrames → set old n (number f) ≡ stored number old n (f ∷ [])
   unfolding stored
   one-stored old n f h =
       let e : mostFrames - n ≡ suc (mostFrames - suc n) = omega arith in
-      rw (e, take-nil {A = Frame} (mostFrames - suc n))
+      rw (e, take-nil {A = Pair} (mostFrames - suc n))
 
-  full-stored : (old : List ℕ) (n : ℕ) (fs : List Frame) → mostFrames ≤ n → old ≡ stored number old n fs
+  full-stored : (old : List ℕ) (n : ℕ) (fs : List Pair) → mostFrames ≤ n → old ≡ stored number old n fs
   unfolding stored
   full-stored old n fs h = let e : mostFrames - n ≡ 0 = omega arith in rw e
 
   -- what has no place left changes nothing
-  more-stored : (old : List ℕ) (n : ℕ) (fs gs : List Frame) → mostFrames ≤ n + length fs → stored number old n (fs ++ gs) ≡ stored number old n fs
+  more-stored : (old : List ℕ) (n : ℕ) (fs gs : List Pair) → mostFrames ≤ n + length fs → stored number old n (fs ++ gs) ≡ stored number old n fs
   unfolding stored
   more-stored old n fs gs h = rw (take-append-le (mostFrames - n) fs gs (omega arith))
 
-  behind-stored : (old : List ℕ) (n : ℕ) (fs gs : List Frame) → n + length fs < mostFrames → stored number old n (fs ++ gs) ≡ stored number (stored number old n fs) (n + length fs) gs
+  behind-stored : (old : List ℕ) (n : ℕ) (fs gs : List Pair) → n + length fs < mostFrames → stored number old n (fs ++ gs) ≡ stored number (stored number old n fs) (n + length fs) gs
   unfolding stored
   behind-stored old n fs gs h =
       let k : mostFrames - n ≡ length fs + (mostFrames - (n + length fs)) = omega arith in
       ap (λ (j : ℕ). sets old n (map number (take j (fs ++ gs)))) k
-      ∙ ap (λ (l : List Frame). sets old n (map number l)) (take-append-add fs gs (mostFrames - (n + length fs)))
+      ∙ ap (λ (l : List Pair). sets old n (map number l)) (take-append-add fs gs (mostFrames - (n + length fs)))
       ∙ ap (sets old n) (map-append number fs (take (mostFrames - (n + length fs)) gs))
       ∙ sets-append old n (map number fs) (map number (take (mostFrames - (n + length fs)) gs))
       ∙ ap₂ (λ (l : List ℕ) (j : ℕ). sets l j (map number (take (mostFrames - (n + length fs)) gs)))
-      (ap (λ (l : List Frame). sets old n (map number l)) (sym (take-all (mostFrames - n) fs (omega arith))))
+      (ap (λ (l : List Pair). sets old n (map number l)) (sym (take-all (mostFrames - n) fs (omega arith))))
       (ap (λ (j : ℕ). n + j) (length-map fs number))
 
-  then-stored : (old : List ℕ) (n : ℕ) (fs gs : List Frame) → stored number old n (fs ++ gs) ≡ stored number (stored number old n fs) (min (suc mostFrames) (n + length fs)) gs
+  then-stored : (old : List ℕ) (n : ℕ) (fs gs : List Pair) → stored number old n (fs ++ gs) ≡ stored number (stored number old n fs) (min (suc mostFrames) (n + length fs)) gs
   then-stored old n fs gs = which (le-or-lt mostFrames (n + length fs))
     where
       which : (mostFrames ≤ n + length fs) ⊎ (n + length fs < mostFrames) → stored number old n (fs ++ gs) ≡ stored number (stored number old n fs) (min (suc mostFrames) (n + length fs)) gs
@@ -67,7 +67,7 @@ module _ (task release deadline : List ℕ) (n : ℕ) where
         count = omega arith;
       }
 
-  pub stored-one : (f : Frame) → n < mostFrames → Stored task release deadline n (f ∷ []) (set task n (f .task)) (set release n (f .release)) (set deadline n (f .deadline)) (n + 1)
+  pub stored-one : (f : Pair) → n < mostFrames → Stored task release deadline n (f ∷ []) (set task n (f .task)) (set release n (f .release)) (set deadline n (f .deadline)) (n + 1)
   stored-one f h =
       record {
         tasks = one-stored taskOf task n f h;
@@ -76,7 +76,7 @@ module _ (task release deadline : List ℕ) (n : ℕ) where
         count = omega arith;
       }
 
-  pub stored-full : (f : Frame) → n ≡ mostFrames → Stored task release deadline n (f ∷ []) task release deadline (n + 1)
+  pub stored-full : (f : Pair) → n ≡ mostFrames → Stored task release deadline n (f ∷ []) task release deadline (n + 1)
   stored-full f h =
       record {
         tasks = full-stored taskOf task n (f ∷ []) (omega arith);
@@ -86,7 +86,7 @@ module _ (task release deadline : List ℕ) (n : ℕ) where
       }
 
 -- frames behind frames
-pub stored-then : {task₀ release₀ deadline₀ task release deadline task′ release′ deadline′ : List ℕ} {n₀ n n′ : ℕ} {fs gs : List Frame}
+pub stored-then : {task₀ release₀ deadline₀ task release deadline task′ release′ deadline′ : List ℕ} {n₀ n n′ : ℕ} {fs gs : List Pair}
     → Stored task₀ release₀ deadline₀ n₀ fs task release deadline n → Stored task release deadline n gs task′ release′ deadline′ n′
     → Stored task₀ release₀ deadline₀ n₀ (fs ++ gs) task′ release′ deadline′ n′
 stored-then {task₀} {release₀} {deadline₀} {n₀ = n₀} {n} {n′} {fs} {gs} a b =
@@ -98,7 +98,7 @@ stored-then {task₀} {release₀} {deadline₀} {n₀ = n₀} {n} {n′} {fs} {
     }
 
 -- behind the one that has no place left nothing is stored and nothing counted
-pub stored-stop : {task₀ release₀ deadline₀ task release deadline : List ℕ} {n₀ n : ℕ} {fs : List Frame} (gs : List Frame)
+pub stored-stop : {task₀ release₀ deadline₀ task release deadline : List ℕ} {n₀ n : ℕ} {fs : List Pair} (gs : List Pair)
     → Stored task₀ release₀ deadline₀ n₀ fs task release deadline n → mostFrames < n → Stored task₀ release₀ deadline₀ n₀ (fs ++ gs) task release deadline n
 stored-stop {task₀} {release₀} {deadline₀} {n₀ = n₀} {n} {fs} gs a h =
     let e : n ≡ min (suc mostFrames) (n₀ + length fs) = a .count in
@@ -109,7 +109,7 @@ stored-stop {task₀} {release₀} {deadline₀} {n₀ = n₀} {n} {fs} gs a h =
       count = rw (length-append fs gs) (omega arith);
     }
 
-pub derived : {task₀ release₀ deadline₀ task release deadline : List ℕ} {n : ℕ} {fs : List Frame}
+pub derived : {task₀ release₀ deadline₀ task release deadline : List ℕ} {n : ℕ} {fs : List Pair}
     → Stored task₀ release₀ deadline₀ 0 fs task release deadline n → Derived task₀ release₀ deadline₀ fs task release deadline n
 unfolding stored
 derived {n = n} {fs} a =
@@ -133,7 +133,7 @@ module _ (tasks releases deadlines : List ℕ) (t d b n : ℕ) where
     where
       go : (b : ℕ) → (b ≡ 0 → ⊥) → Stored tasks releases deadlines n (cell t d b) tasks releases deadlines (n + 1)
       go zero h = absurd (h refl)
-      go (suc r) h = stored-full tasks releases deadlines n (frame t r d) e
+      go (suc r) h = stored-full tasks releases deadlines n (pair t r d) e
 
   pub put-one : (b ≡ 0 → ⊥) → (n ≡ mostFrames → ⊥) → n ≤ mostFrames
       → Stored tasks releases deadlines n (frameAt t d b) (set tasks n t) (set releases n (b - 1)) (set deadlines n d) (n + 1)
@@ -142,4 +142,4 @@ module _ (tasks releases deadlines : List ℕ) (t d b n : ℕ) where
     where
       go : (b : ℕ) → (b ≡ 0 → ⊥) → Stored tasks releases deadlines n (cell t d b) (set tasks n t) (set releases n (b - 1)) (set deadlines n d) (n + 1)
       go zero h = absurd (h refl)
-      go (suc r) h = let o : suc r - 1 ≡ r = omega arith in rw o (stored-one tasks releases deadlines n (frame t r d) (omega arith))
+      go (suc r) h = let o : suc r - 1 ≡ r = omega arith in rw o (stored-one tasks releases deadlines n (pair t r d) (omega arith))

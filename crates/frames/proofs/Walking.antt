@@ -10,8 +10,9 @@ use Prim.Native.Nat.{ℕ, zero, suc, _+_, _-_, _*_, _/_, _%_, _≤_, _<_}
 use Rattle.laws.specs.Lists.{all}
 use Rattle.laws.proofs.Lists.{both-left, both-right}
 use Rattle.rules.specs.Limits.{mostFrames}
-use Rattle.rules.specs.Frames.{Run, Frame, messages, framesOf}
-use Rattle.rules.proofs.Grid.{cell, row, grid, latest, below, frames-grid}
+use Rattle.rules.specs.Traffic.{Run, messages}
+use Rattle.rules.specs.Frames.{Pair, pairsOf}
+use Rattle.rules.proofs.Grid.{cell, row, grid, latest, below, pairs-grid}
 use Rattle.tree.specs.Tree.{Grown}
 use Rattle.frames.specs.Walk.{runsIn, isFair, Ready, codeOf, keyOf, limitOf, Planted, Waits, Waiting, CellMet, frameAt, Stored, Derived}
 use Rattle.tree.proofs.Trees.{root-under}
@@ -30,10 +31,10 @@ fair-below cycle (r ∷ rs) h =
 
 module _ (f : ℕ → ℕ → ℕ) where
   -- the frame of a place, and the frames of the places lo, .., lo + n - 1
-  abbrev place : ℕ → List Frame
+  abbrev place : ℕ → List Pair
   place y = cell (y % 32) (y / 32) (f (y / 32) (y % 32))
 
-  abbrev places : ℕ → ℕ → List Frame
+  abbrev places : ℕ → ℕ → List Pair
   places lo zero = []
   places lo (suc n) = place lo ++ places (suc lo) n
 
@@ -51,7 +52,7 @@ module _ (f : ℕ → ℕ → ℕ) where
   places-append lo (suc j) k =
       let p : suc j + k ≡ suc (j + k) = omega arith in
       let q : lo + suc j ≡ suc lo + j = omega arith in
-      rw (p, q) (ap (λ (l : List Frame). place lo ++ l) (places-append (suc lo) j k) ∙ sym (append-assoc (place lo) (places (suc lo) j) (places (suc lo + j) k)))
+      rw (p, q) (ap (λ (l : List Pair). place lo ++ l) (places-append (suc lo) j k) ∙ sym (append-assoc (place lo) (places (suc lo) j) (places (suc lo + j) k)))
 
   places-nothing : (lo n : ℕ) → ((d t : ℕ) → t < 32 → lo ≤ codeOf d t → codeOf d t < lo + n → f d t ≡ 0) → places lo n ≡ []
   places-nothing lo zero h = refl
@@ -62,7 +63,7 @@ module _ (f : ℕ → ℕ → ℕ) where
   row-places d t zero h = refl
   row-places d t (suc n) h =
       let e : codeOf d (suc t) ≡ suc (codeOf d t) = omega arith in
-      ap₂ (λ (a b : List Frame). a ++ b) (sym (place-is d t (codeOf d t) (omega arith) refl)) (row-places d (suc t) n (omega arith) ∙ ap (λ (y : ℕ). places y n) e)
+      ap₂ (λ (a b : List Pair). a ++ b) (sym (place-is d t (codeOf d t) (omega arith) refl)) (row-places d (suc t) n (omega arith) ∙ ap (λ (y : ℕ). places y n) e)
 
   grid-places : (d k : ℕ) → grid f 32 d k ≡ places (d * 32) (k * 32)
   grid-places d zero = refl
@@ -70,7 +71,7 @@ module _ (f : ℕ → ℕ → ℕ) where
       let a : codeOf d 0 ≡ d * 32 = omega arith in
       let b : suc d * 32 ≡ d * 32 + 32 = omega arith in
       let c : suc k * 32 ≡ 32 + k * 32 = omega arith in
-      ap₂ (λ (l m : List Frame). l ++ m) (row-places d 0 32 (omega arith) ∙ ap (λ (y : ℕ). places y 32) a)
+      ap₂ (λ (l m : List Pair). l ++ m) (row-places d 0 32 (omega arith) ∙ ap (λ (y : ℕ). places y 32) a)
       (grid-places (suc d) k ∙ ap (λ (y : ℕ). places y (k * 32)) b)
       ∙ sym (ap (places (d * 32)) c ∙ places-append (d * 32) 32 (k * 32))
 
@@ -79,7 +80,7 @@ module _ (task period worst : List ℕ) (runs size cycle : ℕ) where
   ready h s f = record { few = h .0; some = h .1; small = h .2; short = s; fair = f }
 
   -- the frames of the places before k
-  abbrev pub framesTo : ℕ → List Frame
+  abbrev pub framesTo : ℕ → List Pair
   framesTo k = places (latest (runsIn task period worst runs)) 32 (k - 32)
 
   framesTo-more : (j k : ℕ) → 32 ≤ j → j ≤ k → framesTo k ≡ framesTo j ++ places (latest (runsIn task period worst runs)) j (k - j)
@@ -89,17 +90,17 @@ module _ (task period worst : List ℕ) (runs size cycle : ℕ) where
       ap (places (latest (runsIn task period worst runs)) 32) a ∙ places-append (latest (runsIn task period worst runs)) 32 (j - 32) (k - j)
       ∙ ap (λ (y : ℕ). framesTo j ++ places (latest (runsIn task period worst runs)) y (k - j)) b
 
-  all-frames : all (isFair cycle) (runsIn task period worst runs) ≡ true → framesOf (messages cycle (runsIn task period worst runs)) ≡ framesTo ((cycle + 1) * 32)
+  all-frames : all (isFair cycle) (runsIn task period worst runs) ≡ true → pairsOf (messages cycle (runsIn task period worst runs)) ≡ framesTo ((cycle + 1) * 32)
   all-frames fair =
       let e : cycle * 32 ≡ (cycle + 1) * 32 - 32 = omega arith in
-      frames-grid cycle 32 (runsIn task period worst runs) (fair-below cycle (runsIn task period worst runs) fair)
+      pairs-grid cycle 32 (runsIn task period worst runs) (fair-below cycle (runsIn task period worst runs) fair)
       ∙ grid-places (latest (runsIn task period worst runs)) 1 cycle ∙ ap (places (latest (runsIn task period worst runs)) 32) e
 
   -- no frame stands between a place that was reached and one that the root does not come before
   skipped : {lo : ℕ} {tree : List ℕ} (k : ℕ) → Ready task period worst runs size cycle → Waiting task period runs size cycle lo lo tree → 32 ≤ lo → lo ≤ k → k * 64 ≤ getD tree 1 0 → framesTo k ≡ framesTo lo
   skipped {lo} {tree} k r w h l u =
       framesTo-more lo k h l
-      ∙ ap (λ (s : List Frame). framesTo lo ++ s)
+      ∙ ap (λ (s : List Pair). framesTo lo ++ s)
       (places-nothing (latest (runsIn task period worst runs)) lo (k - lo) (λ d t a b c. nothing-before task period worst runs size cycle d t r w b (omega arith)))
       ∙ append-nil (framesTo lo)
 
@@ -109,7 +110,7 @@ module _ (task period worst : List ℕ) (runs size cycle : ℕ) where
   with-place d t best p h e =
       let o : suc (codeOf d t) - codeOf d t ≡ 1 = omega arith in
       framesTo-more (codeOf d t) (suc (codeOf d t)) (omega arith) (omega arith)
-      ∙ ap (λ (s : List Frame). framesTo (codeOf d t) ++ s)
+      ∙ ap (λ (s : List Pair). framesTo (codeOf d t) ++ s)
       (ap (places (latest (runsIn task period worst runs)) (codeOf d t)) o ∙ append-nil (place (latest (runsIn task period worst runs)) (codeOf d t))
       ∙ place-is (latest (runsIn task period worst runs)) d t (codeOf d t) h refl ∙ ap (cell t d) (sym e))
 
@@ -203,13 +204,13 @@ module _ (task period worst : List ℕ) (runs size cycle : ℕ) where
         pub walk-less : limitOf cycle - root′ < limitOf cycle - root
         walk-less = omega (arith, m .past, code-is)
 
-        pub walked-stop : mostFrames < count′ → Derived tasks₀ releases₀ deadlines₀ (framesOf (messages cycle (runsIn task period worst runs))) tasks′ releases′ deadlines′ count′
+        pub walked-stop : mostFrames < count′ → Derived tasks₀ releases₀ deadlines₀ (pairsOf (messages cycle (runsIn task period worst runs))) tasks′ releases′ deadlines′ count′
         walked-stop full =
             derived
             (rw (all-frames (r .fair) ∙ framesTo-more (suc (codeOf d t)) ((cycle + 1) * 32) (omega (arith, place-of .begun)) (omega (arith, place-of .inside, place-of .short)))
             (stored-stop (places (latest (runsIn task period worst runs)) (suc (codeOf d t)) ((cycle + 1) * 32 - suc (codeOf d t))) turned full))
 
     pub walked-all : {tasks releases deadlines tree : List ℕ} {root count : ℕ} → Ready task period worst runs size cycle → Walked tasks releases deadlines tree root count → limitOf cycle ≤ root
-        → Derived tasks₀ releases₀ deadlines₀ (framesOf (messages cycle (runsIn task period worst runs))) tasks releases deadlines count
+        → Derived tasks₀ releases₀ deadlines₀ (pairsOf (messages cycle (runsIn task period worst runs))) tasks releases deadlines count
     walked-all r w h =
         derived (rw (all-frames (r .fair) ∙ skipped ((cycle + 1) * 32) r (w .waiting) (w .begun) (w .within) (omega (arith, w .root-is))) (w .so-far))

@@ -8,13 +8,14 @@ use lib.Seq.{sets}
 use Prim.Native.Nat.{ℕ, suc, _+_, _*_, _-_, _≤_, _<_, _∣_, min}
 use Rattle.laws.specs.Lists.{all, tab}
 use Rattle.rules.specs.Limits.{longestTime, mostFrames, mostInvocations, mostTasks}
-use Rattle.rules.specs.Frames.{Run, Frame}
+use Rattle.rules.specs.Traffic.{Run}
+use Rattle.rules.specs.Frames.{Pair}
 use Rattle.rules.proofs.Grid.{cell, latest}
 use Rattle.tree.specs.Tree.{mostLeaves, treePlaces, Tree}
 
--- the run whose numbers stand at place i, and the runs at the places below n
+-- the run whose numbers stand at place i, and the runs at the places below n; their modes do not matter to the frames
 unfoldable pub runAt : List ℕ → List ℕ → List ℕ → ℕ → Run
-runAt task period worst i = record { task = getD task i 0; period = getD period i 0; worst = getD worst i 0 }
+runAt task period worst i = record { mode = 0; task = getD task i 0; period = getD period i 0; worst = getD worst i 0 }
 
 unfoldable pub runsIn : List ℕ → List ℕ → List ℕ → ℕ → List Run
 runsIn task period worst n = tab (runAt task period worst) 0 n
@@ -70,32 +71,32 @@ pub record CellMet (task period worst : List ℕ) (runs size cycle d t : ℕ) (t
   pub past : suc (codeOf d t) * mostInvocations ≤ root
 
 -- the frame of one place
-unfoldable pub frameAt : ℕ → ℕ → ℕ → List Frame
+unfoldable pub frameAt : ℕ → ℕ → ℕ → List Pair
 frameAt t d b = cell t d b
 
 -- a frame's numbers
-abbrev pub taskOf : Frame → ℕ
+abbrev pub taskOf : Pair → ℕ
 taskOf f = f .task
 
-abbrev pub releaseOf : Frame → ℕ
+abbrev pub releaseOf : Pair → ℕ
 releaseOf f = f .release
 
-abbrev pub deadlineOf : Frame → ℕ
+abbrev pub deadlineOf : Pair → ℕ
 deadlineOf f = f .deadline
 
 -- One number of each frame, stored from place n on, as far as the places reach.
-unfoldable pub stored : (Frame → ℕ) → List ℕ → ℕ → List Frame → List ℕ
+unfoldable pub stored : (Pair → ℕ) → List ℕ → ℕ → List Pair → List ℕ
 stored number old n fs = sets old n (map number (take (mostFrames - n) fs))
 
 -- What is left of three arrays and a count when frames are stored from place n₀ on. The count stops one behind the last place.
-pub record Stored (task₀ release₀ deadline₀ : List ℕ) (n₀ : ℕ) (fs : List Frame) (task release deadline : List ℕ) (n : ℕ) : Type 0 where
+pub record Stored (task₀ release₀ deadline₀ : List ℕ) (n₀ : ℕ) (fs : List Pair) (task release deadline : List ℕ) (n : ℕ) : Type 0 where
   pub tasks : task ≡ stored taskOf task₀ n₀ fs
   pub releases : release ≡ stored releaseOf release₀ n₀ fs
   pub deadlines : deadline ≡ stored deadlineOf deadline₀ n₀ fs
   pub count : n ≡ min (suc mostFrames) (n₀ + length fs)
 
 -- The first frames stand in front, as many as there are places; the count is that of all, or one more than there are places.
-pub record Derived (task₀ release₀ deadline₀ : List ℕ) (fs : List Frame) (task release deadline : List ℕ) (n : ℕ) : Type 0 where
+pub record Derived (task₀ release₀ deadline₀ : List ℕ) (fs : List Pair) (task release deadline : List ℕ) (n : ℕ) : Type 0 where
   pub tasks : task ≡ sets task₀ 0 (map taskOf (take mostFrames fs))
   pub releases : release ≡ sets release₀ 0 (map releaseOf (take mostFrames fs))
   pub deadlines : deadline ≡ sets deadline₀ 0 (map deadlineOf (take mostFrames fs))

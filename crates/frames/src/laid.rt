@@ -4,12 +4,13 @@ ghost use mathlib.Core.Bool.{true};
 ghost use Prim.Native.Nat.{_≤_};
 ghost use Rattle.laws.specs.Lists.{all};
 ghost use Rattle.rules.specs.Limits.{longestTime, mostInvocations};
-ghost use Rattle.rules.specs.Frames.{messages, framesOf};
-ghost use Rattle.cycle.specs.Runs.{runsSeen};
+ghost use Rattle.rules.specs.Traffic.{messages};
+ghost use Rattle.rules.specs.Frames.{pairsOf};
+ghost use Rattle.bus.specs.Runs.{runsSeen};
 ghost use Rattle.frames.specs.Walk.{isFair};
 ghost use Rattle.frames.specs.Laid.{framesLaid};
 use crate::derive;
-use cycle::runs::Runs;
+use bus::runs::Runs;
 use units::Frame;
 use units::Ticks;
 
@@ -26,7 +27,7 @@ impl Frames {
         requires { ⌜ runs .count ≤ mostInvocations ⌝ }
         requires { ⌜ period .0 ≤ longestTime ⌝ }
         requires { ⌜ all (isFair (period .0)) (runsSeen runs) ≡ true ⌝ }
-        ensures { λ r. ⌜ r ≡ framesLaid (framesOf (messages (period .0) (runsSeen runs))) ⌝ }
+        ensures { λ r. ⌜ r ≡ framesLaid (pairsOf (messages (period .0) (runsSeen runs))) ⌝ }
     {
         let n = runs.count;
         let mut tasks = [0; Frame::MOST];

@@ -6,7 +6,8 @@ ghost use lib.ListN.{getD};
 ghost use Prim.Native.Nat.{suc, _+_, _-_, _*_, _≤_, _<_};
 ghost use Rattle.laws.specs.Lists.{all};
 ghost use Rattle.rules.specs.Limits.{longestTime, mostFrames, mostInvocations, mostTasks};
-ghost use Rattle.rules.specs.Frames.{messages, framesOf};
+ghost use Rattle.rules.specs.Traffic.{messages};
+ghost use Rattle.rules.specs.Frames.{pairsOf};
 ghost use Rattle.frames.specs.Walk.{runsIn, isFair, codeOf, keyOf, Ready, Planted, Waiting, CellMet, frameAt, Stored, Derived};
 
 pub mod laid;
@@ -158,7 +159,7 @@ pub fn derive<'a>(
     requires { ⌜ runs ≤ mostInvocations ⌝ }
     requires { ⌜ cycle .0 ≤ longestTime ⌝ }
     requires { ⌜ all (isFair (cycle .0)) (runsIn (now task) (now period) (now worst) runs) ≡ true ⌝ }
-    ensures { λ r. ⌜ Derived (now (tasks .entry)) (now (releases .entry)) (now (deadlines .entry)) (framesOf (messages (cycle .0) (runsIn (now (task .entry)) (now (period .entry)) (now (worst .entry)) runs))) (now (tasks .exit)) (now (releases .exit)) (now (deadlines .exit)) r ⌝ }
+    ensures { λ r. ⌜ Derived (now (tasks .entry)) (now (releases .entry)) (now (deadlines .entry)) (pairsOf (messages (cycle .0) (runsIn (now (task .entry)) (now (period .entry)) (now (worst .entry)) runs))) (now (tasks .exit)) (now (releases .exit)) (now (deadlines .exit)) r ⌝ }
 {
     let limit = (cycle.0 + 1) * CELLS;
     let size = leaves(runs);

@@ -2,25 +2,24 @@
 use mathlib.Core.Path.{_≡_, refl, ap, _∙_}
 use mathlib.Core.Bool.{Bool, true, false, cond}
 use mathlib.Core.List.{List, [], _∷_, _++_}
-use lib.ListN.{replicate}
 use Prim.Native.Nat.{ℕ, zero, suc}
-use Rattle.stationruns.specs.declared.Given.the-variants as given
-use Rattle.stationruns.specs.declared.Change.the-variants as change
+use Rattle.stationruns.specs.Inputs.{noInput}
+use Rattle.stationruns.specs.declared.Input.{Input}
 use Rattle.station.specs.declared.Station.{Station}
-use Rattle.station.proofs.Plays.{Call, afterCalls, after-joined}
-use Rattle.history.specs.Reading.{readLine, givenOf, changesOf}
+use Rattle.station.proofs.Plays.{afterCalls, after-joined}
+use Rattle.history.specs.Reading.{readLine, inputFrom}
 use Rattle.history.specs.declared.Line.{Line}
 use Rattle.history.specs.declared.What.{What}
 use Rattle.history.specs.declared.What.the-variants.{Begin, Tick, Quiet, Unreadable}
 use Rattle.hearing.specs.Heard.{afterTick, afterNothing, afterQuiet, heardBy, heardLine, onward, afterLines}
 
--- a call that is given nothing, so many times
-unfoldable pub quietCalls : ℕ → List Call
+-- what each call is given: nothing, so many times
+unfoldable pub quietCalls : ℕ → List Input
 quietCalls zero = []
-quietCalls (suc n) = record { results = replicate 32 given.Nothing; changes = replicate 16 change.Nothing } ∷ quietCalls n
+quietCalls (suc n) = noInput ∷ quietCalls n
 
-abbrev pub callsBy : Line → What → List Call
-callsBy line Tick = record { results = givenOf (line .results); changes = changesOf (line .modes) } ∷ []
+abbrev pub callsBy : Line → What → List Input
+callsBy line Tick = inputFrom (line .results) (line .modes) ∷ []
 callsBy line (Quiet n) = quietCalls n
 callsBy line Begin = []
 callsBy line Unreadable = []
@@ -32,7 +31,7 @@ goesBy (Quiet n) = true
 goesBy Begin = false
 goesBy Unreadable = false
 
-unfoldable pub callsOf : List (List ℕ) → List Call
+unfoldable pub callsOf : List (List ℕ) → List Input
 callsOf [] = []
 callsOf (s ∷ lines) = callsBy (readLine s) (readLine s .what) ++ cond (goesBy (readLine s .what)) (callsOf lines) []
 
@@ -41,10 +40,10 @@ unfolding afterQuiet afterNothing afterTick afterCalls quietCalls
 quiet-calls st zero = refl
 quiet-calls st (suc n) = quiet-calls (afterNothing st) n
 
-line-calls : (line : Line) (w : What) (st : Station) (rest : Station → Station) (calls : List Call)
+line-calls : (line : Line) (w : What) (st : Station) (rest : Station → Station) (calls : List Input)
     → ((st : Station) → rest st ≡ afterCalls st calls) → onward (heardBy st line w) rest ≡ afterCalls st (callsBy line w ++ cond (goesBy w) calls [])
 unfolding afterTick afterCalls
-line-calls line Tick st rest calls h = h (afterTick st (givenOf (line .results)) (changesOf (line .modes)))
+line-calls line Tick st rest calls h = h (afterTick st (inputFrom (line .results) (line .modes)))
 line-calls line (Quiet n) st rest calls h =
     h (afterQuiet st n) ∙ ap (λ (x : Station). afterCalls x calls) (quiet-calls st n) ∙ rw (after-joined st (quietCalls n) calls)
 line-calls line Begin st rest calls h = refl

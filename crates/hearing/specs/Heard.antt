@@ -2,30 +2,26 @@
 use mathlib.Core.Bool.{Bool, true, false, cond}
 use mathlib.Core.List.{List, [], _∷_}
 use lib.Dec.{eqb, ltb}
-use lib.ListN.{length, replicate}
+use lib.ListN.{length}
 use Prim.Native.Nat.{ℕ, zero, suc}
-use Rattle.rules.specs.StationRange.{ticked}
-use Rattle.stationruns.specs.Inputs.{inputOf}
-use Rattle.stationruns.specs.declared.Given.{Given}
-use Rattle.stationruns.specs.declared.Given.the-variants as given
-use Rattle.stationruns.specs.declared.Change.{Change}
-use Rattle.stationruns.specs.declared.Change.the-variants as change
-use Rattle.station.specs.Memory.{keptOf, stateOf}
+use Rattle.stationruns.specs.Inputs.{noInput}
+use Rattle.stationruns.specs.declared.Input.{Input}
+use Rattle.station.specs.Memory.{ruled}
 use Rattle.station.specs.Answers.{stationAfter}
 use Rattle.station.specs.declared.Station.{Station}
-use Rattle.history.specs.Reading.{readLine, givenOf, changesOf}
+use Rattle.history.specs.Reading.{readLine, inputFrom}
 use Rattle.history.specs.declared.Line.{Line}
 use Rattle.history.specs.declared.What.{What}
 use Rattle.history.specs.declared.What.the-variants.{Begin, Tick, Quiet, Unreadable}
 use Rattle.hearing.specs.declared.Heard.{Heard}
 
 -- the station after a tick
-unfoldable pub afterTick : Station → List Given → List Change → Station
-afterTick st results changes = stationAfter st (ticked (keptOf st) (stateOf st) (inputOf results changes))
+unfoldable pub afterTick : Station → Input → Station
+afterTick st input = stationAfter st (ruled st input)
 
 -- the station after a tick at which nothing is given
 unfoldable pub afterNothing : Station → Station
-afterNothing st = afterTick st (replicate 32 given.Nothing) (replicate 16 change.Nothing)
+afterNothing st = afterTick st noInput
 
 -- `quiet N`: a refusal ends it, and a tick that was refused is refused again, so that the ticks behind it would change nothing
 unfoldable pub afterQuiet : Station → ℕ → Station
@@ -34,7 +30,7 @@ afterQuiet st (suc n) = afterQuiet (afterNothing st) n
 
 -- a line, and whether the next one is read: not behind a line that is unreadable where it stands
 abbrev pub heardBy : Station → Line → What → Heard
-heardBy st line Tick = record { goes = true; station = afterTick st (givenOf (line .results)) (changesOf (line .modes)) }
+heardBy st line Tick = record { goes = true; station = afterTick st (inputFrom (line .results) (line .modes)) }
 heardBy st line (Quiet n) = record { goes = true; station = afterQuiet st n }
 heardBy st line Begin = record { goes = false; station = st }
 heardBy st line Unreadable = record { goes = false; station = st }

@@ -12,16 +12,15 @@ use answerlines::put_unreadable;
 use answerlines::same_shown;
 use answers::Refusal;
 use history::What;
-use history::changes_of;
-use history::given_of;
+use history::input_of;
 use history::line_end;
 use history::read_line;
 use libc::STDOUT_FILENO;
 use station::Station;
 use stationmoves::Said;
 use stationnodes::Node;
-use stationruns::Change;
-use stationruns::Given;
+use stationruns::Input;
+use units::NodeNo;
 
 // What comes of a line: the station after it, and whether the next one is read.
 pub struct Heard {
@@ -47,7 +46,7 @@ fn say_after(ticks: u64) {
     io::write_all(STDOUT_FILENO, &out[..n]);
 }
 
-fn say_ticked(said: Said, nodes: [Node; 8]) {
+fn say_ticked(said: Said, nodes: [Node; NodeNo::MOST]) {
     let mut out = [0u8; 16384];
     let n = put_ticked(&mut out, said, nodes);
     io::write_all(STDOUT_FILENO, &out[..n]);
@@ -64,10 +63,10 @@ fn is_refused(said: Said) -> bool
     }
 }
 
-fn tick(station: Station, given: [Given; 32], changes: [Change; 16]) -> Station
-    ensures { λ r. ⌜ r ≡ afterTick station given changes ⌝ }
+fn tick(station: Station, input: Input) -> Station
+    ensures { λ r. ⌜ r ≡ afterTick station input ⌝ }
 {
-    let ticked = station.tick(given, changes);
+    let ticked = station.tick(input);
     let said = ticked.said;
     let next = ticked.station;
     let nodes = next.nodes;
@@ -76,7 +75,7 @@ fn tick(station: Station, given: [Given; 32], changes: [Change; 16]) -> Station
 }
 
 // Says of the k-th quiet tick that it was refused, or what is shown where that has changed. Answers whether it was refused.
-fn say_quiet(k: u64, said: Said, before: [Node; 8], after: [Node; 8]) -> bool
+fn say_quiet(k: u64, said: Said, before: [Node; NodeNo::MOST], after: [Node; NodeNo::MOST]) -> bool
     ensures { λ r. ⌜ r ≡ isRefused said ⌝ }
 {
     let refused = is_refused(said);
@@ -99,7 +98,7 @@ fn quiet(mut station: Station, ticks: u64) -> Station
     let mut k = 0;
     while k < ticks {
         let before = station.nodes;
-        let ticked = station.tick([Given::Nothing; 32], [Change::Nothing; 16]);
+        let ticked = station.tick(Input::none());
         let said = ticked.said;
         let next = ticked.station;
         let after = next.nodes;
@@ -124,7 +123,7 @@ fn hear(station: Station, s: &[u8], number: u64) -> Heard
             let modes = line.modes;
             Heard {
                 goes: true,
-                station: tick(station, given_of(results), changes_of(modes)),
+                station: tick(station, input_of(results, modes)),
             }
         }
         What::Quiet(ticks) => Heard {

@@ -2,12 +2,12 @@
 use mathlib.Core.Path.{_≡_, refl}
 use mathlib.Core.List.{[], _∷_}
 use Rattle.text.specs.Text.{readDecimal}
-use Rattle.history.specs.Reading.{behindWord, pairAt, isFree, goesOn, pairsAt, listAt, plain, noPlaces, withValue, readLine, lineEnd, givenOf, changesOf}
+use Rattle.history.specs.Reading.{behindWord, pairAt, isFree, goesOn, pairsAt, listAt, plain, noPlaces, withValue, readLine, lineEnd}
 use Rattle.history.specs.declared.What.the-variants.{Begin, Tick, Quiet, Unreadable}
 
 -- everything that the examples open
 everything : Unit {0}
-unfolding readDecimal behindWord pairAt isFree goesOn pairsAt listAt readLine lineEnd givenOf changesOf
+unfolding readDecimal behindWord pairAt isFree goesOn pairsAt listAt readLine lineEnd
 everything = tt
 
 -- the examples

@@ -15,7 +15,7 @@ use Rattle.history.specs.declared.Pair.{Pair}
 use Rattle.history.specs.declared.Pair.the-variants as pair
 use Rattle.history.specs.declared.End.{End}
 use Rattle.history.specs.declared.End.the-variants.{At, Wrong}
-use Rattle.history.specs.declared.Place.{Place}
+use Rattle.history.specs.declared.Places.{Places}
 use Rattle.history.specs.declared.Listed.{Listed}
 
 -- ---- the place behind a part of a line does not stand before it
@@ -71,7 +71,7 @@ pair-behind s at k v next = go (readDecimal s at) refl
         let first : at ≤ j = number-behind s at place j q in
         omega arith
 
-fits-behind : (s : List ℕ) (places : List Place) (most largest at k v next : ℕ) → fits places most largest (pairAt s at) ≡ pair.Named k v next → at ≤ next
+fits-behind : (s : List ℕ) (places : Places) (most largest at k v next : ℕ) → fits places most largest (pairAt s at) ≡ pair.Named k v next → at ≤ next
 fits-behind s places most largest at k v next = go (pairAt s at) refl
   where
     fit : (b : Bool) (i x j : ℕ) → cond b (pair.Named i x j) pair.None ≡ pair.Named k v next → at ≤ j → at ≤ next
@@ -104,7 +104,7 @@ goes-further s next at = go (behindWord s next space) refl
 
 -- ---- the loop: the pairs from here on give the whole list
 
-pub record Going (s : List ℕ) (most largest at : ℕ) (places : List Place) (from : ℕ) : Type 0 where
+pub record Going (s : List ℕ) (most largest at : ℕ) (places : Places) (from : ℕ) : Type 0 where
   pub turns : ℕ
   pub enough : length s ≤ turns + from
   pub same : pairsWithin (suc turns) s most largest places from ≡ pairsAt s most largest at
@@ -113,7 +113,7 @@ pub going-none : {s : List ℕ} {most largest at : ℕ} → Going s most largest
 unfolding pairsAt
 going-none {s} = record { turns = length s; enough = omega arith; same = refl }
 
-module _ {s : List ℕ} {most largest at from : ℕ} {places : List Place} (g : Going s most largest at places from) where
+module _ {s : List ℕ} {most largest at from : ℕ} {places : Places} (g : Going s most largest at places from) where
   -- no pair that fits
   pub going-wrong : {p : Pair} {r : Listed} → p ≡ fits places most largest (pairAt s from) → p ≡ pair.None → r ≡ wrongList
       → r ≡ pairsAt s most largest at
@@ -123,7 +123,7 @@ module _ {s : List ℕ} {most largest at from : ℕ} {places : List Place} (g : 
 
   module _ {p : Pair} {k v next : ℕ} (e : p ≡ fits places most largest (pairAt s from)) (f : p ≡ pair.Named k v next) where
     -- the last pair
-    pub going-end : {m : End} {l : List Place} → m ≡ goesOn s next → m ≡ Wrong → l ≡ withValue places k v
+    pub going-end : {m : End} {l : Places} → m ≡ goesOn s next → m ≡ Wrong → l ≡ withValue places k v
         → _≡_ {A = Listed} (record { end = At next; places = l }) (pairsAt s most largest at)
     going-end q w h =
         let whole = g .same in
@@ -141,7 +141,7 @@ module _ {s : List ℕ} {most largest at from : ℕ} {places : List Place} (g : 
         (omega arith, omega arith)
 
     -- one pair more
-    pub going-turn : {m : End} {second : ℕ} {l : List Place} → m ≡ goesOn s next → m ≡ At second → l ≡ withValue places k v
+    pub going-turn : {m : End} {second : ℕ} {l : Places} → m ≡ goesOn s next → m ≡ At second → l ≡ withValue places k v
         → Going s most largest at l second
     going-turn {m} {second} {l} q w h = by (g .turns) (g .enough) (g .same)
       where

@@ -8,15 +8,15 @@ use Rattle.laws.specs.Loops.{stores}
 use Rattle.text.specs.Text.{isDigit, readDecimal, runOn}
 use Rattle.text.specs.declared.Number.{Number}
 use Rattle.text.specs.declared.Number.the-variants as number
-use Rattle.stationruns.specs.declared.Given.{Given}
-use Rattle.stationruns.specs.declared.Given.the-variants as given
-use Rattle.stationruns.specs.declared.Change.{Change}
-use Rattle.stationruns.specs.declared.Change.the-variants as change
+use Rattle.places.specs.Flags.{flagAt}
+use Rattle.rules.specs.Limits.{mostModules, mostTasks}
+use Rattle.stationruns.specs.declared.Input.{Input}
+use Rattle.stationruns.specs.declared.Starting.{Starting}
 use Rattle.history.specs.declared.Pair.{Pair}
 use Rattle.history.specs.declared.Pair.the-variants as pair
 use Rattle.history.specs.declared.End.{End}
 use Rattle.history.specs.declared.End.the-variants.{At, Wrong}
-use Rattle.history.specs.declared.Place.{Place}
+use Rattle.history.specs.declared.Places.{Places}
 use Rattle.history.specs.declared.Listed.{Listed}
 use Rattle.history.specs.declared.What.{What}
 use Rattle.history.specs.declared.What.the-variants.{Begin, Tick, Quiet, Unreadable}
@@ -61,28 +61,21 @@ pairAt s at = behindFirst s (readDecimal s at)
 
 -- ---- lists of pairs
 
-abbrev pub noPlace : Place
-noPlace = record { given = given.Nothing }
-
--- nothing is given at any of the 32 places
-abbrev pub noPlaces : List Place
-noPlaces = replicate 32 noPlace
-
-abbrev pub isNothing : Given → Bool
-isNothing given.Nothing = true
-isNothing (given.Result v) = false
+-- nothing is given at any place
+abbrev pub noPlaces : Places
+noPlaces = record { values = replicate mostTasks 0; given = replicate mostTasks 0 }
 
 -- a pair may name a place below `most` that is still free, with a value of at most `largest`
-unfoldable pub isFree : List Place → ℕ → Bool
-isFree places k = isNothing (getD places k noPlace .given)
+unfoldable pub isFree : Places → ℕ → Bool
+isFree places k = not (flagAt (places .given) k)
 
-abbrev pub fits : List Place → ℕ → ℕ → Pair → Pair
+abbrev pub fits : Places → ℕ → ℕ → Pair → Pair
 fits places most largest pair.None = pair.None
 fits places most largest (pair.Named k v next) =
     cond ((ltb k most && leb v largest) && isFree places k) (pair.Named k v next) pair.None
 
-abbrev pub withValue : List Place → ℕ → ℕ → List Place
-withValue places k v = set places k (record { given = given.Result v })
+abbrev pub withValue : Places → ℕ → ℕ → Places
+withValue places k v = record { values = set (places .values) k v; given = set (places .given) k 1 }
 
 -- a list goes on where a space and a digit follow
 abbrev pub digitAt : List ℕ → End → End
@@ -95,16 +88,16 @@ goesOn s at = digitAt s (behindWord s at space)
 abbrev pub wrongList : Listed
 wrongList = record { end = Wrong; places = noPlaces }
 
-abbrev pub restOf : End → ℕ → List Place → (ℕ → Listed) → Listed
+abbrev pub restOf : End → ℕ → Places → (ℕ → Listed) → Listed
 restOf Wrong next places rest = record { end = At next; places = places }
 restOf (At at) next places rest = rest at
 
-abbrev pub behindPair : List ℕ → Pair → List Place → (List Place → ℕ → Listed) → Listed
+abbrev pub behindPair : List ℕ → Pair → Places → (Places → ℕ → Listed) → Listed
 behindPair s pair.None places rest = wrongList
 behindPair s (pair.Named k v next) places rest = restOf (goesOn s next) next (withValue places k v) (rest (withValue places k v))
 
 -- the pairs from a place on, behind pairs that gave `places`; `turns` is a bound on their number
-abbrev pub pairsWithin : ℕ → List ℕ → ℕ → ℕ → List Place → ℕ → Listed
+abbrev pub pairsWithin : ℕ → List ℕ → ℕ → ℕ → Places → ℕ → Listed
 pairsWithin zero s most largest places at = wrongList
 pairsWithin (suc turns) s most largest places at =
     behindPair s (fits places most largest (pairAt s at)) places (pairsWithin turns s most largest)
@@ -121,13 +114,13 @@ orPairs (At at) pairs = record { end = At at; places = noPlaces }
 unfoldable pub listAt : List ℕ → ℕ → ℕ → ℕ → Listed
 listAt s most largest at = orPairs (behindWord s at dash) (pairsAt s most largest at)
 
--- `TASK=VALUE ..`: one of 32 tasks, a value of 64 bits
+-- `TASK=VALUE ..`: one of the task places, a value of 64 bits
 abbrev pub resultsAt : List ℕ → ℕ → Listed
-resultsAt s at = listAt s 32 18446744073709551615 at
+resultsAt s at = listAt s mostTasks 18446744073709551615 at
 
--- `MODULE=MODE ..`: one of 16 modules, a mode of 8 bits
+-- `MODULE=MODE ..`: one of the module places, a mode of 8 bits
 abbrev pub modesAt : List ℕ → ℕ → Listed
-modesAt s at = listAt s 16 255 at
+modesAt s at = listAt s mostModules 255 at
 
 -- ---- lines
 
@@ -140,7 +133,7 @@ isEnd s Wrong = false
 isEnd s (At at) = eqb at (length s)
 
 -- modes end a line
-abbrev pub endedBy : List ℕ → What → List Place → Listed → Line
+abbrev pub endedBy : List ℕ → What → Places → Listed → Line
 endedBy s what results modes =
     cond (isEnd s (modes .end)) (record { what = what; results = results; modes = modes .places }) (plain Unreadable)
 
@@ -153,11 +146,11 @@ abbrev pub modesWord : List ℕ
 modesWord = 32 ∷ 109 ∷ 111 ∷ 100 ∷ 101 ∷ 115 ∷ 32 ∷ []
 
 -- `TASK=VALUE .. modes MODULE=MODE ..` behind `tick results `
-abbrev pub behindModes : List ℕ → List Place → End → Line
+abbrev pub behindModes : List ℕ → Places → End → Line
 behindModes s results Wrong = plain Unreadable
 behindModes s results (At at) = endedBy s Tick results (modesAt s at)
 
-abbrev pub behindResults : List ℕ → List Place → End → Line
+abbrev pub behindResults : List ℕ → Places → End → Line
 behindResults s results Wrong = plain Unreadable
 behindResults s results (At at) = behindModes s results (behindWord s at modesWord)
 
@@ -203,20 +196,27 @@ oneLine (b ∷ s) = runOn (not (eqb b 10)) b (oneLine s)
 unfoldable pub lineEnd : List ℕ → ℕ → ℕ
 lineEnd s from = from + length (oneLine (drop from s))
 
--- ---- what a tick is given by a line
+-- ---- what a tick and a beginning are given by a line
 
-abbrev pub givenAt : List Place → ℕ → Given
-givenAt places t = getD places t noPlace .given
+-- at the places of the modules; a mode that is read has 8 bits
+abbrev pub modeIn : List ℕ → ℕ → ℕ
+modeIn values m = getD values m 0 % 256
 
-abbrev pub changeFrom : Given → Change
-changeFrom given.Nothing = change.Nothing
-changeFrom (given.Result v) = change.To (record { 0 = v % 256 })
+abbrev pub flagIn : List ℕ → ℕ → ℕ
+flagIn flags m = getD flags m 0
 
-abbrev pub changeAt : List Place → ℕ → Change
-changeAt places m = changeFrom (givenAt places m)
+unfoldable pub inputFrom : Places → Places → Input
+inputFrom results modes =
+    record {
+      results = results .values;
+      given = results .given;
+      modes = stores (replicate mostModules 0) (modeIn (modes .values)) mostModules;
+      changed = stores (replicate mostModules 0) (flagIn (modes .given)) mostModules;
+    }
 
-unfoldable pub givenOf : List Place → List Given
-givenOf places = stores (replicate 32 given.Nothing) (givenAt places) 32
-
-unfoldable pub changesOf : List Place → List Change
-changesOf places = stores (replicate 16 change.Nothing) (changeAt places) 16
+unfoldable pub startingFrom : Places → Starting
+startingFrom modes =
+    record {
+      modes = stores (replicate mostModules 0) (modeIn (modes .values)) mostModules;
+      given = stores (replicate mostModules 0) (flagIn (modes .given)) mostModules;
+    }

@@ -1,14 +1,24 @@
 // A history's lines as they are read (docs/HISTORY.md); the answers are written by `answerlines`.
 ghost use mathlib.Core.Path.{_≡_};
 ghost use Prim.Native.Nat.{_≤_};
-ghost use lib.ListN.{length};
-ghost use Rattle.history.specs.Reading.{behindWord, beginLine, changeFrom, changesOf, endedBy, fits, givenOf, goesOn, isEnd, isFree, isNothing, lineEnd, listAt, modesAt, noPlace, pairAt, pairsAt, plain, quietLine, readLine, resultsAt, tickLine, withValue, wrongList};
+ghost use lib.ListN.{length, replicate};
+ghost use Rattle.laws.specs.Loops.{stores};
+ghost use Rattle.rules.specs.Limits.{mostModules};
+ghost use Rattle.history.specs.Reading.{behindWord, beginLine, endedBy, fits, flagIn, goesOn, inputFrom, isEnd, isFree, lineEnd, listAt, modeIn, modesAt, noPlaces, pairAt, pairsAt, plain, quietLine, readLine, resultsAt, startingFrom, tickLine, withValue, wrongList};
 use figures::both;
 use places::byte_at;
-use stationruns::Change;
-use stationruns::Given;
+use places::flag_at;
+use places::flag_byte;
+use stationruns::Input;
+use stationruns::Starting;
 use text::Number;
-use units::ModeNo;
+use units::ModuleNo;
+use units::TaskNo;
+
+// No value is larger: it has 64 bits.
+const LARGEST_VALUE: u64 = 18446744073709551615;
+// No mode is larger: it has 8 bits.
+const LARGEST_MODE: u64 = 255;
 
 // Two numbers with `=` between them, and the place behind them.
 pub enum Pair {
@@ -22,15 +32,16 @@ pub enum End {
     Wrong,
 }
 
-// What a list gives at one place. (An array of the enum itself could not stand in a struct.)
-pub struct Place {
-    pub given: Given,
+// What a list gives: at each place a value, which counts where its flag is set. A list of modules uses the first places.
+pub struct Places {
+    pub values: [u64; TaskNo::MOST],
+    pub given: [u8; TaskNo::MOST],
 }
 
-// A list of pairs: what it gives at each place.
+// A list of pairs, and the place behind it.
 pub struct Listed {
     pub end: End,
-    pub places: [Place; 32],
+    pub places: Places,
 }
 
 pub enum What {
@@ -43,27 +54,34 @@ pub enum What {
 // A line, and what its lists give: nothing where it has none.
 pub struct Line {
     pub what: What,
-    pub results: [Place; 32],
-    pub modes: [Place; 32],
+    pub results: Places,
+    pub modes: Places,
 }
 
-impl Place {
-    fn none() -> Place
-        ensures { λ r. ⌜ r ≡ noPlace ⌝ }
+impl Places {
+    fn none() -> Places
+        ensures { λ r. ⌜ r ≡ noPlaces ⌝ }
     {
-        Place {
-            given: Given::Nothing,
+        Places {
+            values: [0; TaskNo::MOST],
+            given: [0; TaskNo::MOST],
         }
     }
 
-    fn is_free(self) -> bool
-        ensures { λ r. ⌜ r ≡ isNothing (self .given) ⌝ }
+    fn is_free(self, place: u64) -> bool
+        ensures { λ r. ⌜ r ≡ isFree self place ⌝ }
     {
-        let given = self.given;
-        match given {
-            Given::Nothing => true,
-            Given::Result(_) => false,
+        !flag_at(&self.given, place as usize)
+    }
+
+    fn with_value(mut self, place: u64, value: u64) -> Places
+        ensures { λ r. ⌜ r ≡ withValue self place value ⌝ }
+    {
+        if place < TaskNo::MOST as u64 {
+            self.values[place as usize] = value;
+            self.given[place as usize] = flag_byte(true);
         }
+        self
     }
 }
 
@@ -104,42 +122,20 @@ fn pair_at(s: &[u8], at: usize) -> Pair
     }
 }
 
-fn is_free(places: [Place; 32], place: u64) -> bool
-    ensures { λ r. ⌜ r ≡ isFree places place ⌝ }
-{
-    if place < 32 {
-        let there = places[place as usize];
-        there.is_free()
-    } else {
-        true
-    }
-}
-
 // The pair at a place, if it names a place below `most` that is still free, and a value of at most `largest`.
-fn fitting(s: &[u8], at: usize, places: [Place; 32], most: u64, largest: u64) -> Pair
+fn fitting(s: &[u8], at: usize, places: Places, most: u64, largest: u64) -> Pair
     ensures { λ r. ⌜ r ≡ fits places most largest (pairAt (now (s .entry)) at) ⌝ }
 {
     match pair_at(s, at) {
         Pair::None => Pair::None,
         Pair::Named { place, value, next } => {
-            if both(both(place < most, value <= largest), is_free(places, place)) {
+            if both(both(place < most, value <= largest), places.is_free(place)) {
                 Pair::Named { place, value, next }
             } else {
                 Pair::None
             }
         }
     }
-}
-
-fn with_value(mut places: [Place; 32], place: u64, value: u64) -> [Place; 32]
-    ensures { λ r. ⌜ r ≡ withValue places place value ⌝ }
-{
-    if place < 32 {
-        places[place as usize] = Place {
-            given: Given::Result(value),
-        };
-    }
-    places
 }
 
 // Where a list goes on: a space and a digit follow.
@@ -163,20 +159,20 @@ fn wrong() -> Listed
 {
     Listed {
         end: End::Wrong,
-        places: [Place::none(); 32],
+        places: Places::none(),
     }
 }
 
 fn pairs(s: &[u8], at: usize, most: u64, largest: u64) -> Listed
     ensures { λ r. ⌜ r ≡ pairsAt (now (s .entry)) most largest at ⌝ }
 {
-    let mut places = [Place::none(); 32];
+    let mut places = Places::none();
     let mut from = at;
     loop {
         match fitting(s, from, places, most, largest) {
             Pair::None => return wrong(),
             Pair::Named { place, value, next } => {
-                let more = with_value(places, place, value);
+                let more = places.with_value(place, value);
                 places = more;
                 match goes_on(s, next) {
                     End::Wrong => {
@@ -201,7 +197,7 @@ fn list(s: &[u8], at: usize, most: u64, largest: u64) -> Listed
     match behind(s, at, b"-") {
         End::At(next) => Listed {
             end: End::At(next),
-            places: [Place::none(); 32],
+            places: Places::none(),
         },
         End::Wrong => pairs(s, at, most, largest),
     }
@@ -210,13 +206,13 @@ fn list(s: &[u8], at: usize, most: u64, largest: u64) -> Listed
 fn results(s: &[u8], at: usize) -> Listed
     ensures { λ r. ⌜ r ≡ resultsAt (now (s .entry)) at ⌝ }
 {
-    list(s, at, 32, 18446744073709551615)
+    list(s, at, TaskNo::MOST as u64, LARGEST_VALUE)
 }
 
 fn modes(s: &[u8], at: usize) -> Listed
     ensures { λ r. ⌜ r ≡ modesAt (now (s .entry)) at ⌝ }
 {
-    list(s, at, 16, 255)
+    list(s, at, ModuleNo::MOST as u64, LARGEST_MODE)
 }
 
 fn without_lists(what: What) -> Line
@@ -224,8 +220,8 @@ fn without_lists(what: What) -> Line
 {
     Line {
         what,
-        results: [Place::none(); 32],
-        modes: [Place::none(); 32],
+        results: Places::none(),
+        modes: Places::none(),
     }
 }
 
@@ -239,7 +235,7 @@ fn is_end(s: &[u8], end: End) -> bool
 }
 
 // A line that ends with its modes.
-fn ended_by(s: &[u8], at: usize, what: What, results: [Place; 32]) -> Line
+fn ended_by(s: &[u8], at: usize, what: What, results: Places) -> Line
     ensures { λ r. ⌜ r ≡ endedBy (now (s .entry)) what results (modesAt (now (s .entry)) at) ⌝ }
 {
     let read = modes(s, at);
@@ -259,7 +255,7 @@ fn ended_by(s: &[u8], at: usize, what: What, results: [Place; 32]) -> Line
 fn begin_line(s: &[u8], at: usize) -> Line
     ensures { λ r. ⌜ r ≡ beginLine (now (s .entry)) at ⌝ }
 {
-    ended_by(s, at, What::Begin, [Place::none(); 32])
+    ended_by(s, at, What::Begin, Places::none())
 }
 
 fn quiet_line(s: &[u8], at: usize) -> Line
@@ -326,41 +322,50 @@ pub fn line_end(s: &[u8], from: usize) -> usize
 }
 
 // A mode has 8 bits, as `modes` reads it: the remainder is the value itself.
-fn as_change(given: Given) -> Change
-    ensures { λ r. ⌜ r ≡ changeFrom given ⌝ }
+fn modes_of<'a>(values: &'a [u64; TaskNo::MOST]) -> [u8; ModuleNo::MOST]
+    ensures { λ r. ⌜ r ≡ stores (replicate mostModules 0) (modeIn (now (values .entry))) mostModules ⌝ }
 {
-    match given {
-        Given::Nothing => Change::Nothing,
-        Given::Result(value) => Change::To(ModeNo((value % 256) as u8)),
-    }
-}
-
-// What a tick is given at the places of the tasks.
-pub fn given_of(places: [Place; 32]) -> [Given; 32]
-    ensures { λ r. ⌜ r ≡ givenOf places ⌝ }
-{
-    let mut given = [Given::Nothing; 32];
-    let mut t = 0;
-    while t < 32 {
-        let there = places[t];
-        let here = there.given;
-        given[t] = here;
-        t += 1;
-    }
-    given
-}
-
-// What a tick is given at the places of the modules.
-pub fn changes_of(places: [Place; 32]) -> [Change; 16]
-    ensures { λ r. ⌜ r ≡ changesOf places ⌝ }
-{
-    let mut changes = [Change::Nothing; 16];
+    let mut modes = [0; ModuleNo::MOST];
     let mut m = 0;
-    while m < 16 {
-        let there = places[m];
-        let given = there.given;
-        changes[m] = as_change(given);
+    while m < ModuleNo::MOST {
+        modes[m] = (values[m] % (LARGEST_MODE + 1)) as u8;
         m += 1;
     }
-    changes
+    modes
+}
+
+fn flags_of<'a>(given: &'a [u8; TaskNo::MOST]) -> [u8; ModuleNo::MOST]
+    ensures { λ r. ⌜ r ≡ stores (replicate mostModules 0) (flagIn (now (given .entry))) mostModules ⌝ }
+{
+    let mut flags = [0; ModuleNo::MOST];
+    let mut m = 0;
+    while m < ModuleNo::MOST {
+        flags[m] = given[m];
+        m += 1;
+    }
+    flags
+}
+
+// What a tick is given by the lists of its line.
+pub fn input_of(results: Places, modes: Places) -> Input
+    ensures { λ r. ⌜ r ≡ inputFrom results modes ⌝ }
+{
+    let values = results.values;
+    let given = results.given;
+    Input {
+        results: values,
+        given,
+        modes: modes_of(&modes.values),
+        changed: flags_of(&modes.given),
+    }
+}
+
+// What a beginning is given by the list of its line.
+pub fn starting_of(modes: Places) -> Starting
+    ensures { λ r. ⌜ r ≡ startingFrom modes ⌝ }
+{
+    Starting {
+        modes: modes_of(&modes.values),
+        given: flags_of(&modes.given),
+    }
 }

@@ -12,14 +12,15 @@ use lib.ListN.{length, getD, set, take, length-replicate, length-set, getD-repli
 use lib.Seq.{getD-set-same, getD-set-other, ext-getD}
 use borrow.Author.Tests.{ltb-true, ltb-false, eqb-true, eqb-false, eq-eqb, not-true}
 use Prim.Native.Nat.{ℕ, zero, suc, _+_, _≤_, _<_}
+use Rattle.rules.specs.Limits.{mostFrames}
 use Rattle.laws.specs.Lists.{any, tab}
 use Rattle.laws.specs.Loops.{padTo}
 use Rattle.laws.proofs.Lists.{both, both-left, both-right, neither-left, neither-right, true-false, any-upTo-hit, take-tab, length-tab, getD-tab, tab-more, map-tab, length-padTo, getD-padTo}
-use Rattle.rules.specs.Frames.{Frame}
-use Rattle.rules.specs.Table.{DataRow}
-use Rattle.rules.specs.Checker.{TableRead, noDataRow, rowAt, isFrameOf, samePair, namedIn, startIn}
+use Rattle.rules.specs.Frames.{Pair}
+use Rattle.rules.specs.Checker.{Named, Row, TableRead, noRow, rowAt, isPairOf, sameName, namedIn, holdsPair, rowHolding}
+use Rattle.rules.proofs.SingleRows.{OpensAlone, holds-single}
 use Rattle.naming.specs.Places.{placeFrom, Numbered, isPair, numberOf, marks, isNew, spread}
-use Rattle.judging.specs.Judged.{frameIn, framesIn, namesNew}
+use Rattle.judging.specs.Judged.{frameIn, framesIn, samePair, namesNew, startIn}
 use Rattle.laws.proofs.Arrays.{placed-set}
 use Rattle.laws.proofs.Turns.{same-any}
 use Rattle.naming.proofs.Places.{any-place, names, marked}
@@ -27,17 +28,17 @@ use Rattle.naming.proofs.Names.{pair-key, number-passes, number-only}
 
 -- ---- the frame of a row
 
-module _ (tasks releases deadlines : List ℕ) (frames : ℕ) (r : DataRow) where
-  pub any-frame : any (isFrameOf r) (framesIn tasks releases deadlines frames) ≡ ltb (numberOf tasks deadlines frames (r .task) (r .deadline)) frames
-  unfolding framesIn frameIn isFrameOf isPair numberOf
+module _ (tasks releases deadlines : List ℕ) (frames : ℕ) (r : Named) where
+  pub any-frame : any (isPairOf r) (framesIn tasks releases deadlines frames) ≡ ltb (numberOf tasks deadlines frames (r .task) (r .deadline)) frames
+  unfolding framesIn frameIn isPairOf isPair numberOf
   any-frame =
-      any-place (isPair tasks deadlines (r .task) (r .deadline)) (isFrameOf r) (frameIn tasks releases deadlines) (λ k. refl) 0 frames
+      any-place (isPair tasks deadlines (r .task) (r .deadline)) (isPairOf r) (frameIn tasks releases deadlines) (λ k. refl) 0 frames
       ∙ ap (ltb (placeFrom (isPair tasks deadlines (r .task) (r .deadline)) 0 frames)) (zero-add frames)
 
   named-from : (low n : ℕ) → placeFrom (isPair tasks deadlines (r .task) (r .deadline)) low n < low + n
       → namedIn (tab (frameIn tasks releases deadlines) low n) r
       ≡ frameIn tasks releases deadlines (placeFrom (isPair tasks deadlines (r .task) (r .deadline)) low n)
-  unfolding isFrameOf isPair namedIn frameIn
+  unfolding isPairOf isPair namedIn frameIn
   named-from low zero h = absurd (omega arith)
   named-from low (suc n) h = here (isPair tasks deadlines (r .task) (r .deadline) low) h (named-from (suc low) n)
     where
@@ -58,55 +59,55 @@ module _ (tasks releases deadlines : List ℕ) (frames : ℕ) (r : DataRow) wher
       → namedIn (framesIn tasks releases deadlines frames) r .task ≡ r .task
   unfolding frameIn
   named-task h =
-      ap (λ (f : Frame). f .task) (named-frame h)
+      ap (λ (f : Pair). f .task) (named-frame h)
       ∙ sym (pair-key tasks deadlines (r .task) (r .deadline) (numberOf tasks deadlines frames (r .task) (r .deadline))
       (number-passes tasks deadlines (r .task) (r .deadline) frames h) .0)
 
 -- ---- rows that name frames
 
-module _ (tasks releases deadlines : List ℕ) (frames : ℕ) (n : Numbered tasks deadlines frames) (row : ℕ → DataRow) (count : ℕ)
-    (numbers : List ℕ) (given : (j : ℕ) → j < count → getD numbers j 0 ≡ numberOf tasks deadlines frames (row j .task) (row j .deadline)) where
+module _ (tasks releases deadlines : List ℕ) (frames : ℕ) (n : Numbered tasks deadlines frames) (row : ℕ → Row) (count : ℕ)
+    (numbers : List ℕ) (given : (j : ℕ) → j < count → getD numbers j 0 ≡ numberOf tasks deadlines frames (row j .opens .task) (row j .opens .deadline)) where
   -- two rows have the same number where they name the same pair
   same-number : (k j : ℕ) → k < count → j < count → getD numbers k 0 < frames
       → names numbers (getD numbers k 0) j ≡ samePair (row k) (row j)
-  unfolding names samePair
+  unfolding names samePair sameName
   same-number k j h w v = here (samePair (row k) (row j)) refl (eqb (getD numbers j 0) (getD numbers k 0)) refl
     where
       here : (b : Bool) → samePair (row k) (row j) ≡ b → (c : Bool) → eqb (getD numbers j 0) (getD numbers k 0) ≡ c
           → eqb (getD numbers j 0) (getD numbers k 0) ≡ samePair (row k) (row j)
       here true e c f =
-          let t : row k .task ≡ row j .task = eqb-true (row k .task) (row j .task) (both-left (eqb (row k .task) (row j .task)) (eqb (row k .deadline) (row j .deadline)) e) in
-          let d : row k .deadline ≡ row j .deadline = eqb-true (row k .deadline) (row j .deadline) (both-right (eqb (row k .task) (row j .task)) (eqb (row k .deadline) (row j .deadline)) e) in
+          let t : row k .opens .task ≡ row j .opens .task = eqb-true (row k .opens .task) (row j .opens .task) (both-left (eqb (row k .opens .task) (row j .opens .task)) (eqb (row k .opens .deadline) (row j .opens .deadline)) e) in
+          let d : row k .opens .deadline ≡ row j .opens .deadline = eqb-true (row k .opens .deadline) (row j .opens .deadline) (both-right (eqb (row k .opens .task) (row j .opens .task)) (eqb (row k .opens .deadline) (row j .opens .deadline)) e) in
           let s : getD numbers j 0 ≡ getD numbers k 0 = given j w ∙ rw (sym t, sym d) (sym (given k h)) in
           eq-eqb (getD numbers j 0) (getD numbers k 0) s ∙ sym e
       here false e false f = f ∙ sym e
       here false e true f =
           let s : getD numbers j 0 ≡ getD numbers k 0 = eqb-true (getD numbers j 0) (getD numbers k 0) f in
-          let a = pair-key tasks deadlines (row k .task) (row k .deadline) (getD numbers k 0)
-          (rw (given k h) (number-passes tasks deadlines (row k .task) (row k .deadline) frames (rw (given k h) at v))) in
-          let b = pair-key tasks deadlines (row j .task) (row j .deadline) (getD numbers k 0)
-          (rw (sym s, given j w) (number-passes tasks deadlines (row j .task) (row j .deadline) frames (rw (sym s, given j w) at v))) in
-          true-false (sym (both (eq-eqb (row k .task) (row j .task) (a .0 ∙ sym (b .0))) (eq-eqb (row k .deadline) (row j .deadline) (a .1 ∙ sym (b .1)))) ∙ e)
+          let a = pair-key tasks deadlines (row k .opens .task) (row k .opens .deadline) (getD numbers k 0)
+          (rw (given k h) (number-passes tasks deadlines (row k .opens .task) (row k .opens .deadline) frames (rw (given k h) at v))) in
+          let b = pair-key tasks deadlines (row j .opens .task) (row j .opens .deadline) (getD numbers k 0)
+          (rw (sym s, given j w) (number-passes tasks deadlines (row j .opens .task) (row j .opens .deadline) frames (rw (sym s, given j w) at v))) in
+          true-false (sym (both (eq-eqb (row k .opens .task) (row j .opens .task) (a .0 ∙ sym (b .0))) (eq-eqb (row k .opens .deadline) (row j .opens .deadline) (a .1 ∙ sym (b .1)))) ∙ e)
 
   new-if : (k : ℕ) → k < count → (b : Bool) → ltb (getD numbers k 0) frames ≡ b
       → (b && not (getD (marks numbers k) (getD numbers k 0) false)) ≡ (b && not (any (samePair (row k)) (tab row 0 k)))
   new-if k h true e =
       let w : getD numbers k 0 < frames = ltb-true (getD numbers k 0) frames e in
-      let v : getD numbers k 0 < 256 = omega (arith, n .room) in
+      let v : getD numbers k 0 < mostFrames = omega (arith, n .room) in
       ap not (marked numbers k (getD numbers k 0) v
       ∙ same-any (names numbers (getD numbers k 0)) (samePair (row k)) row k (λ j u. same-number k j h (omega arith) w))
   new-if k h false e = refl
 
   pub new-row : (k : ℕ) → k < count
-      → isNew numbers frames k ≡ (any (isFrameOf (row k)) (framesIn tasks releases deadlines frames) && not (any (samePair (row k)) (tab row 0 k)))
+      → isNew numbers frames k ≡ (any (isPairOf (row k .opens)) (framesIn tasks releases deadlines frames) && not (any (samePair (row k)) (tab row 0 k)))
   unfolding isNew
   new-row k h =
-      rw (any-frame tasks releases deadlines frames (row k), sym (given k h)) (new-if k h (ltb (getD numbers k 0) frames) refl)
+      rw (any-frame tasks releases deadlines frames (row k .opens), sym (given k h)) (new-if k h (ltb (getD numbers k 0) frames) refl)
 
   module _ (t : TableRead) (rows : t .rows ≡ tab row 0 count) where
     pub row-at : (k : ℕ) → k < count → rowAt t k ≡ row k
     unfolding rowAt
-    row-at k h = rw rows (getD-tab row 0 count k noDataRow h ∙ ap row (zero-add k))
+    row-at k h = rw rows (getD-tab row 0 count k noRow h ∙ ap row (zero-add k))
 
     -- Rule 23 by marks is rule 23.
     pub new-names : (k : ℕ) → k < count → isNew numbers frames k ≡ namesNew (framesIn tasks releases deadlines frames) t k
@@ -117,44 +118,52 @@ module _ (tasks releases deadlines : List ℕ) (frames : ℕ) (n : Numbered task
 
   -- ---- the starts by number
 
-  frame-row : (f k : ℕ) → f < frames → k < count → names numbers f k ≡ isFrameOf (row k) (frameIn tasks releases deadlines f)
-  unfolding names isFrameOf frameIn isPair
-  frame-row f k h w = here (isPair tasks deadlines (row k .task) (row k .deadline) f) refl (eqb (getD numbers k 0) f) refl
+  frame-row : (f k : ℕ) → f < frames → k < count → names numbers f k ≡ isPairOf (row k .opens) (frameIn tasks releases deadlines f)
+  unfolding names isPairOf frameIn isPair
+  frame-row f k h w = here (isPair tasks deadlines (row k .opens .task) (row k .opens .deadline) f) refl (eqb (getD numbers k 0) f) refl
     where
-      here : (b : Bool) → isPair tasks deadlines (row k .task) (row k .deadline) f ≡ b → (c : Bool) → eqb (getD numbers k 0) f ≡ c
-          → eqb (getD numbers k 0) f ≡ isPair tasks deadlines (row k .task) (row k .deadline) f
+      here : (b : Bool) → isPair tasks deadlines (row k .opens .task) (row k .opens .deadline) f ≡ b → (c : Bool) → eqb (getD numbers k 0) f ≡ c
+          → eqb (getD numbers k 0) f ≡ isPair tasks deadlines (row k .opens .task) (row k .opens .deadline) f
       here true e c q =
-          eq-eqb (getD numbers k 0) f (given k w ∙ number-only tasks deadlines (row k .task) (row k .deadline) frames f n h e) ∙ sym e
+          eq-eqb (getD numbers k 0) f (given k w ∙ number-only tasks deadlines (row k .opens .task) (row k .opens .deadline) frames f n h e) ∙ sym e
       here false e false q = q ∙ sym e
       here false e true q =
-          let s : numberOf tasks deadlines frames (row k .task) (row k .deadline) ≡ f = sym (given k w) ∙ eqb-true (getD numbers k 0) f q in
-          let v : numberOf tasks deadlines frames (row k .task) (row k .deadline) < frames = rw s h in
-          true-false (sym (rw s at (number-passes tasks deadlines (row k .task) (row k .deadline) frames v)) ∙ e)
+          let s : numberOf tasks deadlines frames (row k .opens .task) (row k .opens .deadline) ≡ f = sym (given k w) ∙ eqb-true (getD numbers k 0) f q in
+          let v : numberOf tasks deadlines frames (row k .opens .task) (row k .opens .deadline) < frames = rw s h in
+          true-false (sym (rw s at (number-passes tasks deadlines (row k .opens .task) (row k .opens .deadline) frames v)) ∙ e)
 
--- a row behind others gives the start where none of those names the frame
-module _ (f : Frame) (r : DataRow) where
-  pub start-behind : (l : List DataRow) → any (λ s. isFrameOf s f) l ≡ false → isFrameOf r f ≡ true → startIn (l ++ (r ∷ [])) f ≡ r .start
-  unfolding startIn
-  start-behind [] e q = rw q
-  start-behind (s ∷ l) e q =
-      rw (neither-left (isFrameOf s f) (any (λ s. isFrameOf s f) l) e) (start-behind l (neither-right (isFrameOf s f) (any (λ s. isFrameOf s f) l) e) q)
+-- a row behind others gives the start where none of those holds the frame
+module _ (f : Pair) (r : Row) where
+  row-behind : (l : List Row) → any (holdsPair f) l ≡ false → holdsPair f r ≡ true → rowHolding (l ++ (r ∷ [])) f ≡ r
+  unfolding rowHolding
+  row-behind [] e q = rw q
+  row-behind (s ∷ l) e q =
+      rw (neither-left (holdsPair f s) (any (holdsPair f) l) e) (row-behind l (neither-right (holdsPair f s) (any (holdsPair f) l) e) q)
 
-  pub start-same : (l : List DataRow) → isFrameOf r f ≡ false → startIn (l ++ (r ∷ [])) f ≡ startIn l f
+  row-same : (l : List Row) → holdsPair f r ≡ false → rowHolding (l ++ (r ∷ [])) f ≡ rowHolding l f
+  unfolding rowHolding
+  row-same [] q = rw q
+  row-same (s ∷ l) q = ap (λ (x : Row). cond (holdsPair f s) s x) (row-same l q)
+
+  pub start-behind : (l : List Row) → any (holdsPair f) l ≡ false → holdsPair f r ≡ true → startIn (l ++ (r ∷ [])) f ≡ r .start
   unfolding startIn
-  start-same [] q = rw q
-  start-same (s ∷ l) q = ap (λ (x : ℕ). cond (isFrameOf s f) (s .start) x) (start-same l q)
+  start-behind l e q = ap (λ (x : Row). x .start) (row-behind l e q)
+
+  pub start-same : (l : List Row) → holdsPair f r ≡ false → startIn (l ++ (r ∷ [])) f ≡ startIn l f
+  unfolding startIn
+  start-same l q = ap (λ (x : Row). x .start) (row-same l q)
 
 module _ (numbers starts : List ℕ) where
-  pub length-spread : (k : ℕ) → length (spread numbers starts k) ≡ 256
-  length-spread zero = length-replicate {A = ℕ} 256 0
+  pub length-spread : (k : ℕ) → length (spread numbers starts k) ≡ mostFrames
+  length-spread zero = length-replicate {A = ℕ} mostFrames 0
   length-spread (suc k) =
-      ap length (placed-set 256 (spread numbers starts k) (getD numbers k 0) (getD starts k 0) (length-spread k))
+      ap length (placed-set mostFrames (spread numbers starts k) (getD numbers k 0) (getD starts k 0) (length-spread k))
       ∙ length-set (spread numbers starts k) (getD numbers k 0) (getD starts k 0) ∙ length-spread k
 
   spread-set : (k : ℕ) → spread numbers starts (suc k) ≡ set (spread numbers starts k) (getD numbers k 0) (getD starts k 0)
-  spread-set k = placed-set 256 (spread numbers starts k) (getD numbers k 0) (getD starts k 0) (length-spread k)
+  spread-set k = placed-set mostFrames (spread numbers starts k) (getD numbers k 0) (getD starts k 0) (length-spread k)
 
-  spread-here : (k f : ℕ) → f < 256 → getD numbers k 0 ≡ f → getD (spread numbers starts (suc k)) f 0 ≡ getD starts k 0
+  spread-here : (k f : ℕ) → f < mostFrames → getD numbers k 0 ≡ f → getD (spread numbers starts (suc k)) f 0 ≡ getD starts k 0
   spread-here k f h e =
       ap (λ (l : List ℕ). getD l f 0) (spread-set k ∙ ap (λ (i : ℕ). set (spread numbers starts k) i (getD starts k 0)) e)
       ∙ getD-set-same (spread numbers starts k) f (getD starts k 0) 0 (rw (length-spread k) h)
@@ -165,8 +174,8 @@ module _ (numbers starts : List ℕ) where
       ∙ getD-set-other (spread numbers starts k) (getD numbers k 0) f (getD starts k 0) 0 (λ e. n (sym e))
 
   -- a number that no row has
-  pub spread-free : (k f : ℕ) → f < 256 → ((j : ℕ) → j < k → getD numbers j 0 ≡ f → ⊥) → getD (spread numbers starts k) f 0 ≡ 0
-  spread-free zero f h n = getD-replicate 256 f 0 0 h
+  pub spread-free : (k f : ℕ) → f < mostFrames → ((j : ℕ) → j < k → getD numbers j 0 ≡ f → ⊥) → getD (spread numbers starts k) f 0 ≡ 0
+  spread-free zero f h n = getD-replicate mostFrames f 0 0 h
   spread-free (suc k) f h n = spread-there k f (n k (omega arith)) ∙ spread-free k f h (λ j w. n j (omega arith))
 
 -- rows that name new frames
@@ -176,7 +185,7 @@ module _ (numbers : List ℕ) (frames : ℕ) where
   new-within k e = ltb-true (getD numbers k 0) frames (both-left (ltb (getD numbers k 0) frames) (not (getD (marks numbers k) (getD numbers k 0) false)) e)
 
   -- no row before has the number
-  pub new-other : (j k : ℕ) → frames ≤ 256 → j < k → isNew numbers frames k ≡ true → getD numbers j 0 ≡ getD numbers k 0 → ⊥
+  pub new-other : (j k : ℕ) → frames ≤ mostFrames → j < k → isNew numbers frames k ≡ true → getD numbers j 0 ≡ getD numbers k 0 → ⊥
   unfolding isNew names
   new-other j k room h e q =
       true-false (sym (any-upTo-hit (names numbers (getD numbers k 0)) k j h (eq-eqb (getD numbers j 0) (getD numbers k 0) q))
@@ -185,7 +194,7 @@ module _ (numbers : List ℕ) (frames : ℕ) where
       (both-right (ltb (getD numbers k 0) frames) (not (getD (marks numbers k) (getD numbers k 0) false)) e))
 
   -- the start at the number of a row is the row's
-  pub spread-row : (starts : List ℕ) → frames ≤ 256 → (count : ℕ) → ((i : ℕ) → i < count → isNew numbers frames i ≡ true)
+  pub spread-row : (starts : List ℕ) → frames ≤ mostFrames → (count : ℕ) → ((i : ℕ) → i < count → isNew numbers frames i ≡ true)
       → (k : ℕ) → k < count → getD (spread numbers starts count) (getD numbers k 0) 0 ≡ getD starts k 0
   spread-row starts room zero new k h = absurd (omega arith)
   spread-row starts room (suc c) new k h =
@@ -199,19 +208,25 @@ module _ (numbers : List ℕ) (frames : ℕ) where
       here (inr l) before =
           spread-there numbers starts c (getD numbers k 0) (λ q. new-other k c room l (new c (omega arith)) (sym q)) ∙ before l
 
-module _ (tasks releases deadlines : List ℕ) (frames : ℕ) (n : Numbered tasks deadlines frames) (row : ℕ → DataRow) (count : ℕ)
-    (numbers : List ℕ) (given : (j : ℕ) → j < count → getD numbers j 0 ≡ numberOf tasks deadlines frames (row j .task) (row j .deadline))
-    (starts : List ℕ) (begins : (j : ℕ) → j < count → getD starts j 0 ≡ row j .start)
+module _ (tasks releases deadlines : List ℕ) (frames : ℕ) (n : Numbered tasks deadlines frames) (row : ℕ → Row) (count : ℕ)
+    (numbers : List ℕ) (given : (j : ℕ) → j < count → getD numbers j 0 ≡ numberOf tasks deadlines frames (row j .opens .task) (row j .opens .deadline))
+    (alone : (j : ℕ) → OpensAlone (row j)) (starts : List ℕ) (begins : (j : ℕ) → j < count → getD starts j 0 ≡ row j .start)
     (passed : (j : ℕ) → j < count → isNew numbers frames j ≡ true) where
   within : (j : ℕ) → j < count → getD numbers j 0 < frames
   within j h = new-within numbers frames j (passed j h)
 
-  -- no row before names the frame of a row
-  first-named : (k : ℕ) → k < count → any (λ s. isFrameOf s (frameIn tasks releases deadlines (getD numbers k 0))) (tab row 0 k) ≡ false
+  -- the rows that hold a frame are those with its number
+  frame-held : (f k : ℕ) → f < frames → k < count → names numbers f k ≡ holdsPair (frameIn tasks releases deadlines f) (row k)
+  frame-held f k h w =
+      frame-row tasks releases deadlines frames n row count numbers given f k h w
+      ∙ sym (holds-single (frameIn tasks releases deadlines f) (row k) (alone k))
+
+  -- no row before holds the frame of a row
+  first-named : (k : ℕ) → k < count → any (holdsPair (frameIn tasks releases deadlines (getD numbers k 0))) (tab row 0 k) ≡ false
   unfolding isNew
   first-named k h =
-      sym (same-any (names numbers (getD numbers k 0)) (λ s. isFrameOf s (frameIn tasks releases deadlines (getD numbers k 0))) row k
-      (λ j w. frame-row tasks releases deadlines frames n row count numbers given (getD numbers k 0) j (within k h) (omega arith)))
+      sym (same-any (names numbers (getD numbers k 0)) (holdsPair (frameIn tasks releases deadlines (getD numbers k 0))) row k
+      (λ j w. frame-held (getD numbers k 0) j (within k h) (omega arith)))
       ∙ sym (marked numbers k (getD numbers k 0) (omega (arith, within k h, n .room)))
       ∙ not-true (getD (marks numbers k) (getD numbers k 0) false)
       (both-right (ltb (getD numbers k 0) frames) (not (getD (marks numbers k) (getD numbers k 0) false)) (passed k h))
@@ -221,11 +236,11 @@ module _ (tasks releases deadlines : List ℕ) (frames : ℕ) (n : Numbered task
       ap (tab row 0) (sym (add-one k)) ∙ tab-more row 0 k ∙ ap (λ (i : ℕ). tab row 0 k ++ (row i ∷ [])) (zero-add k)
 
   start-at : (k f : ℕ) → k ≤ count → f < frames → getD (spread numbers starts k) f 0 ≡ startIn (tab row 0 k) (frameIn tasks releases deadlines f)
-  unfolding startIn names
-  start-at zero f h w = getD-replicate 256 f 0 0 (omega (arith, n .room))
+  unfolding startIn rowHolding names
+  start-at zero f h w = getD-replicate mostFrames f 0 0 (omega (arith, n .room))
   start-at (suc k) f h w =
       here (eqb (getD numbers k 0) f) refl (start-at k f (omega arith) w)
-      ∙ ap (λ (l : List DataRow). startIn l (frameIn tasks releases deadlines f)) (sym (tab-snoc k))
+      ∙ ap (λ (l : List Row). startIn l (frameIn tasks releases deadlines f)) (sym (tab-snoc k))
     where
       here : (b : Bool) → eqb (getD numbers k 0) f ≡ b
           → getD (spread numbers starts k) f 0 ≡ startIn (tab row 0 k) (frameIn tasks releases deadlines f)
@@ -234,22 +249,22 @@ module _ (tasks releases deadlines : List ℕ) (frames : ℕ) (n : Numbered task
           let s : getD numbers k 0 ≡ f = eqb-true (getD numbers k 0) f e in
           spread-here numbers starts k f (omega (arith, n .room)) s ∙ begins k (omega arith)
           ∙ sym (start-behind (frameIn tasks releases deadlines f) (row k) (tab row 0 k) (rw s at (first-named k (omega arith)))
-          (sym (frame-row tasks releases deadlines frames n row count numbers given f k w (omega arith)) ∙ e))
+          (sym (frame-held f k w (omega arith)) ∙ e))
       here false e before =
           spread-there numbers starts k f (eqb-false (getD numbers k 0) f e) ∙ before
           ∙ sym (start-same (frameIn tasks releases deadlines f) (row k) (tab row 0 k)
-          (sym (frame-row tasks releases deadlines frames n row count numbers given f k w (omega arith)) ∙ e))
+          (sym (frame-held f k w (omega arith)) ∙ e))
 
   -- The starts laid by number are the starts that the table gives to its frames.
-  pub starts-laid : spread numbers starts count ≡ padTo 256 0 (map (startIn (tab row 0 count)) (framesIn tasks releases deadlines frames))
+  pub starts-laid : spread numbers starts count ≡ padTo mostFrames 0 (map (startIn (tab row 0 count)) (framesIn tasks releases deadlines frames))
   unfolding framesIn
   starts-laid =
-      ext-getD 0 (spread numbers starts count) (padTo 256 0 (map (startIn (tab row 0 count)) (tab (frameIn tasks releases deadlines) 0 frames)))
-      (length-spread numbers starts count ∙ sym (length-padTo 256 0 (map (startIn (tab row 0 count)) (tab (frameIn tasks releases deadlines) 0 frames))))
-      (λ i h. let w : i < 256 = rw (length-spread numbers starts count) at h in each i w (ltb i frames) refl
-      ∙ sym (getD-padTo 256 0 (map (startIn (tab row 0 count)) (tab (frameIn tasks releases deadlines) 0 frames)) i w))
+      ext-getD 0 (spread numbers starts count) (padTo mostFrames 0 (map (startIn (tab row 0 count)) (tab (frameIn tasks releases deadlines) 0 frames)))
+      (length-spread numbers starts count ∙ sym (length-padTo mostFrames 0 (map (startIn (tab row 0 count)) (tab (frameIn tasks releases deadlines) 0 frames))))
+      (λ i h. let w : i < mostFrames = rw (length-spread numbers starts count) at h in each i w (ltb i frames) refl
+      ∙ sym (getD-padTo mostFrames 0 (map (startIn (tab row 0 count)) (tab (frameIn tasks releases deadlines) 0 frames)) i w))
     where
-      each : (i : ℕ) → i < 256 → (b : Bool) → ltb i frames ≡ b
+      each : (i : ℕ) → i < mostFrames → (b : Bool) → ltb i frames ≡ b
           → getD (spread numbers starts count) i 0 ≡ getD (map (startIn (tab row 0 count)) (tab (frameIn tasks releases deadlines) 0 frames)) i 0
       each i w true e =
           let v : i < frames = ltb-true i frames e in

@@ -10,22 +10,24 @@ use lib.Dec.{eqb}
 use lib.ListN.{length, getD, replicate}
 use borrow.Author.Tests.{eqb-true, le-leb}
 use Prim.Native.Nat.{ℕ, _+_, _≤_, _<_}
+use Rattle.rules.specs.Limits.{mostFrames}
 use Rattle.laws.specs.Res.{Res, ok, refuse, at, _>>_}
 use Rattle.laws.specs.Lists.{firstBad, tab, upTo}
 use Rattle.laws.specs.Loops.{stores}
 use Rattle.laws.proofs.Res.{refuse≢ok}
 use Rattle.laws.proofs.Lists.{length-tab, getD-tab, both-left, both-right, true-false}
 use Rattle.laws.proofs.Loops.{firstBad-upTo-none, firstBad-upTo-passes, firstBad-upTo-within}
-use Rattle.rules.specs.Frames.{Frame, ControlRow, noControlRow}
-use Rattle.rules.specs.Checker.{TableRead, controlAt}
-use Rattle.tableread.specs.declared.Table.{Table}
+use Rattle.rules.specs.Frames.{Pair, ControlRow, noControlRow}
+use Rattle.rules.specs.Checker.{nameOf, rowOf, TableRead, controlAt}
+use Rattle.table.specs.declared.Table.{Table}
 use Rattle.places.specs.declared.Found.{Found}
 use Rattle.places.specs.declared.Found.the-variants.{At, Nothing}
 use Rattle.judging.specs.declared.Bounds.{Bounds}
 use Rattle.judging.specs.declared.Judgement.{Judgement}
 use Rattle.naming.specs.Places.{lookIn, beforeIn, Numbered, numberAt, isNew, spread}
 use Rattle.places.specs.Found.{foundOf}
-use Rattle.tableread.specs.Memory.{controlIn, rowSeen, seen}
+use Rattle.table.specs.Memory.{rowSeen, seen}
+use Rattle.table.specs.Rows.{controlIn, dataIn}
 use Rattle.datarows.specs.Rows.{timeKept, releaseKept, dueKept, gapKept}
 use Rattle.judging.specs.Judged.{headerFits, controlFits, rowsJudged, judgedFor, headerSame, controlsSame, frameIn, framesIn, timeIn, NoneEarly, Right, inOrder, onlyWhere, Among}
 use Rattle.answers.specs.Refusals.{heard}
@@ -70,17 +72,17 @@ first-kept first (some k) b c d e h = refuse≢ok h
 
 -- ---- judgements
 
-module _ {says : Res (Unit {0})} (frames : List Frame) (t : TableRead) {early : Bool} {releases : List ℕ} {count : ℕ} {j : Judgement} where
+module _ {says : Res (Unit {0})} (frames : List Pair) (t : TableRead) {early : Bool} {releases : List ℕ} {count : ℕ} {j : Judgement} where
   pub right-refused : {n p : ℕ} → says ≡ refuse n p → heard (j .verdict) ≡ refuse n p → Right early releases count says frames t j
   right-refused e h = record { verdict = λ _. h ∙ sym e; starts = λ q. refuse≢ok (sym e ∙ q) }
 
 -- ---- rules 23 to 27
 
 module _ (tasks releases deadlines times : List ℕ) (frames : ℕ) (n : Numbered tasks deadlines frames) (b : Bounds) (t : Table)
-    (room : t .rows ≤ 256) {named : List ℕ}
-    (numbered : named ≡ stores (replicate 256 0) (numberAt tasks deadlines frames (t .tasks) (t .deadlines)) (t .rows)) where
+    (room : t .rows ≤ mostFrames) {named : List ℕ}
+    (numbered : named ≡ stores (replicate mostFrames 0) (numberAt tasks deadlines frames (t .tasks) (t .deadlines)) (t .rows)) where
   -- the frames by number
-  abbrev wanted : List Frame
+  abbrev wanted : List Pair
   wanted = framesIn tasks releases deadlines frames
 
   -- what each scan looks for
@@ -103,12 +105,12 @@ module _ (tasks releases deadlines times : List ℕ) (frames : ℕ) (n : Numbere
   firstOf test = firstBad test (upTo (t .rows))
 
   whole : rowsJudged wanted (timeIn times) b (seen t)
-      ≡ inOrder (1 + t .control) (firstOf nameOk) (firstOf timeOk) (firstOf releaseOk) (firstOf dueOk) (firstOf (gapOk (beforeIn (t .ends) 0 (t .control))))
+      ≡ inOrder (1 + t .controls) (firstOf nameOk) (firstOf timeOk) (firstOf releaseOk) (firstOf dueOk) (firstOf (gapOk (beforeIn (t .«control_stops») 0 (t .controls))))
   whole =
-      sym (rw numbered (rows-judged tasks releases deadlines times frames n b t room (beforeIn (t .ends) 0 (t .control)) (last-stop t)))
+      sym (rw numbered (rows-judged tasks releases deadlines times frames n b t room (beforeIn (t .«control_stops») 0 (t .controls)) (last-stop t)))
 
   abbrev firstCrowded : Option ℕ
-  firstCrowded = firstOf (gapOk (beforeIn (t .ends) 0 (t .control)))
+  firstCrowded = firstOf (gapOk (beforeIn (t .«control_stops») 0 (t .controls)))
 
   -- where every row names a frame of its own, and no frame is early by number, no row is early
   none-early : firstOf nameOk ≡ none → NoneEarly releases (spread named (t .starts) (t .rows)) frames → firstOf releaseOk ≡ none
@@ -119,43 +121,43 @@ module _ (tasks releases deadlines times : List ℕ) (frames : ℕ) (n : Numbere
       let new : (i : ℕ) → i < t .rows → nameOk i ≡ true = λ i u. firstBad-upTo-passes nameOk (t .rows) i all-named u in
       let w : getD named k 0 < frames = new-within named frames k (new k l) in
       let at-row : getD (spread named (t .starts) (t .rows)) (getD named k 0) 0 ≡ getD (t .starts) k 0 = spread-row named frames (t .starts) (n .room) (t .rows) new k l in
-      le-leb (lookIn 256 releases (getD named k 0)) (getD (t .starts) k 0)
-      (rw (look-within 256 releases (getD named k 0) (omega (arith, w, n .room)), sym at-row) (h (getD named k 0) w)))
+      le-leb (lookIn mostFrames releases (getD named k 0)) (getD (t .starts) k 0)
+      (rw (look-within mostFrames releases (getD named k 0) (omega (arith, w, n .room)), sym at-row) (h (getD named k 0) w)))
 
   -- rule 25 by the scan of rows, or by the starts by number
   looked-at : (early : Bool) → (early ≡ true) ⊎ NoneEarly releases (spread named (t .starts) (t .rows)) frames
-      → inOrder (1 + t .control) (firstOf nameOk) (firstOf timeOk) (onlyWhere early (firstOf releaseOk)) (firstOf dueOk) firstCrowded
-      ≡ inOrder (1 + t .control) (firstOf nameOk) (firstOf timeOk) (firstOf releaseOk) (firstOf dueOk) firstCrowded
+      → inOrder (1 + t .controls) (firstOf nameOk) (firstOf timeOk) (onlyWhere early (firstOf releaseOk)) (firstOf dueOk) firstCrowded
+      ≡ inOrder (1 + t .controls) (firstOf nameOk) (firstOf timeOk) (firstOf releaseOk) (firstOf dueOk) firstCrowded
   looked-at true h = refl
   looked-at false (inl e) = true-false (sym e)
   looked-at false (inr h) = here (firstOf nameOk) refl
     where
       here : (o : Option ℕ) → firstOf nameOk ≡ o
-          → inOrder (1 + t .control) o (firstOf timeOk) none (firstOf dueOk) firstCrowded
-          ≡ inOrder (1 + t .control) o (firstOf timeOk) (firstOf releaseOk) (firstOf dueOk) firstCrowded
+          → inOrder (1 + t .controls) o (firstOf timeOk) none (firstOf dueOk) firstCrowded
+          ≡ inOrder (1 + t .controls) o (firstOf timeOk) (firstOf releaseOk) (firstOf dueOk) firstCrowded
       here none e = rw (none-early e h)
       here (some k) e = refl
 
   -- what the scans found, and what their order makes of it
   pub rows-right : {sa sb sc sd se : Found} {early : Bool} → sa ≡ foundOf (firstOf nameOk) → sb ≡ foundOf (firstOf timeOk)
       → sc ≡ foundOf (onlyWhere early (firstOf releaseOk)) → sd ≡ foundOf (firstOf dueOk)
-      → {last : ℕ} → last ≡ beforeIn (t .ends) 0 (t .control) → se ≡ foundOf (firstOf (gapOk last)) → (j : Judgement)
-      → heard (j .verdict) ≡ inOrder (1 + t .control) (placeIn sa) (placeIn sb) (placeIn sc) (placeIn sd) (placeIn se)
+      → {last : ℕ} → last ≡ beforeIn (t .«control_stops») 0 (t .controls) → se ≡ foundOf (firstOf (gapOk last)) → (j : Judgement)
+      → heard (j .verdict) ≡ inOrder (1 + t .controls) (placeIn sa) (placeIn sb) (placeIn sc) (placeIn sd) (placeIn se)
       → j .starts ≡ spread named (t .starts) (t .rows) → Right early releases frames (rowsJudged wanted (timeIn times) b (seen t)) wanted (seen t) j
-  unfolding seen rowSeen
+  unfolding seen rowSeen dataIn rowOf nameOf
   rows-right {sa} {sb} {sc} {sd} {se} {early} fa fb fc fd {last} isLast fe j says spreads =
       record {
         verdict = λ h. says ∙ as-found ∙ looked-at early (rw spreads at h) ∙ sym whole;
         starts = λ passed.
             let all-named : firstOf nameOk ≡ none
-            = first-kept (1 + t .control) (firstOf nameOk) (firstOf timeOk) (firstOf releaseOk) (firstOf dueOk) firstCrowded (sym whole ∙ passed) in
+            = first-kept (1 + t .controls) (firstOf nameOk) (firstOf timeOk) (firstOf releaseOk) (firstOf dueOk) firstCrowded (sym whole ∙ passed) in
             spreads ∙ starts-laid tasks releases deadlines frames n (rowSeen t) (t .rows) named
-            (λ k l. rw numbered (number-given tasks releases deadlines times frames n b t room (beforeIn (t .ends) 0 (t .control)) (last-stop t) k l))
-            (t .starts) (λ k l. refl) (λ k l. firstBad-upTo-passes nameOk (t .rows) k all-named l);
+            (λ k l. rw numbered (number-given tasks releases deadlines times frames n b t room (beforeIn (t .«control_stops») 0 (t .controls)) (last-stop t) k l))
+            (λ k. refl) (t .starts) (λ k l. refl) (λ k l. firstBad-upTo-passes nameOk (t .rows) k all-named l);
       }
     where
-      as-found : inOrder (1 + t .control) (placeIn sa) (placeIn sb) (placeIn sc) (placeIn sd) (placeIn se)
-          ≡ inOrder (1 + t .control) (firstOf nameOk) (firstOf timeOk) (onlyWhere early (firstOf releaseOk)) (firstOf dueOk) firstCrowded
+      as-found : inOrder (1 + t .controls) (placeIn sa) (placeIn sb) (placeIn sc) (placeIn sd) (placeIn se)
+          ≡ inOrder (1 + t .controls) (firstOf nameOk) (firstOf timeOk) (onlyWhere early (firstOf releaseOk)) (firstOf dueOk) firstCrowded
       as-found =
           rw (
             spot-found (firstOf nameOk) fa,
@@ -172,57 +174,57 @@ module _ (tasks releases deadlines : List ℕ) (frames : ℕ) (time : ℕ → �
   abbrev fixed : List ControlRow
   fixed = tab (controlIn nodes begins ends) 0 controls
 
-  abbrev asked : List Frame
+  abbrev asked : List Pair
   asked = framesIn tasks releases deadlines frames
 
-  header-same : headerFits fixed asked b (seen t) ≡ headerSame (t .header) (t .control) (t .rows) b controls frames
+  header-same : headerFits fixed asked b (seen t) ≡ headerSame (t .header) (t .controls) (t .rows) b controls frames
   unfolding headerFits headerSame seen framesIn
   header-same =
       rw (
         length-tab (controlIn nodes begins ends) 0 controls,
         length-tab (frameIn tasks releases deadlines) 0 frames,
-        length-tab (controlIn (t .nodes) (t .begins) (t .ends)) 0 (t .control),
+        length-tab (controlIn (t .«control_nodes») (t .«control_starts») (t .«control_stops»)) 0 (t .controls),
         length-tab (rowSeen t) 0 (t .rows),
       )
 
-  control-same : (k : ℕ) → t .control ≡ controls → k < controls
-      → controlsSame (controlIn (t .nodes) (t .begins) (t .ends)) (controlIn nodes begins ends) k ≡ controlFits fixed (seen t) k
+  control-same : (k : ℕ) → t .controls ≡ controls → k < controls
+      → controlsSame (controlIn (t .«control_nodes») (t .«control_starts») (t .«control_stops»)) (controlIn nodes begins ends) k ≡ controlFits fixed (seen t) k
   unfolding controlsSame controlFits controlAt seen
   control-same k e h =
       rw (
         getD-tab (controlIn nodes begins ends) 0 controls k noControlRow h,
         zero-add k,
-        getD-tab (controlIn (t .nodes) (t .begins) (t .ends)) 0 (t .control) k noControlRow (omega arith),
+        getD-tab (controlIn (t .«control_nodes») (t .«control_starts») (t .«control_stops»)) 0 (t .controls) k noControlRow (omega arith),
         zero-add k,
       )
 
-  pub wrong-header : {early r : Bool} {j : Judgement} → r ≡ headerSame (t .header) (t .control) (t .rows) b controls frames → r ≡ false
+  pub wrong-header : {early r : Bool} {j : Judgement} → r ≡ headerSame (t .header) (t .controls) (t .rows) b controls frames → r ≡ false
       → heard (j .verdict) ≡ refuse 21 0
       → Right early releases frames (judgedFor fixed asked time b (seen t)) asked (seen t) j
   unfolding judgedFor
   wrong-header e q h = right-refused asked (seen t) (rw (header-same, sym e, q)) h
 
-  module _ {r : Bool} (e : r ≡ headerSame (t .header) (t .control) (t .rows) b controls frames) (q : r ≡ true) where
-    counts : (eqb (t .control) controls && eqb (t .rows) frames) ≡ true
+  module _ {r : Bool} (e : r ≡ headerSame (t .header) (t .controls) (t .rows) b controls frames) (q : r ≡ true) where
+    counts : (eqb (t .controls) controls && eqb (t .rows) frames) ≡ true
     unfolding headerSame
     counts =
-        both-right (eqb (t .header .controls) controls && eqb (t .header .datas) frames) (eqb (t .control) controls && eqb (t .rows) frames)
+        both-right (eqb (t .header .controls) controls && eqb (t .header .datas) frames) (eqb (t .controls) controls && eqb (t .rows) frames)
         (both-right (eqb (t .header .period .0) (b .period .0))
-        ((eqb (t .header .controls) controls && eqb (t .header .datas) frames) && (eqb (t .control) controls && eqb (t .rows) frames))
+        ((eqb (t .header .controls) controls && eqb (t .header .datas) frames) && (eqb (t .controls) controls && eqb (t .rows) frames))
         (sym e ∙ q))
 
-    pub control-count : t .control ≡ controls
-    control-count = eqb-true (t .control) controls (both-left (eqb (t .control) controls) (eqb (t .rows) frames) counts)
+    pub control-count : t .controls ≡ controls
+    control-count = eqb-true (t .controls) controls (both-left (eqb (t .controls) controls) (eqb (t .rows) frames) counts)
 
     pub row-count : t .rows ≡ frames
-    row-count = eqb-true (t .rows) frames (both-right (eqb (t .control) controls) (eqb (t .rows) frames) counts)
+    row-count = eqb-true (t .rows) frames (both-right (eqb (t .controls) controls) (eqb (t .rows) frames) counts)
 
     seen-count : length (seen t .control) ≡ controls
     unfolding seen
-    seen-count = length-tab (controlIn (t .nodes) (t .begins) (t .ends)) 0 (t .control) ∙ control-count
+    seen-count = length-tab (controlIn (t .«control_nodes») (t .«control_starts») (t .«control_stops»)) 0 (t .controls) ∙ control-count
 
     scanned : judgedFor fixed asked time b (seen t)
-        ≡ _>>_ (at 22 1 (firstBad (controlsSame (controlIn (t .nodes) (t .begins) (t .ends)) (controlIn nodes begins ends)) (upTo controls)))
+        ≡ _>>_ (at 22 1 (firstBad (controlsSame (controlIn (t .«control_nodes») (t .«control_starts») (t .«control_stops»)) (controlIn nodes begins ends)) (upTo controls)))
         (rowsJudged asked time b (seen t))
     unfolding judgedFor
     scanned =
@@ -231,20 +233,20 @@ module _ (tasks releases deadlines : List ℕ) (frames : ℕ) (time : ℕ → �
           sym e,
           q,
           seen-count,
-          same-bad (controlsSame (controlIn (t .nodes) (t .begins) (t .ends)) (controlIn nodes begins ends)) (controlFits fixed (seen t)) controls
+          same-bad (controlsSame (controlIn (t .«control_nodes») (t .«control_starts») (t .«control_stops»)) (controlIn nodes begins ends)) (controlFits fixed (seen t)) controls
               (λ k h. control-same k control-count h),
         )
 
-    module _ {s : Found} (found : s ≡ foundOf (firstBad (controlsSame (controlIn (t .nodes) (t .begins) (t .ends)) (controlIn nodes begins ends)) (upTo controls))) where
+    module _ {s : Found} (found : s ≡ foundOf (firstBad (controlsSame (controlIn (t .«control_nodes») (t .«control_starts») (t .«control_stops»)) (controlIn nodes begins ends)) (upTo controls))) where
       pub strange-control : {early : Bool} {k : ℕ} {j : Judgement} → s ≡ At k → heard (j .verdict) ≡ refuse 22 (1 + k)
           → Right early releases frames (judgedFor fixed asked time b (seen t)) asked (seen t) j
       strange-control here h =
-          let bad = spot-at (firstBad (controlsSame (controlIn (t .nodes) (t .begins) (t .ends)) (controlIn nodes begins ends)) (upTo controls)) found here in
+          let bad = spot-at (firstBad (controlsSame (controlIn (t .«control_nodes») (t .«control_starts») (t .«control_stops»)) (controlIn nodes begins ends)) (upTo controls)) found here in
           right-refused asked (seen t) (scanned ∙ rw bad) h
 
       pub same-controls : {early : Bool} {j : Judgement} → s ≡ Nothing → Right early releases frames (rowsJudged asked time b (seen t)) asked (seen t) j
           → Right early releases frames (judgedFor fixed asked time b (seen t)) asked (seen t) j
       same-controls here h =
-          let good = spot-nowhere (firstBad (controlsSame (controlIn (t .nodes) (t .begins) (t .ends)) (controlIn nodes begins ends)) (upTo controls)) found here in
+          let good = spot-nowhere (firstBad (controlsSame (controlIn (t .«control_nodes») (t .«control_starts») (t .«control_stops»)) (controlIn nodes begins ends)) (upTo controls)) found here in
           let same : rowsJudged asked time b (seen t) ≡ judgedFor fixed asked time b (seen t) = sym (scanned ∙ rw good) in
           rw (sym same) h

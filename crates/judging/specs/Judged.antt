@@ -1,5 +1,6 @@
 -- Refusals 21 to 27 over the parts that they look at: the fixed control rows, the frames by number, the sending time of each task's
--- message, and the numbers of the bus. `judged` of the rules is this for the parts of a layout (proofs/Layouts.antt).
+-- message, and the numbers of the bus. Of a row only the pair that opens it is looked at. `judged` of the rules is this for the parts of a
+-- layout and a table whose rows hold no other pair (proofs/Layouts.antt).
 use mathlib.Core.Path.{_≡_}
 use mathlib.Core.Bool.{Bool, true, false, not, _&&_}
 use mathlib.Core.List.{List, map}
@@ -13,32 +14,32 @@ use Rattle.laws.specs.Lists.{any, firstBad, tab, upTo}
 use Rattle.laws.specs.Loops.{padTo}
 use Rattle.laws.specs.Numbers.{divides}
 use Rattle.rules.specs.Limits.{mostTasks, mostFrames}
-use Rattle.rules.specs.Frames.{Frame, ControlRow}
+use Rattle.rules.specs.Frames.{Pair, ControlRow}
 use Rattle.rules.specs.Checker.{
+  Row,
   TableRead,
   controlAt,
   rowAt,
   sameControl,
-  isFrameOf,
-  samePair,
+  isPairOf,
+  sameName,
   namedIn,
-  deadlineKept,
   stopBefore,
   rowsKeep,
-  startIn,
+  rowHolding,
 }
 use Rattle.answers.specs.Refusals.{heard}
-use Rattle.tableread.specs.declared.Header.{Header}
+use Rattle.table.specs.declared.Header.{Header}
 use Rattle.judging.specs.declared.Bounds.{Bounds}
 use Rattle.judging.specs.declared.Judgement.{Judgement}
 use Rattle.line.specs.declared.Line.{Line}
 use Rattle.places.specs.declared.Found.{Found}
 use Rattle.places.specs.declared.Found.the-variants.{At, Nothing}
 use Rattle.naming.specs.Places.{lookIn}
-use Rattle.tableread.specs.Memory.{controlIn}
+use Rattle.table.specs.Rows.{controlIn}
 
 -- Rule 21: the cycle, both counts of the header, and the number of rows of each kind are the plan's.
-unfoldable pub headerFits : List ControlRow → List Frame → Bounds → TableRead → Bool
+unfoldable pub headerFits : List ControlRow → List Pair → Bounds → TableRead → Bool
 headerFits control frames b t =
     eqb (t .period) (b .period .0)
     && ((eqb (t .controls) (length control) && eqb (t .datas) (length frames))
@@ -49,39 +50,46 @@ unfoldable pub controlFits : List ControlRow → TableRead → ℕ → Bool
 controlFits control t k = sameControl (controlAt (t .control) k) (controlAt control k)
 
 -- Rule 23: a data row names a frame, and none before it names the same.
-unfoldable pub namesNew : List Frame → TableRead → ℕ → Bool
+unfoldable pub samePair : Row → Row → Bool
+samePair r s = sameName (r .opens) (s .opens)
+
+unfoldable pub namesNew : List Pair → TableRead → ℕ → Bool
 namesNew frames t k =
-    any (isFrameOf (rowAt t k)) frames && not (any (samePair (rowAt t k)) (take k (t .rows)))
+    any (isPairOf (rowAt t k .opens)) frames && not (any (samePair (rowAt t k)) (take k (t .rows)))
 
 -- Rule 24: a row stops its sending time after its start, and starts on the resolution.
-unfoldable pub timeFits : List Frame → (ℕ → ℕ) → Bounds → TableRead → ℕ → Bool
+unfoldable pub timeFits : List Pair → (ℕ → ℕ) → Bounds → TableRead → ℕ → Bool
 timeFits frames time b t k =
-    eqb (rowAt t k .stop) (rowAt t k .start + time (namedIn frames (rowAt t k) .task))
+    eqb (rowAt t k .stop) (rowAt t k .start + time (namedIn frames (rowAt t k .opens) .task))
     && divides (b .resolution .0) (rowAt t k .start)
 
 -- Rule 25: no row starts before its frame's release.
-unfoldable pub releaseFits : List Frame → TableRead → ℕ → Bool
-releaseFits frames t k = leb (namedIn frames (rowAt t k) .release) (rowAt t k .start)
+unfoldable pub releaseFits : List Pair → TableRead → ℕ → Bool
+releaseFits frames t k = leb (namedIn frames (rowAt t k .opens) .release) (rowAt t k .start)
+
+-- Rule 26: no row stops behind its deadline.
+unfoldable pub dueFits : TableRead → ℕ → Bool
+dueFits t k = leb (rowAt t k .stop) (rowAt t k .opens .deadline)
 
 -- Rule 27: a row starts no earlier than the gap after the stop of the row before it, be that a control row.
 unfoldable pub gapFits : Bounds → TableRead → ℕ → Bool
 gapFits b t k = leb (stopBefore t k + b .gap .0) (rowAt t k .start)
 
--- Refusals 24 to 27, on the data rows; 26 looks at the table alone.
-unfoldable pub timesJudged : List Frame → (ℕ → ℕ) → Bounds → TableRead → Res (Unit {0})
+-- Refusals 24 to 27, on the data rows.
+unfoldable pub timesJudged : List Pair → (ℕ → ℕ) → Bounds → TableRead → Res (Unit {0})
 timesJudged frames time b t = do
   rowsKeep 24 t (timeFits frames time b t)
   rowsKeep 25 t (releaseFits frames t)
-  rowsKeep 26 t (deadlineKept t)
+  rowsKeep 26 t (dueFits t)
   rowsKeep 27 t (gapFits b t)
 
 -- Refusals 23 to 27.
-unfoldable pub rowsJudged : List Frame → (ℕ → ℕ) → Bounds → TableRead → Res (Unit {0})
+unfoldable pub rowsJudged : List Pair → (ℕ → ℕ) → Bounds → TableRead → Res (Unit {0})
 rowsJudged frames time b t = do
   rowsKeep 23 t (namesNew frames t)
   timesJudged frames time b t
 
-unfoldable pub judgedFor : List ControlRow → List Frame → (ℕ → ℕ) → Bounds → TableRead → Res (Unit {0})
+unfoldable pub judgedFor : List ControlRow → List Pair → (ℕ → ℕ) → Bounds → TableRead → Res (Unit {0})
 judgedFor control frames time b t = do
   unless 21 0 (headerFits control frames b t)
   at 22 1 (firstBad (controlFits control t) (upTo (length (t .control))))
@@ -98,11 +106,11 @@ unfoldable pub controlsSame : (ℕ → ControlRow) → (ℕ → ControlRow) → 
 controlsSame here fixed k = sameControl (here k) (fixed k)
 
 -- the frames that stand in arrays, and the time of a task's message
-unfoldable pub frameIn : List ℕ → List ℕ → List ℕ → ℕ → Frame
+unfoldable pub frameIn : List ℕ → List ℕ → List ℕ → ℕ → Pair
 frameIn tasks releases deadlines k =
     record { task = getD tasks k 0; release = getD releases k 0; deadline = getD deadlines k 0 }
 
-unfoldable pub framesIn : List ℕ → List ℕ → List ℕ → ℕ → List Frame
+unfoldable pub framesIn : List ℕ → List ℕ → List ℕ → ℕ → List Pair
 framesIn tasks releases deadlines n = tab (frameIn tasks releases deadlines) 0 n
 
 unfoldable pub timeIn : List ℕ → ℕ → ℕ
@@ -112,7 +120,7 @@ timeIn times task = lookIn mostTasks times task
 unfoldable pub controlsOn : Line → List ControlRow
 controlsOn l = tab (controlIn (l .«control_nodes») (l .«control_starts») (l .«control_stops»)) 0 (l .controls)
 
-unfoldable pub framesOn : Line → List Frame
+unfoldable pub framesOn : Line → List Pair
 framesOn l = framesIn (l .tasks) (l .releases) (l .deadlines) (l .frames)
 
 unfoldable pub boundsOn : Line → Bounds
@@ -148,7 +156,11 @@ onlyWhere false o = none
 abbrev pub NoneEarly : List ℕ → List ℕ → ℕ → Type 0
 NoneEarly releases starts frames = (k : ℕ) → k < frames → getD releases k 0 ≤ getD starts k 0
 
+-- the start that the table gives to a frame
+unfoldable pub startIn : List Row → Pair → ℕ
+startIn rows f = rowHolding rows f .start
+
 -- A judgement is what the rules say, where rule 25 was looked at or no frame is early; and where the rules pass the table, its starts are those that the table gives to the frames.
-pub record Right (early-too : Bool) (releases : List ℕ) (count : ℕ) (says : Res (Unit {0})) (frames : List Frame) (t : TableRead) (j : Judgement) : Type 0 where
+pub record Right (early-too : Bool) (releases : List ℕ) (count : ℕ) (says : Res (Unit {0})) (frames : List Pair) (t : TableRead) (j : Judgement) : Type 0 where
   pub verdict : (early-too ≡ true) ⊎ NoneEarly releases (j .starts) count → heard (j .verdict) ≡ says
   pub starts : says ≡ ok tt → j .starts ≡ padTo mostFrames 0 (map (startIn (t .rows)) frames)

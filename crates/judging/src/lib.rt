@@ -7,7 +7,8 @@ ghost use Rattle.laws.specs.Lists.{firstBad, upTo};
 ghost use Rattle.rules.specs.Limits.{mostNodes, mostFrames};
 ghost use Rattle.naming.specs.Places.{Numbered, beforeIn};
 ghost use Rattle.places.specs.Found.{foundOf};
-ghost use Rattle.tableread.specs.Memory.{seen, controlIn};
+ghost use Rattle.table.specs.Memory.{seen};
+ghost use Rattle.table.specs.Rows.{controlIn};
 ghost use Rattle.judging.specs.Judged.{headerSame, controlsSame, rowsJudged, framesIn, framesOn, timeIn, lineJudged, Right, inOrder, onlyWhere, Among};
 ghost use Rattle.answers.specs.Refusals.{said, heard};
 ghost use Rattle.datarows.specs.Rows.{releaseKept};
@@ -23,8 +24,8 @@ use naming::first_unnamed;
 use naming::numbers;
 use naming::starts_by_frame;
 use places::Found;
-use tableread::Header;
-use tableread::Table;
+use table::Header;
+use table::Table;
 use units::Frame;
 use units::NodeNo;
 use units::RecordNo;
@@ -192,7 +193,7 @@ fn by_rows<'a>(
     early_too: bool,
 ) -> Judgement
     requires { ⌜ Numbered (now tasks) (now deadlines) frames ⌝ }
-    requires { ⌜ t .control ≤ mostNodes ⌝ }
+    requires { ⌜ t .controls ≤ mostNodes ⌝ }
     requires { ⌜ t .rows ≡ frames ⌝ }
     ensures { λ r. ⌜ Right «early_too» (now (releases .entry)) frames (rowsJudged (framesIn (now (tasks .entry)) (now (releases .entry)) (now (deadlines .entry)) frames) (timeIn (now (times .entry))) bounds (seen t)) (framesIn (now (tasks .entry)) (now (releases .entry)) (now (deadlines .entry)) frames) (seen t) r ⌝ }
 {
@@ -209,10 +210,10 @@ fn by_rows<'a>(
     );
     let early = early_in(early_too, &t.starts, releases, &named, rows);
     let late = first_late(&t.stops, &t.deadlines, rows);
-    let last = last_stop(&t.ends, t.control);
+    let last = last_stop(&t.control_stops, t.controls);
     let crowded = first_crowded(&t.starts, &t.stops, last, bounds.gap, rows);
     Judgement {
-        verdict: rows_judged(1 + t.control, unnamed, mistimed, early, late, crowded),
+        verdict: rows_judged(1 + t.controls, unnamed, mistimed, early, late, crowded),
         starts: starts_by_frame(&named, &t.starts, rows),
     }
 }
@@ -233,13 +234,13 @@ pub fn judge(t: Table, line: Line, early_too: bool) -> Judgement
         resolution,
         gap,
     };
-    if !header_right(head, t.control, t.rows, bounds, line.controls, line.frames) {
+    if !header_right(head, t.controls, t.rows, bounds, line.controls, line.frames) {
         return refused(Refusal::WrongHeader);
     }
     if let Found::At(k) = first_strange(
-        &t.nodes,
-        &t.begins,
-        &t.ends,
+        &t.control_nodes,
+        &t.control_starts,
+        &t.control_stops,
         &line.control_nodes,
         &line.control_starts,
         &line.control_stops,

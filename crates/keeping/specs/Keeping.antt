@@ -1,14 +1,19 @@
--- What a station keeps of a plan and of a table in memory, in the station's arrays.
+-- What a station keeps of a plan, of its line and of the starts that a table gives to its pairs, in the station's arrays.
+use mathlib.Core.Bool.{Bool, _&&_}
 use mathlib.Core.List.{List}
-use lib.ListN.{length}
-use Prim.Native.Nat.{ℕ, _*_, _/_, _%_}
+use lib.Dec.{ltb}
+use lib.ListN.{length, getD, replicate}
+use Prim.Native.Nat.{ℕ, _+_, _*_, _/_, _%_, _^_, _<_}
 use Rattle.laws.specs.Lists.{tab}
+use Rattle.laws.specs.Loops.{stores}
+use Rattle.laws.specs.Numbers.{divides}
+use Rattle.places.specs.Bits.{bitsOf}
 use Rattle.places.specs.Flags.{flagBytes}
-use Rattle.rules.specs.Limits.{mostModules, mostModes, mostTasks}
+use Rattle.rules.specs.Limits.{mostModules, mostModes, mostTasks, mostFrames}
 use Rattle.rules.specs.Plan.{Plan, Invocation, theMode, theTask}
-use Rattle.rules.specs.Frames.{moduleNode, isBusTask, isSending}
+use Rattle.rules.specs.Traffic.{moduleNode, isSending}
 use Rattle.rules.specs.Playing.{periodAmong}
-use Rattle.tableread.specs.declared.Table.{Table}
+use Rattle.line.specs.declared.Line.{Line}
 use Rattle.station.specs.Memory.{notBegun}
 use Rattle.stationrefusals.specs.declared.Modules.{Modules}
 use Rattle.stationrefusals.specs.declared.Modes.{Modes}
@@ -55,7 +60,6 @@ tasksOf p =
       homes = tab (taskHome p) 0 mostTasks;
       sizes = tab (taskSize p) 0 mostTasks;
       worsts = tab (taskWorst p) 0 mostTasks;
-      bus = tab (flagBytes (isBusTask p)) 0 mostTasks;
     }
 
 -- the period of mode j / mostTasks and task j % mostTasks, had the plan only these invocations; and of all its invocations
@@ -68,25 +72,50 @@ runsAmong p is = tab (runAmong p is) 0 (mostModes * mostTasks)
 unfoldable pub runsOf : Plan → List ℕ
 runsOf p = runsAmong p (p .invocations)
 
--- the control rows of the table
-unfoldable pub controlsOf : Table → Controls
-controlsOf t = record { count = t .control; nodes = t .nodes; starts = t .begins; stops = t .ends }
+-- the control rows
+unfoldable pub controlsOf : Line → Controls
+controlsOf l = record { count = l .controls; nodes = l .«control_nodes»; starts = l .«control_starts»; stops = l .«control_stops» }
+
+-- by pair, zeros behind the pairs
+unfoldable pub byPair : ℕ → (ℕ → ℕ) → List ℕ
+byPair pairs f = stores (replicate mostFrames 0) f pairs
+
+-- The row of a pair stops the time of a message of its task behind its start.
+unfoldable pub stopAt : List ℕ → List ℕ → List ℕ → ℕ → ℕ
+stopAt starts tasks times q = getD starts q 0 + getD times (getD tasks q 0) 0
+
+-- the stops have 32 bits
+unfoldable pub StopsFit : ℕ → List ℕ → List ℕ → List ℕ → Type 0
+StopsFit pairs starts tasks times = (q : ℕ) → q < pairs → stopAt starts tasks times q < 2 ^ 32
+
+-- A mode has the message of a pair exactly when the task's period in the mode is above 0 and divides the deadline.
+unfoldable pub hasMessage : List ℕ → ℕ → ℕ → ℕ → Bool
+hasMessage runs t deadline μ =
+    ltb 0 (getD runs (μ * mostTasks + t) 0) && divides (getD runs (μ * mostTasks + t) 0) deadline
+
+-- the modes that have the message of a pair, as bits
+unfoldable pub modesAt : List ℕ → List ℕ → List ℕ → ℕ → ℕ
+modesAt runs tasks deadlines q = bitsOf (hasMessage runs (getD tasks q 0) (getD deadlines q 0)) mostModes
 
 -- all that is kept, and nothing played
-unfoldable pub keptFrom : Plan → Table → Station
-keptFrom p t =
+unfoldable pub keptFrom : Plan → Line → List ℕ → Station
+keptFrom p l starts =
     record {
-      modules = modulesOf p;
-      modes = modesOf p;
-      tasks = tasksOf p;
-      controls = controlsOf t;
-      period = t .header .period;
-      datas = t .rows;
+      fixed =
+          record {
+            modules = modulesOf p;
+            modes = modesOf p;
+            tasks = tasksOf p;
+            controls = controlsOf l;
+            period = l .period;
+            pairs = l .frames;
+          };
       runs = runsOf p;
-      «row_tasks» = t .tasks;
-      «row_deadlines» = t .deadlines;
-      «row_starts» = t .starts;
-      «row_stops» = t .stops;
+      «pair_tasks» = l .tasks;
+      «pair_deadlines» = l .deadlines;
+      «pair_starts» = starts;
+      «pair_stops» = byPair (l .frames) (stopAt starts (l .tasks) (l .times));
+      «pair_modes» = byPair (l .frames) (modesAt (runsOf p) (l .tasks) (l .deadlines));
       play = notBegun .play;
       nodes = notBegun .nodes;
     }

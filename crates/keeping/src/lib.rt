@@ -1,14 +1,20 @@
 // What a station keeps of a plan and a table that passed, in the station's arrays: each thing at the place of its number, zeros behind.
 ghost use mathlib.Core.Path.{_≡_};
-ghost use Prim.Native.Nat.{_≤_};
-ghost use Rattle.rules.specs.Frames.{isBusTask, isSending};
-ghost use Rattle.rules.specs.Limits.{mostFrames, mostNodes};
+ghost use mathlib.Core.Bool.{cond};
+ghost use Prim.Native.Nat.{_+_, _*_, _^_, _≤_, _<_};
+ghost use Rattle.rules.specs.Traffic.{isSending};
+ghost use Rattle.rules.specs.Limits.{mostFrames, mostModes, mostNodes};
 ghost use Rattle.rules.proofs.PlanKept.{PlanKept};
+ghost use Rattle.places.specs.Bits.{bitsOf};
 ghost use Rattle.plan.specs.Memory.{seen};
 ghost use Rattle.bus.specs.Senders.{byNumber};
-ghost use Rattle.keeping.specs.Keeping.{controlsOf, keptFrom, modesOf, modulesOf, runsOf, tasksOf};
-use bus::Senders;
+ghost use Rattle.keeping.specs.Keeping.{StopsFit, byPair, controlsOf, hasMessage, keptFrom, modesAt, modesOf, modulesOf, runsOf, stopAt, tasksOf};
+use bus::senders::Senders;
+use figures::divides;
+use line::Line;
+use places::byte_at;
 use places::flag_byte;
+use places::number_at;
 use plan::Plan;
 use plan::look::invocation_at;
 use plan::look::invocation_count;
@@ -20,14 +26,14 @@ use plan::look::task_at;
 use plan::look::task_count;
 use station::Station;
 use stationrefusals::Controls;
+use stationrefusals::Fixed;
 use stationrefusals::Modes;
 use stationrefusals::Modules;
 use stationrefusals::Tasks;
-use tableread::Table;
+use units::Frame;
 use units::ModeNo;
 use units::ModuleNo;
 use units::TaskNo;
-use units::Ticks;
 
 fn modules(p: Plan, senders: [bool; 256]) -> Modules
     requires { ⌜ senders ≡ byNumber (isSending (seen p)) ⌝ }
@@ -71,22 +77,19 @@ fn modes(p: Plan) -> Modes
     }
 }
 
-fn tasks(p: Plan, buses: [bool; 256]) -> Tasks
+fn tasks(p: Plan) -> Tasks
     requires { ⌜ PlanKept (seen p) ⌝ }
-    requires { ⌜ buses ≡ byNumber (isBusTask (seen p)) ⌝ }
     ensures { λ r. ⌜ r ≡ tasksOf (seen p) ⌝ }
 {
     let mut homes: [u8; TaskNo::MOST] = [0; TaskNo::MOST];
     let mut sizes: [u8; TaskNo::MOST] = [0; TaskNo::MOST];
     let mut worsts: [u32; TaskNo::MOST] = [0; TaskNo::MOST];
-    let mut bus: [u8; TaskNo::MOST] = [0; TaskNo::MOST];
     let mut t = 0;
     while t < TaskNo::MOST {
         let task = task_at(p, t);
         homes[t] = task.home.0;
         sizes[t] = task.size.0 as u8;
         worsts[t] = task.worst.0;
-        bus[t] = flag_byte(buses[t]);
         t += 1;
     }
     Tasks {
@@ -94,7 +97,6 @@ fn tasks(p: Plan, buses: [bool; 256]) -> Tasks
         homes,
         sizes,
         worsts,
-        bus,
     }
 }
 
@@ -114,50 +116,131 @@ fn runs(p: Plan) -> [u32; ModeNo::MOST * TaskNo::MOST]
     runs
 }
 
-fn controls(t: Table) -> Controls
-    requires { ⌜ t .control ≤ mostNodes ⌝ }
-    ensures { λ r. ⌜ r ≡ controlsOf t ⌝ }
+fn controls(line: Line) -> Controls
+    requires { ⌜ line .controls ≤ mostNodes ⌝ }
+    ensures { λ r. ⌜ r ≡ controlsOf line ⌝ }
 {
-    let nodes = t.nodes;
-    let starts = t.begins;
-    let stops = t.ends;
+    let nodes = line.control_nodes;
+    let starts = line.control_starts;
+    let stops = line.control_stops;
     Controls {
-        count: t.control as u8,
+        count: line.controls as u8,
         nodes,
         starts,
         stops,
     }
 }
 
-// The station with all that it keeps, and nothing played.
-pub fn kept(p: Plan, t: Table) -> Station
+// By pair, when its row stops: the time of a message of its task behind the start.
+fn stops<'a>(
+    pairs: usize,
+    starts: &'a [u32; Frame::MOST],
+    tasks: &'a [u8; Frame::MOST],
+    times: &'a [u32; TaskNo::MOST],
+) -> [u32; Frame::MOST]
+    requires { ⌜ (pairs ≤ mostFrames) × StopsFit pairs (now starts) (now tasks) (now times) ⌝ }
+    ensures { λ r. ⌜ r ≡ byPair pairs (stopAt (now (starts .entry)) (now (tasks .entry)) (now (times .entry))) ⌝ }
+{
+    let mut stops: [u32; Frame::MOST] = [0; Frame::MOST];
+    let mut q = 0;
+    while q < pairs {
+        stops[q] = number_at(starts, q) + number_at(times, byte_at(tasks, q));
+        q += 1;
+    }
+    stops
+}
+
+// A period of 0, which is none, is not divided by.
+fn has_message<'a>(
+    runs: &'a [u32; ModeNo::MOST * TaskNo::MOST],
+    task: usize,
+    deadline: u32,
+    mode: usize,
+) -> bool
+    requires { ⌜ (task < 256) × (mode < mostModes) ⌝ }
+    ensures { λ r. ⌜ r ≡ hasMessage (now (runs .entry)) task deadline mode ⌝ }
+{
+    let period = number_at(runs, mode * TaskNo::MOST + task);
+    if 0 < period {
+        divides(period, deadline)
+    } else {
+        false
+    }
+}
+
+fn with_bit(bits: u32, set: bool) -> u32
+    requires { ⌜ bits < 2 ^ 31 ⌝ }
+    ensures { λ r. ⌜ r ≡ cond set 1 0 + 2 * bits ⌝ }
+{
+    if set { 1 + 2 * bits } else { 2 * bits }
+}
+
+// The modes that have the message of a pair, as bits, from the last mode down to the first.
+fn modes_with<'a>(runs: &'a [u32; ModeNo::MOST * TaskNo::MOST], task: usize, deadline: u32) -> u32
+    requires { ⌜ task < 256 ⌝ }
+    ensures { λ r. ⌜ r ≡ bitsOf (hasMessage (now (runs .entry)) task deadline) mostModes ⌝ }
+{
+    let mut bits = 0;
+    let mut left = ModeNo::MOST;
+    while 0 < left {
+        left -= 1;
+        bits = with_bit(bits, has_message(runs, task, deadline, left));
+    }
+    bits
+}
+
+fn pair_modes<'a>(
+    runs: &'a [u32; ModeNo::MOST * TaskNo::MOST],
+    pairs: usize,
+    tasks: &'a [u8; Frame::MOST],
+    deadlines: &'a [u32; Frame::MOST],
+) -> [u32; Frame::MOST]
+    requires { ⌜ pairs ≤ mostFrames ⌝ }
+    ensures { λ r. ⌜ r ≡ byPair pairs (modesAt (now (runs .entry)) (now (tasks .entry)) (now (deadlines .entry))) ⌝ }
+{
+    let mut modes: [u32; Frame::MOST] = [0; Frame::MOST];
+    let mut q = 0;
+    while q < pairs {
+        modes[q] = modes_with(runs, byte_at(tasks, q), number_at(deadlines, q));
+        q += 1;
+    }
+    modes
+}
+
+// The station with all that it keeps, and nothing played; `starts` are by pair those of the table.
+pub fn kept(p: Plan, line: Line, starts: [u32; Frame::MOST]) -> Station
     requires { ⌜ PlanKept (seen p) ⌝ }
-    requires { ⌜ (t .control ≤ mostNodes) × (t .rows ≤ mostFrames) ⌝ }
-    ensures { λ r. ⌜ r ≡ keptFrom (seen p) t ⌝ }
+    requires { ⌜ (line .controls ≤ mostNodes) × (line .frames ≤ mostFrames) ⌝ }
+    requires { ⌜ StopsFit (line .frames) starts (line .tasks) (line .times) ⌝ }
+    ensures { λ r. ⌜ r ≡ keptFrom (seen p) line starts ⌝ }
 {
     let senders = Senders::of(p);
     let sending = senders.modules;
-    let buses = senders.tasks;
     let runs = runs(p);
-    let row_tasks = t.tasks;
-    let row_deadlines = t.deadlines;
-    let row_starts = t.starts;
-    let row_stops = t.stops;
+    let pair_tasks = line.tasks;
+    let pair_deadlines = line.deadlines;
+    let times = line.times;
+    let pair_stops = stops(line.frames, &starts, &pair_tasks, &times);
+    let pair_modes = pair_modes(&runs, line.frames, &pair_tasks, &pair_deadlines);
+    let period = line.period;
     let zero = Station::not_begun();
     let play = zero.play;
     let nodes = zero.nodes;
     Station {
-        modules: modules(p, sending),
-        modes: modes(p),
-        tasks: tasks(p, buses),
-        controls: controls(t),
-        period: Ticks(t.header.period.0),
-        datas: t.rows as u16,
+        fixed: Fixed {
+            modules: modules(p, sending),
+            modes: modes(p),
+            tasks: tasks(p),
+            controls: controls(line),
+            period,
+            pairs: line.frames as u16,
+        },
         runs,
-        row_tasks,
-        row_deadlines,
-        row_starts,
-        row_stops,
+        pair_tasks,
+        pair_deadlines,
+        pair_starts: starts,
+        pair_stops,
+        pair_modes,
         play,
         nodes,
     }

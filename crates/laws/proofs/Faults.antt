@@ -1,7 +1,7 @@
 -- A `do` block of tests in order gives exactly the first fault of the rules that the tests mean.
 use mathlib.Core.Path.{_≡_, refl, sym, _∙_}
 use mathlib.Core.Bool.{Bool, true, false}
-use mathlib.Core.List.{List, [], _∷_}
+use mathlib.Core.List.{List, [], _∷_, _++_}
 use mathlib.Core.Option.{Option, none, some}
 use mathlib.Core.Logic.{inl, inr}
 use native.Mathlib.Nat.{not-suc-le-zero, le-of-suc-le-suc, add-zero}
@@ -141,23 +141,52 @@ module _ (number place : ℕ) {b : Bool} {P : Type 0} (means : Tests b P) where
         refused = λ n p f. once-broken n p (only-one (once number place P) n p f);
       }
 
--- ---- one rule, then others, which may lean on it
+-- ---- rules in order, then others, which may lean on them
 
-module _ {m rest : Res (Unit {0})} {r : Rule} {rs : List Rule} (first : Exact m (r ∷ [])) (others : IsKept r → Exact rest rs) where
-  then-refused-by : (n p : ℕ) → FirstFault (r ∷ rs) n p → _>>_ m rest ≡ refuse n p
-  then-refused-by n p (inl b) = then-refuse rest (first .refused n p (inl b))
-  then-refused-by n p (inr h) = then-ok rest (first .passes (h .0, tt)) ∙ others (h .0) .refused n p (h .1)
+module _ (ss : List Rule) where
+  kept-join : (rs : List Rule) → AllKept rs → AllKept ss → AllKept (rs ++ ss)
+  kept-join [] h k = k
+  kept-join (r ∷ rs) h k = (h .0, kept-join rs (h .1) k)
 
-  pub exact-then : Exact (_>>_ m rest) (r ∷ rs)
-  exact-then =
+  kept-first : (rs : List Rule) → AllKept (rs ++ ss) → AllKept rs
+  kept-first [] h = tt
+  kept-first (r ∷ rs) h = (h .0, kept-first rs (h .1))
+
+  kept-rest : (rs : List Rule) → AllKept (rs ++ ss) → AllKept ss
+  kept-rest [] h = h
+  kept-rest (r ∷ rs) h = kept-rest rs (h .1)
+
+  module _ (n p : ℕ) where
+    fault-first : (rs : List Rule) → FirstFault rs n p → FirstFault (rs ++ ss) n p
+    fault-first [] f = absurd f
+    fault-first (r ∷ rs) (inl b) = inl b
+    fault-first (r ∷ rs) (inr h) = inr (h .0, fault-first rs (h .1))
+
+    fault-rest : (rs : List Rule) → AllKept rs → FirstFault ss n p → FirstFault (rs ++ ss) n p
+    fault-rest [] h f = f
+    fault-rest (r ∷ rs) h f = inr (h .0, fault-rest rs (h .1) f)
+
+    fault-split : {C : Type 0} (rs : List Rule) → FirstFault (rs ++ ss) n p → (FirstFault rs n p → C) → (AllKept rs → FirstFault ss n p → C) → C
+    fault-split [] f first rest = rest tt f
+    fault-split (r ∷ rs) (inl b) first rest = first (inl b)
+    fault-split (r ∷ rs) (inr h) first rest = fault-split rs (h .1) (λ f. first (inr (h .0, f))) (λ k f. rest (h .0, k) f)
+
+module _ {m rest : Res (Unit {0})} (rs : List Rule) {ss : List Rule} (first : Exact m rs) (others : AllKept rs → Exact rest ss) where
+  pub exact-join : Exact (_>>_ m rest) (rs ++ ss)
+  exact-join =
       record {
-        says = λ e. then-case m rest e (λ u a b. let h = first .says a .0 in (h, others h .says b));
-        passes = λ h. then-ok rest (first .passes (h .0, tt)) ∙ others (h .0) .passes (h .1);
+        says = λ e. then-case m rest e (λ u a b. let h = first .says a in kept-join ss rs h (others h .says b));
+        passes = λ h. let k = kept-first ss rs h in then-ok rest (first .passes k) ∙ others k .passes (kept-rest ss rs h);
         refuses =
-            λ n p e. then-refused m rest e (λ a. inl (only-one r n p (first .refuses n p a)))
-            (λ u a b. let h = first .says a .0 in inr (h, others h .refuses n p b));
-        refused = then-refused-by;
+            λ n p e. then-refused m rest e (λ a. fault-first ss n p rs (first .refuses n p a))
+            (λ u a b. let h = first .says a in fault-rest ss n p rs h (others h .refuses n p b));
+        refused =
+            λ n p f. fault-split ss n p rs f (λ a. then-refuse rest (first .refused n p a))
+            (λ h a. then-ok rest (first .passes h) ∙ others h .refused n p a);
       }
+
+pub exact-then : {m rest : Res (Unit {0})} {r : Rule} {rs : List Rule} → Exact m (r ∷ []) → (IsKept r → Exact rest rs) → Exact (_>>_ m rest) (r ∷ rs)
+exact-then {r = r} first others = exact-join (r ∷ []) first (λ h. others (h .0))
 
 -- ---- a rule's number is given exactly where it is the first that is broken
 

@@ -16,4 +16,5 @@ pub mod Laid
 pub mod Arrays
 pub mod Turns
 pub mod Stores
+pub mod Sums
 pub mod Gather

@@ -10,7 +10,7 @@ use native.Mathlib.Omega.{arith}
 use lib.ListN.{length, getD, set, take, replicate, length-append}
 use lib.Seq.{take-suc}
 use Prim.Native.Nat.{ℕ, zero, suc, _+_, _≤_, _<_, zero-le, suc-le-suc}
-use Rattle.laws.specs.Lists.{consIf, keep, any, all, tab, upTo}
+use Rattle.laws.specs.Lists.{consIf, keep, any, all, tab, upTo, joined}
 use Rattle.laws.specs.Loops.{padTo}
 
 -- ---- passed and failed tests
@@ -33,6 +33,14 @@ both-right false b e = true-false (sym e)
 
 pub both : {a b : Bool} → a ≡ true → b ≡ true → (a && b) ≡ true
 both p q = rw (p, q)
+
+pub and-true : (b : Bool) → (b && true) ≡ b
+and-true true = refl
+and-true false = refl
+
+pub or-false : (b : Bool) → (b || false) ≡ b
+or-false true = refl
+or-false false = refl
 
 pub neither-left : (a b : Bool) → (a || b) ≡ false → a ≡ false
 neither-left true b e = e
@@ -105,11 +113,7 @@ module _ {A : Type 0} (p : A → Bool) where
       grouped false b c = refl
 
   pub any-snoc : (l : List A) (x : A) → any p (l ++ (x ∷ [])) ≡ (any p l || p x)
-  any-snoc l x = any-append l (x ∷ []) ∙ ap (λ (b : Bool). any p l || b) (last (p x))
-    where
-      last : (b : Bool) → (b || false) ≡ b
-      last true = refl
-      last false = refl
+  any-snoc l x = any-append l (x ∷ []) ∙ ap (λ (b : Bool). any p l || b) (or-false (p x))
 
   pub any-more : (l : List A) (i : ℕ) (d : A) → i < length l → any p (take (i + 1) l) ≡ (any p (take i l) || p (getD l i d))
   any-more l i d h = rw (take-more l i d h) (any-snoc (take i l) (getD l i d))
@@ -153,11 +157,7 @@ module _ {A : Type 0} (p : A → Bool) where
       grouped false b c = refl
 
   pub all-snoc : (l : List A) (x : A) → all p (l ++ (x ∷ [])) ≡ (all p l && p x)
-  all-snoc l x = all-append l (x ∷ []) ∙ ap (λ (b : Bool). all p l && b) (last (p x))
-    where
-      last : (b : Bool) → (b && true) ≡ b
-      last true = refl
-      last false = refl
+  all-snoc l x = all-append l (x ∷ []) ∙ ap (λ (b : Bool). all p l && b) (and-true (p x))
 
   pub all-more : (l : List A) (i : ℕ) (d : A) → i < length l → all p (take (i + 1) l) ≡ (all p (take i l) && p (getD l i d))
   all-more l i d h = rw (take-more l i d h) (all-snoc (take i l) (getD l i d))
@@ -185,6 +185,10 @@ module _ {A : Type 0} (p : A → Bool) where
   all-true (x ∷ l) d (suc i) e h = all-true l d i (both-right (p x) (all p l) e) (le-of-suc-le-suc h)
 
 -- a test of what was kept is a test asked only of what passes
+pub any-joined : {A B : Type 0} (p : B → Bool) (f : A → List B) (l : List A) → any p (joined (map f l)) ≡ any (λ x. any p (f x)) l
+any-joined p f [] = refl
+any-joined p f (x ∷ l) = any-append p (f x) (joined (map f l)) ∙ rw (any-joined p f l)
+
 pub all-keep : {A : Type 0} (q r : A → Bool) (l : List A) → all r (keep q l) ≡ all (λ x. cond (q x) (r x) true) l
 all-keep q r [] = refl
 all-keep {A} q r (x ∷ l) = one (q x) (keep q l) ∙ ap (λ (b : Bool). cond (q x) (r x) true && b) (all-keep q r l)
@@ -250,6 +254,13 @@ module _ (p : ℕ → Bool) where
     where
       here : (i : ℕ) × (i < length (upTo n)) × (p (getD (upTo n) i 0) ≡ true) → (k : ℕ) × (k < n) × (p k ≡ true)
       here t = let q : t .0 < n = rw (length-upTo n) at (t .1) in (t .0, q, rw (getD-upTo n (t .0) 0 q) at (t .2))
+
+  pub any-upTo-none : (n : ℕ) → ((k : ℕ) → k < n → p k ≡ false) → any p (upTo n) ≡ false
+  any-upTo-none n h = go (any p (upTo n)) refl
+    where
+      go : (b : Bool) → any p (upTo n) ≡ b → b ≡ false
+      go true e = let f = any-upTo-true n e in true-false (sym (f .2) ∙ h (f .0) (f .1))
+      go false e = refl
 
   pub all-upTo-more : (n : ℕ) → all p (upTo (n + 1)) ≡ (all p (upTo n) && p n)
   all-upTo-more n = rw (upTo-more n) (all-snoc p (upTo n) n)

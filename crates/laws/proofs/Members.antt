@@ -1,17 +1,17 @@
 -- Members: predicates on lists as data (each element; each two elements), membership, and how `keep`, `map` and `take` carry them.
 use mathlib.Core.Path.{_≡_, refl, sym, ap, _∙_, subst}
 use mathlib.Core.Bool.{Bool, true, false, not, _||_}
-use mathlib.Core.List.{List, [], _∷_, _++_, map, List·Memᴰ, List·Memᴰ·head, List·Memᴰ·tail, Memᴰ·cast}
+use mathlib.Core.List.{List, [], _∷_, _++_, map, List·Memᴰ, List·Memᴰ·head, List·Memᴰ·tail, List·Memᴰ·not-nil, Memᴰ·cast}
 use mathlib.Core.Option.{none}
 use mathlib.Core.Logic.{_⊎_, inl, inr}
 use native.Mathlib.Nat.{not-suc-le-zero, le-of-suc-le-suc, eq-or-lt-of-le}
 use native.Mathlib.Omega.{arith}
 use lib.Dec.{eqb}
-use lib.ListN.{length, getD}
+use lib.ListN.{length, getD, take}
 use borrow.Author.Tests.{eqb-true, eqb-false, ne-eqb, not-true}
 use Prim.Native.Nat.{ℕ, zero, suc, _+_, _≤_, _<_, zero-le, suc-le-suc}
 use Rattle.laws.specs.Lists.{consIf, keep, any, firstBad, joined, tab, upTo}
-use Rattle.laws.proofs.Lists.{true-false, keep-yes, keep-no, neither-left, neither-right}
+use Rattle.laws.proofs.Lists.{true-false, keep-yes, keep-no, neither-left, neither-right, length-upTo}
 use Rattle.laws.proofs.Loops.{firstBad-passes}
 
 module _ {A : Type 0} where
@@ -68,6 +68,11 @@ module _ {A : Type 0} where
     pub all-append : {l m : List A} → All P l → All P m → All P (l ++ m)
     all-append empty q = q
     all-append (also p r) q = also p (all-append r q)
+
+    pub all-take : (k : ℕ) {l : List A} → All P l → All P (take k l)
+    all-take zero h = empty
+    all-take (suc k) empty = empty
+    all-take (suc k) (also p r) = also p (all-take k r)
 
     all-consIf : (b : Bool) (x : A) {l : List A} → P x → All P l → All P (consIf b x l)
     all-consIf true x p r = also p r
@@ -167,6 +172,10 @@ module _ {A : Type 0} where
 
     pub pairs-tail : {x : A} {l : List A} → Pairs R (x ∷ l) → Pairs R l
     pairs-tail (before h r) = r
+
+    pub pairs-weaker : {S : A → A → Type 0} {l : List A} → ((x y : A) → R x y → S x y) → Pairs R l → Pairs S l
+    pairs-weaker f alone = alone
+    pairs-weaker f (before {x} h r) = before (all-weaker (f x) h) (pairs-weaker f r)
 
     pairs-consIf : (b : Bool) (x : A) {l : List A} → All (R x) l → Pairs R l → Pairs R (consIf b x l)
     pairs-consIf true x h r = before h r
@@ -292,3 +301,50 @@ pigeonhole n k {l} d a c w = look (any (eqb k) l) refl
         let others = all-weaker (λ j h. eqb-false k j h) (none-passes (eqb k) l e) in
         let many : suc (length l) ≤ n = few n (before others d) (also w a) in
         absurd (omega arith)
+
+-- ---- a list of n numbers that has each number below n has none twice
+
+still-there : (x k : ℕ) {l : List ℕ} → isNot x k ≡ true → List·Memᴰ k (x ∷ l) → List·Memᴰ k l
+still-there x k e (List·Memᴰ·head q) = absurd (eqb-false k x (not-true (eqb k x) e) q)
+still-there x k e (List·Memᴰ·tail m) = m
+
+-- l has every number of m
+abbrev Covers : List ℕ → List ℕ → Type 0
+Covers l m = (k : ℕ) → List·Memᴰ k m → List·Memᴰ k l
+
+covers-others : (x : ℕ) (m : List ℕ) {l : List ℕ} → Covers (x ∷ l) m → Covers l (keep (isNot x) m)
+covers-others x m c k i = still-there x k (all-member (keep-passes (isNot x) m) i) (c k (keep-from (isNot x) m i))
+
+covers-again : (x : ℕ) {m l : List ℕ} → List·Memᴰ x l → Covers (x ∷ l) m → Covers l m
+covers-again x {m} {l} i c k j = behind (c k j)
+  where
+    behind : List·Memᴰ k (x ∷ l) → List·Memᴰ k l
+    behind (List·Memᴰ·head e) = Memᴰ·cast e i
+    behind (List·Memᴰ·tail t) = t
+
+covering-long : (m l : List ℕ) → Pairs Differ m → Covers l m → length m ≤ length l
+covering-long [] [] d c = zero-le
+covering-long (k ∷ m) [] d c = absurd (List·Memᴰ·not-nil (c k (List·Memᴰ·head refl)))
+covering-long m (x ∷ l) d c =
+    omega (arith, one-less x d, covering-long (keep (isNot x) m) l (pairs-keep (isNot x) d) (covers-others x m c))
+
+covering-once : (m l : List ℕ) → Pairs Differ m → Covers l m → length l ≤ length m → Pairs Differ l
+covering-once m [] d c h = alone
+covering-once m (x ∷ l) d c h =
+    before (first (any (eqb x) l) refl)
+    (covering-once (keep (isNot x) m) l (pairs-keep (isNot x) d) (covers-others x m c) (omega (arith, one-less x d, h)))
+  where
+    first : (b : Bool) → any (eqb x) l ≡ b → All (Differ x) l
+    first true e =
+        let f = any-member (eqb x) l e in
+        let i : List·Memᴰ x l = Memᴰ·cast (eqb-true x (f .one) (f .passes)) (f .among) in
+        absurd (omega (arith, covering-long m l d (covers-again x i c), h))
+    first false e = all-weaker (λ j q. eqb-false x j q) (none-passes (eqb x) l e)
+
+tab-differ : (lo n : ℕ) → Pairs Differ (tab (λ k. k) lo n)
+tab-differ lo zero = alone
+tab-differ lo (suc n) = before {x = lo} (all-tab {P = Differ lo} (λ k. k) (suc lo) n (λ k a b. omega arith)) (tab-differ (suc lo) n)
+
+pub each-once : (n : ℕ) (l : List ℕ) → ((k : ℕ) → k < n → List·Memᴰ k l) → length l ≡ n → Pairs Differ l
+each-once n l c h =
+    covering-once (upTo n) l (tab-differ 0 n) (λ k i. c k (all-member (all-upTo n) i)) (omega (arith, h, length-upTo n))

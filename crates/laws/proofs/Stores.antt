@@ -1,4 +1,4 @@
--- Stores: arrays filled by rules that agree, by a rule that changes nothing, by a rule that changes one place.
+-- Stores: arrays filled by rules that agree, by a rule that changes nothing, by a rule that changes one place, and filled anew.
 use mathlib.Core.Path.{_≡_, refl, sym, ap, _∙_}
 use mathlib.Core.Bool.{Bool, true, false, cond}
 use mathlib.Core.List.{List}
@@ -49,3 +49,22 @@ module _ {A : Type 0} (old : List A) where
           let u : i < length old = rw (length-set old t v) at w in
           let m : i < n = omega arith in
           changed i (eqb t i) refl u ∙ sym (h i m) ∙ sym (stores-at old f n i d m (omega arith))
+
+-- ---- a place for each number below n
+
+module _ {A : Type 0} (d : A) (n : ℕ) (old : List A) (size : length old ≡ n) where
+  -- what the places held before does not matter
+  pub stores-anew : (f : ℕ → A) (a : List A) → length a ≡ n → stores a f n ≡ stores old f n
+  stores-anew f a e =
+      ext-getD d (stores a f n) (stores old f n) (length-stores a f n ∙ e ∙ sym (length-stores old f n ∙ size))
+      (λ k w. let v : k < n = omega (arith, length-stores a f n) in
+      stores-at a f n k d v (omega arith) ∙ sym (stores-at old f n k d v (omega arith)))
+
+  -- one place changed
+  pub stores-changed : (f g : ℕ → A) {a : List A} (t : ℕ) (v : A) → a ≡ stores old f n → ((k : ℕ) → k < n → g k ≡ cond (eqb t k) v (f k))
+      → set a t v ≡ stores old g n
+  stores-changed f g {a} t v e h =
+      let long : length a ≡ n = ap (λ (l : List A). length l) e ∙ length-stores old f n ∙ size in
+      stores-one a g n t v d long
+      (λ k w. h k w ∙ ap (λ (x : A). cond (eqb t k) v x) (sym (stores-within old f n d size e k w)))
+      ∙ stores-anew g a long

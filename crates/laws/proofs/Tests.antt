@@ -1,8 +1,8 @@
 -- A test and what it means, both ways at once; and a step that is accepted exactly when something holds. With these the checker is
 -- shown exact in one line for each rule.
-use mathlib.Core.Path.{_≡_, refl, sym}
+use mathlib.Core.Path.{_≡_, refl, sym, subst}
 use mathlib.Core.Bool.{Bool, true, false, cond, not, _&&_, _||_}
-use mathlib.Core.List.{List}
+use mathlib.Core.List.{List, [], _∷_, List·Memᴰ, List·Memᴰ·head, List·Memᴰ·tail, List·Memᴰ·not-nil}
 use native.Mathlib.Nat.{mod-eq-zero-of-dvd, dvd-of-mod-eq-zero}
 use borrow.Author.Tests.{leb-true, ltb-true, eqb-true, le-leb, lt-ltb, eq-eqb}
 use lib.Dec.{leb, ltb, eqb}
@@ -12,6 +12,7 @@ use Rattle.laws.specs.Lists.{keep, any, all, upTo}
 use Rattle.laws.specs.Numbers.{divides}
 use Rattle.laws.specs.Res.{Res, ok}
 use Rattle.laws.proofs.Lists.{true-false, both-left, both-right, any-hit, any-true, all-each, all-true, all-upTo-each, all-upTo-true, any-upTo-hit, any-upTo-true, all-keep}
+use Rattle.laws.proofs.Members.{any-member, any-among}
 
 pub record Tests (b : Bool) (P : Type 0) : Type 0 where
   pub says : b ≡ true → P
@@ -97,6 +98,26 @@ module _ {A : Type 0} {P : ℕ → Type 0} (p : A → Bool) (l : List A) (d : A)
 
   pub by-all : ((k : ℕ) → k < length l → Tests (p (getD l k d)) (P k)) → Tests (all p l) ((k : ℕ) → k < length l → P k)
   by-all t = record { says = λ e k w. t k w .says (all-true p l d k e w); passes = λ h. all-each p l d (λ k w. t k w .passes (h k w)) }
+
+-- ---- over the members of a list
+
+module _ {A : Type 0} {P : A → Type 0} (p : A → Bool) where
+  at-each : {x : A} {l : List A} → P x → ((y : A) → List·Memᴰ y l → P y) → (y : A) → List·Memᴰ y (x ∷ l) → P y
+  at-each here later y (List·Memᴰ·head e) = subst P (sym e) here
+  at-each here later y (List·Memᴰ·tail m) = later y m
+
+  pub by-each : (l : List A) → ((x : A) → Tests (p x) (P x)) → Tests (all p l) ((x : A) → List·Memᴰ x l → P x)
+  by-each [] t = record { says = λ e x m. absurd (List·Memᴰ·not-nil m); passes = λ h. refl }
+  by-each (x ∷ l) t =
+      by-iff (by-and (t x) (by-each l t)) (λ h. at-each (h .0) (h .1))
+      (λ h. (h x (List·Memᴰ·head refl), λ y m. h y (List·Memᴰ·tail m)))
+
+  pub by-some : (l : List A) → ((x : A) → Tests (p x) (P x)) → Tests (any p l) ((x : A) × List·Memᴰ x l × P x)
+  by-some l t =
+      record {
+        says = λ e. let f = any-member p l e in (f .one, f .among, t (f .one) .says (f .passes));
+        passes = λ h. any-among p (h .1) (t (h .0) .passes (h .2));
+      }
 
 -- the elements that were kept, by their places in the whole list
 pub by-all-keep : {A : Type 0} {P Q : ℕ → Type 0} (q r : A → Bool) (l : List A) (d : A)

@@ -2,7 +2,7 @@
 use mathlib.Core.Bool.{Bool}
 use mathlib.Core.List.{List, [], _∷_}
 use lib.Dec.{eqb}
-use Prim.Native.Nat.{ℕ, zero, suc, _+_, _*_, _-_, _/_, _%_}
+use Prim.Native.Nat.{ℕ, zero, suc, _+_, _*_, _-_, _/_, _%_, max}
 
 -- a divides b (0 divides 0 alone)
 abbrev pub divides : ℕ → ℕ → Bool
@@ -42,3 +42,12 @@ number (b ∷ bs) = b + 256 * number bs
 abbrev pub bytes : ℕ → ℕ → List ℕ
 bytes zero x = []
 bytes (suc w) x = x % 256 ∷ bytes w (x / 256)
+
+-- all numbers of a list together, and the greatest of them (of none 0)
+abbrev pub sum : List ℕ → ℕ
+sum [] = 0
+sum (x ∷ xs) = x + sum xs
+
+abbrev pub greatest : List ℕ → ℕ
+greatest [] = 0
+greatest (x ∷ xs) = max x (greatest xs)

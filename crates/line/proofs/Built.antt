@@ -3,10 +3,12 @@ use mathlib.Core.Path.{_≡_}
 use mathlib.Core.List.{List}
 use native.Mathlib.Omega.{arith}
 use lib.ListN.{length}
-use Prim.Native.Nat.{ℕ, _≤_, min}
+use Prim.Native.Nat.{suc, ℕ, _≤_, min}
+use Rattle.rules.specs.Limits.{mostFrames}
 use Rattle.laws.specs.Lists.{tab}
 use Rattle.rules.specs.Plan.{Plan}
-use Rattle.rules.specs.Frames.{layoutOf, controlRows, controlEnd, busPeriod, gapTime}
+use Rattle.rules.specs.Traffic.{busPeriod, basic}
+use Rattle.rules.specs.Frames.{layoutOf, controlRows, controlEnd, gapTime}
 use Rattle.rules.specs.Frames as rules
 use Rattle.control.specs.declared.Control.{Control}
 use Rattle.control.specs.Control.{controlLaid, column}
@@ -19,7 +21,7 @@ use Rattle.payloads.specs.Tests.{taskTime}
 
 pub line-is : (p : Plan) {period gap floor : ℕ} {time : List ℕ} {control : Control} {f : Frames}
     → period ≡ busPeriod p → gap ≡ gapTime (p .bus) → floor ≡ controlEnd p → time ≡ tab (taskTime p) 0 32
-    → control ≡ controlLaid (controlRows p) → f ≡ framesLaid (rules.frames p) → length (rules.frames p) ≤ 256
+    → control ≡ controlLaid (controlRows p) → f ≡ framesLaid (rules.pairs p) → length (rules.pairs p) ≤ mostFrames
     → _≡_ {A = Line}
     (record {
       period = record { 0 = period };
@@ -36,8 +38,8 @@ pub line-is : (p : Plan) {period gap floor : ℕ} {time : List ℕ} {control : C
       releases = f .releases;
       deadlines = f .deadlines;
     })
-    (lineOf (layoutOf p))
-unfolding lineOf layoutOf framesLaid frames.column controlLaid
+    (lineOf p)
+unfolding lineOf layoutOf rules.pairs basic framesLaid frames.column controlLaid
 line-is p e₁ e₂ e₃ e₄ c q few =
-    let m : min 257 (length (rules.frames p)) ≡ length (rules.frames p) = omega arith in
+    let m : min (suc mostFrames) (length (rules.pairs p)) ≡ length (rules.pairs p) = omega arith in
     rw (e₁, e₂, e₃, e₄, c, q, m)

@@ -12,14 +12,15 @@ use Rattle.laws.specs.Numbers.{divides}
 use Rattle.laws.proofs.Lists.{any-upTo-more, getD-tab}
 use Rattle.laws.proofs.Members.{all-getD}
 use Rattle.rules.specs.Plan.{Plan, noMode, theMode}
-use Rattle.rules.specs.Frames.{isBusTask, someBusTask, busPeriod, busRuns, periodOfRuns, switchGrid, layout}
+use Rattle.rules.specs.Traffic.{isBusTask, busPeriod, busRuns, periodOfRuns, switchGrid, basic}
+use Rattle.rules.specs.Frames.{someBusTask, layout}
 use Rattle.rules.proofs.PlanKept.{PlanKept}
 use Rattle.rules.proofs.LaidOut.{sending-mode}
 use Rattle.rules.proofs.Period.{switch-grid}
 use Rattle.bus.specs.Senders.{byNumber}
-use Rattle.cycle.specs.declared.runs.Runs.{Runs}
-use Rattle.cycle.specs.Runs.{runsLaid, runsSeen}
-use Rattle.cycle.proofs.Columns.{laid-seen}
+use Rattle.bus.specs.declared.runs.Runs.{Runs}
+use Rattle.bus.specs.Runs.{runsLaid, runsSeen}
+use Rattle.bus.proofs.Columns.{laid-seen}
 use Rattle.frames.proofs.FairRuns.{few-runs}
 use Rattle.payloads.specs.Tests.{flagAt}
 use Rattle.line.specs.Laying.{framing, closing}
@@ -60,17 +61,17 @@ module _ (p : Plan) (k : PlanKept p) where
     divides-eight period resolution b q r e = sym (e ∙ rw (r, q, period-is))
 
 pub six : (p : Plan) → someBusTask p ≡ false → layout p ≡ refuse 6 0
-unfolding layout
+unfolding layout basic
 six p e = rw e
 
 pub seven : (p : Plan) → someBusTask p ≡ true → divides (busPeriod p) (switchGrid p) ≡ false → layout p ≡ refuse 7 0
-unfolding layout
+unfolding layout basic
 seven p e f = rw (e, f)
 
 pub eight : (p : Plan) → someBusTask p ≡ true → divides (busPeriod p) (switchGrid p) ≡ true → divides (p .bus .resolution) (busPeriod p) ≡ false → layout p ≡ refuse 8 0
-unfolding layout
+unfolding layout basic
 eight p e f g = rw (e, f, g)
 
 pub past-eight : (p : Plan) → someBusTask p ≡ true → divides (busPeriod p) (switchGrid p) ≡ true → divides (p .bus .resolution) (busPeriod p) ≡ true → layout p ≡ framing p
-unfolding layout framing closing
+unfolding layout framing closing basic
 past-eight p e f g = rw (e, f, g)

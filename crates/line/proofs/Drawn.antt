@@ -1,69 +1,74 @@
--- The arrays of a line stand for its layout: the frames, their order, their times, the control rows.
-use mathlib.Core.Path.{_≡_, refl, _∙_, subst}
-use mathlib.Core.List.{List}
+-- The arrays of a line stand for its plan's layout: the frames, their order, their times, the control rows.
+use mathlib.Core.Path.{_≡_, refl, sym, ap, _∙_}
+use mathlib.Core.List.{List, List·Memᴰ}
 use native.Mathlib.Nat.{zero-add}
 use native.Mathlib.Omega.{arith}
 use lib.ListN.{length, getD}
 use Prim.Native.Nat.{ℕ, _≤_, _<_}
+use Rattle.rules.specs.Limits.{mostFrames}
 use Rattle.laws.specs.Res.{ok}
 use Rattle.laws.specs.Lists.{tab}
 use Rattle.laws.proofs.Lists.{getD-tab}
 use Rattle.laws.proofs.Arrays.{tab-list, getD-laid}
-use Rattle.laws.proofs.Members.{All, Pairs, all-weaker}
+use Rattle.laws.proofs.Members.{All, Pairs, all-weaker, all-member}
 use Rattle.rules.specs.Plan.{Plan, readPlan}
-use Rattle.rules.specs.Frames.{Frame, ControlRow, noControlRow, Layout, layout, layoutOf}
-use Rattle.rules.specs.LatestRelease.{noFrame}
+use Rattle.rules.specs.Frames.{Pair, pairs, ControlRow, noControlRow, Layout, layout, layoutOf}
+use Rattle.rules.specs.LatestRelease.{noPair, timeAlone}
 use Rattle.rules.proofs.PlanKept.{PlanKept, readable-kept}
-use Rattle.rules.proofs.LaidOut.{LaidOut, laid-out, frames-kept, control-count}
-use Rattle.rules.proofs.FramesOf.{Before, plan-frames}
+use Rattle.rules.proofs.LaidOut.{LaidOut, laid-out, pairs-kept, control-count}
+use Rattle.rules.proofs.Payload.{time-alone}
+use Rattle.rules.proofs.PairsOf.{Before, plan-pairs}
 use Rattle.control.specs.Control.{nodeOf, startOf, stopOf}
 use Rattle.line.specs.Line.{lineOf, taskOf, releaseOf, deadlineOf}
 use Rattle.payloads.specs.Tests.{taskTime}
 
--- What holds of a layout that comes from a plan that was read.
-pub record Drawn (l : Layout) : Type 0 where
-  pub few : length (l .frames) ≤ 256
-  pub sorted : Pairs Before (l .frames)
-  pub tasks : All (λ f. f .task < 32) (l .frames)
-  pub controls : length (l .control) ≤ 8
+-- What holds of the layout of a plan that was read and laid out.
+pub record Drawn (p : Plan) : Type 0 where
+  pub kept : PlanKept p
+  pub few : length (pairs p) ≤ mostFrames
+  pub sorted : Pairs Before (pairs p)
+  pub tasks : All (λ f. f .task < 32) (pairs p)
+  pub controls : length (layoutOf p .control) ≤ 8
 
-pub drawn : (file : List ℕ) (p : Plan) (l : Layout) → readPlan file ≡ ok p → layout p ≡ ok l → Drawn l
-unfolding layoutOf
+pub drawn : (file : List ℕ) (p : Plan) (l : Layout) → readPlan file ≡ ok p → layout p ≡ ok l → Drawn p
+unfolding layoutOf pairs
 drawn file p l r e =
     let kept : PlanKept p = readable-kept file p r in
     let laid : LaidOut p l = laid-out p l e in
-    subst Drawn (laid .is)
-    (record {
+    record {
+      kept = kept;
       few = laid .few;
-      sorted = plan-frames p .sorted;
-      tasks = all-weaker (λ f h. omega (arith, h .task, kept .taskCount .most)) (frames-kept p kept);
+      sorted = plan-pairs p .sorted;
+      tasks = all-weaker (λ f h. omega (arith, h .task, kept .taskCount .most)) (pairs-kept p kept);
       controls = omega (arith, control-count p, kept .nodeCount .most);
-    })
+    }
 
--- a frame and a control row, read off the arrays of a line
-unfoldable pub frameOf : Layout → ℕ → Frame
-frameOf l k = record { task = getD (lineOf l .tasks) k 0; release = getD (lineOf l .releases) k 0; deadline = getD (lineOf l .deadlines) k 0 }
+-- a pair and a control row, read off the arrays of a line
+unfoldable pub frameOf : Plan → ℕ → Pair
+frameOf p k = record { task = getD (lineOf p .tasks) k 0; release = getD (lineOf p .releases) k 0; deadline = getD (lineOf p .deadlines) k 0 }
 
-unfoldable pub controlOf : Layout → ℕ → ControlRow
-controlOf l k = record { node = getD (lineOf l .«control_nodes») k 0; start = getD (lineOf l .«control_starts») k 0; stop = getD (lineOf l .«control_stops») k 0 }
+unfoldable pub controlOf : Plan → ℕ → ControlRow
+controlOf p k = record { node = getD (lineOf p .«control_nodes») k 0; start = getD (lineOf p .«control_starts») k 0; stop = getD (lineOf p .«control_stops») k 0 }
 
-module _ (l : Layout) (d : Drawn l) where
-  pub frame-drawn : (k : ℕ) → k < length (l .frames) → frameOf l k ≡ getD (l .frames) k noFrame
-  unfolding frameOf lineOf
+module _ (p : Plan) (d : Drawn p) where
+  pub frame-drawn : (k : ℕ) → k < length (pairs p) → frameOf p k ≡ getD (pairs p) k noPair
+  unfolding frameOf lineOf layoutOf pairs
   frame-drawn k h =
-      let w : k < 256 = omega (arith, d .few) in
-      rw (getD-laid taskOf (l .frames) noFrame 256 k refl w, getD-laid releaseOf (l .frames) noFrame 256 k refl w, getD-laid deadlineOf (l .frames) noFrame 256 k refl w)
+      let w : k < mostFrames = omega (arith, d .few) in
+      rw (getD-laid taskOf (pairs p) noPair mostFrames k refl w, getD-laid releaseOf (pairs p) noPair mostFrames k refl w, getD-laid deadlineOf (pairs p) noPair mostFrames k refl w)
 
-  pub frames-drawn : tab (frameOf l) 0 (length (l .frames)) ≡ l .frames
-  frames-drawn = tab-list (frameOf l) (l .frames) noFrame (length (l .frames)) refl frame-drawn
+  pub frames-drawn : tab (frameOf p) 0 (length (pairs p)) ≡ pairs p
+  frames-drawn = tab-list (frameOf p) (pairs p) noPair (length (pairs p)) refl frame-drawn
 
-  pub controls-drawn : tab (controlOf l) 0 (length (l .control)) ≡ l .control
+  pub controls-drawn : tab (controlOf p) 0 (length (layoutOf p .control)) ≡ layoutOf p .control
   unfolding controlOf lineOf
   controls-drawn =
-      tab-list (controlOf l) (l .control) noControlRow (length (l .control)) refl λ k h.
+      tab-list (controlOf p) (layoutOf p .control) noControlRow (length (layoutOf p .control)) refl λ k h.
       let w : k < 8 = omega (arith, d .controls) in
-      rw (getD-laid nodeOf (l .control) noControlRow 8 k refl w, getD-laid startOf (l .control) noControlRow 8 k refl w, getD-laid stopOf (l .control) noControlRow 8 k refl w)
+      rw (getD-laid nodeOf (layoutOf p .control) noControlRow 8 k refl w, getD-laid startOf (layoutOf p .control) noControlRow 8 k refl w, getD-laid stopOf (layoutOf p .control) noControlRow 8 k refl w)
 
-  pub time-drawn : (f : Frame) → f .task < 32 → getD (lineOf l .times) (f .task) 0 ≡ taskTime (l .plan) (f .task)
-  unfolding lineOf
-  time-drawn f h = getD-tab (taskTime (l .plan)) 0 32 (f .task) 0 h ∙ rw zero-add
+  -- the time of a task's message is that of a row with one of its pairs
+  pub time-drawn : (f : Pair) → List·Memᴰ f (pairs p) → getD (lineOf p .times) (f .task) 0 ≡ timeAlone (layoutOf p) f
+  unfolding lineOf taskTime
+  time-drawn f m =
+      getD-tab (taskTime p) 0 32 (f .task) 0 (all-member (d .tasks) m) ∙ ap (taskTime p) (zero-add (f .task)) ∙ sym (time-alone p (d .kept) f m)

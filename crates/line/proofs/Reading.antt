@@ -5,7 +5,6 @@ use Prim.Native.Nat.{ℕ}
 use Rattle.laws.specs.Res.{Res, ok, refuse}
 use Rattle.laws.proofs.Res.{refuse≢ok, refuse-number, refuse-place}
 use Rattle.rules.specs.Plan.{Plan, readPlan}
-use Rattle.rules.specs.Frames.{layout}
 use Rattle.rules.proofs.PlanKept.{PlanKept, readable-kept}
 use Rattle.plan.specs.Memory.{seen}
 use Rattle.plan.proofs.Laid.{read-seen}
@@ -17,8 +16,8 @@ use Rattle.planrules.specs.Reading.{Reads, verdict}
 use Rattle.line.specs.declared.Laid.{Laid}
 use Rattle.answers.specs.declared.Verdict.the-variants as line
 use Rattle.line.specs.Line.{noLine}
-use Rattle.line.specs.Laying.{Lays, fileLaid}
-use Rattle.line.proofs.Ways.{lays-refused}
+use Rattle.line.specs.Laying.{Lays, laid, fileLaid}
+use Rattle.line.proofs.Ways.{lays-as}
 
 verdict-ok : {C : Type 0} (rule : Res Plan) → verdict rule ≡ ok tt → ((p : Plan) → rule ≡ ok p → C) → C
 verdict-ok (ok p) e go = go p refl
@@ -34,7 +33,7 @@ module _ (file : List ℕ) (r : Reading) (h : Reads r (readPlan file)) where
       verdict-ok (readPlan file) (rw (← h .answered, e)) λ p q.
       rw (h .left, q, read-seen file p q) (readable-kept file p q)
 
-  pub sound-laid : (x : Laid) → r .answer ≡ Fine → Lays x (layout (seen (r .plan))) → Lays x (fileLaid file)
+  pub sound-laid : (x : Laid) → r .answer ≡ Fine → Lays x (laid (seen (r .plan))) → Lays x (fileLaid file)
   unfolding fileLaid
   sound-laid x e l =
       verdict-ok (readPlan file) (rw (← h .answered, e)) λ p q.
@@ -44,5 +43,5 @@ module _ (file : List ℕ) (r : Reading) (h : Reads r (readPlan file)) where
   pub refused-laid : (x : Laid) (why : Refusal) → r .answer ≡ Refused why → x ≡ record { answer = line.Refused why; line = noLine } → Lays x (fileLaid file)
   unfolding fileLaid
   refused-laid x why e q =
-      lays-refused why x (fileLaid file) q
+      lays-as why x (fileLaid file) q
       (let n : readPlan file ≡ said why = verdict-refused (numberOf why) (placeOf why) (readPlan file) (rw (← h .answered, e)) in rw n)

@@ -12,7 +12,8 @@ use Rattle.laws.specs.Res.{Res, ok, refuse}
 use Rattle.laws.specs.Lists.{all, upTo}
 use Rattle.laws.proofs.Lists.{all-keep, all-upTo-more, getD-tab}
 use Rattle.rules.specs.Plan.{Plan}
-use Rattle.rules.specs.Frames.{Layout, layout, layoutOf, isBusTask, busTasks, messageFits, controlFits, controlPayload, isSendingNode, sendingNodes, payloadsFit, controlEnd, busPeriod}
+use Rattle.rules.specs.Traffic.{isBusTask, busTasks, controlPayload, isSendingNode, sendingNodes, busPeriod}
+use Rattle.rules.specs.Frames.{layout, layoutOf, messageFits, controlFits, payloadsFit, controlEnd}
 use Rattle.answers.specs.declared.Refusal.{Refusal}
 use Rattle.answers.specs.Refusals.{said}
 use Rattle.bus.specs.Senders.{byNumber}
@@ -20,13 +21,18 @@ use Rattle.answers.specs.declared.Verdict.the-variants.{Fine, Refused}
 use Rattle.line.specs.declared.Laid.{Laid}
 use Rattle.line.specs.Line.{noLine, lineOf}
 use Rattle.payloads.specs.Tests.{flagAt, messageKeeps, payloadKeeps}
-use Rattle.line.specs.Laying.{Lays, closing}
+use Rattle.line.specs.Laying.{Lays, laid, closing}
 
-pub lays-refused : (x : Refusal) (r : Laid) (rule : Res Layout) → r ≡ record { answer = Refused x; line = noLine } → rule ≡ said x → Lays r rule
-lays-refused x r rule e q = record { answered = rw (e, q); left = rw (e, q) }
+pub lays-as : (x : Refusal) (r : Laid) (rule : Res Plan) → r ≡ record { answer = Refused x; line = noLine } → rule ≡ said x → Lays r rule
+lays-as x r rule e q = record { answered = rw (e, q); left = rw (e, q) }
 
-pub lays-sound : (l : Layout) (r : Laid) (rule : Res Layout) → r ≡ record { answer = Fine; line = lineOf l } → rule ≡ ok l → Lays r rule
-lays-sound l r rule e q = record { answered = rw (e, q); left = rw (e, q) }
+pub lays-refused : (x : Refusal) (r : Laid) (p : Plan) → r ≡ record { answer = Refused x; line = noLine } → layout p ≡ said x → Lays r (laid p)
+unfolding laid
+lays-refused x r p e q = lays-as x r (laid p) e (rw q)
+
+pub lays-sound : (p : Plan) (r : Laid) → r ≡ record { answer = Fine; line = lineOf p } → layout p ≡ ok (layoutOf p) → Lays r (laid p)
+unfolding laid
+lays-sound p r e q = record { answered = rw (e, q); left = rw (e, q) }
 
 all-same : (p q : ℕ → Bool) (n : ℕ) → ((k : ℕ) → k < n → p k ≡ q k) → all p (upTo n) ≡ all q (upTo n)
 all-same p q zero h = refl

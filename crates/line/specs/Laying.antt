@@ -7,19 +7,20 @@ use mathlib.Core.List.{List}
 use Prim.Native.Nat.{ℕ}
 use Rattle.rules.specs.Plan.{Plan, readPlan}
 use Rattle.rules.specs.Limits.{mostFrames}
-use Rattle.rules.specs.Frames.{Layout, layout, layoutOf, frames, payloadsFit, controlEnd, busPeriod}
+use Rattle.rules.specs.Traffic.{busPeriod}
+use Rattle.rules.specs.Frames.{Layout, layout, layoutOf, pairs, payloadsFit, controlEnd}
 use Rattle.answers.specs.Refusals.{said, heard}
 use Rattle.answers.specs.declared.Verdict.{Verdict}
 use Rattle.answers.specs.declared.Verdict.the-variants.{Fine, Refused}
 use Rattle.line.specs.declared.Laid.{Laid}
 use Rattle.line.specs.Line.{lineFor}
 
-abbrev pub verdict : Res Layout → Res (Unit {0})
-verdict (ok l) = ok tt
+abbrev pub verdict : Res Plan → Res (Unit {0})
+verdict (ok p) = ok tt
 verdict (refuse n p) = refuse n p
 
 -- Laying out says what the rules say: the same number and place, or the line.
-pub record Lays (r : Laid) (rule : Res Layout) : Type 0 where
+pub record Lays (r : Laid) (rule : Res Plan) : Type 0 where
   pub answered : heard (r .answer) ≡ verdict rule
   pub left : r .line ≡ lineFor rule
 
@@ -33,11 +34,17 @@ closing p = do
 -- refusals 9 to 11, where 6 to 8 do not apply
 unfoldable pub framing : Plan → Res Layout
 framing p = do
-  unless 9 0 (leb (length (frames p)) mostFrames)
+  unless 9 0 (leb (length (pairs p)) mostFrames)
   closing p
 
+-- refusals 6 to 11 of a plan, and otherwise the plan, whose layout is then `layoutOf` it
+unfoldable pub laid : Plan → Res Plan
+laid p = do
+  layout p
+  ok p
+
 -- refusals 1 to 11 of a plan file
-unfoldable pub fileLaid : List ℕ → Res Layout
+unfoldable pub fileLaid : List ℕ → Res Plan
 fileLaid file = do
   p ← readPlan file
-  layout p
+  laid p

@@ -1,4 +1,4 @@
--- How a layout stands in arrays.
+-- How the layout of a plan stands in arrays.
 use mathlib.Core.List.{map}
 use lib.ListN.{length, replicate}
 use Prim.Native.Nat.{ℕ}
@@ -6,37 +6,39 @@ use Rattle.laws.specs.Res.{Res, ok, refuse}
 use Rattle.laws.specs.Lists.{tab}
 use Rattle.laws.specs.Loops.{padTo}
 use Rattle.rules.specs.Limits.{mostFrames, mostNodes, mostTasks}
-use Rattle.rules.specs.Frames.{Frame, Layout, gapTime}
+use Rattle.rules.specs.Plan.{Plan}
+use Rattle.rules.specs.Frames.{Pair, layoutOf}
 use Rattle.control.specs.Control.{nodeOf, startOf, stopOf, column}
 use Rattle.payloads.specs.Tests.{taskTime}
 use Rattle.line.specs.declared.Line.{Line}
 
-abbrev pub taskOf : Frame → ℕ
+abbrev pub taskOf : Pair → ℕ
 taskOf f = f .task
 
-abbrev pub releaseOf : Frame → ℕ
+abbrev pub releaseOf : Pair → ℕ
 releaseOf f = f .release
 
-abbrev pub deadlineOf : Frame → ℕ
+abbrev pub deadlineOf : Pair → ℕ
 deadlineOf f = f .deadline
 
--- a layout laid into arrays, zeros behind
-unfoldable pub lineOf : Layout → Line
-lineOf l =
+-- a plan's layout laid into arrays, zeros behind; of the time that a row takes, that of a row with one pair, by its task
+unfoldable pub lineOf : Plan → Line
+lineOf p =
+    let l = layoutOf p in
     record {
       period = record { 0 = l .period };
-      resolution = record { 0 = l .plan .bus .resolution };
-      gap = record { 0 = gapTime (l .plan .bus) };
-      floor = record { 0 = l .afterControl };
-      times = tab (taskTime (l .plan)) 0 mostTasks;
+      resolution = record { 0 = l .grid };
+      gap = record { 0 = l .gap };
+      floor = record { 0 = l .floor };
+      times = tab (taskTime p) 0 mostTasks;
       controls = length (l .control);
       «control_nodes» = column nodeOf (l .control);
       «control_starts» = column startOf (l .control);
       «control_stops» = column stopOf (l .control);
-      frames = length (l .frames);
-      tasks = padTo mostFrames 0 (map taskOf (l .frames));
-      releases = padTo mostFrames 0 (map releaseOf (l .frames));
-      deadlines = padTo mostFrames 0 (map deadlineOf (l .frames));
+      frames = length (l .pairs);
+      tasks = padTo mostFrames 0 (map taskOf (l .pairs));
+      releases = padTo mostFrames 0 (map releaseOf (l .pairs));
+      deadlines = padTo mostFrames 0 (map deadlineOf (l .pairs));
     }
 
 -- the line of no plan
@@ -59,6 +61,6 @@ noLine =
     }
 
 -- what `lay_out` leaves of the line: that of the layout, or none where the plan is refused
-abbrev pub lineFor : Res Layout → Line
-lineFor (ok l) = lineOf l
+abbrev pub lineFor : Res Plan → Line
+lineFor (ok p) = lineOf p
 lineFor (refuse n p) = noLine

@@ -6,26 +6,27 @@ ghost use Prim.Native.Nat.{_≤_, _<_, _^_};
 ghost use Rattle.rules.specs.Limits.{longestTime, mostFrames};
 ghost use Rattle.rules.proofs.PlanKept.{PlanKept};
 ghost use Rattle.plan.specs.Memory.{seen};
-ghost use Rattle.rules.specs.Frames.{someBusTask, busPeriod, switchGrid, busRuns, controlEnd, controlRows, layout, layoutOf};
+ghost use Rattle.rules.specs.Traffic.{busPeriod, switchGrid, busRuns};
+ghost use Rattle.rules.specs.Frames.{someBusTask, controlEnd, controlRows, layout};
 ghost use Prim.Native.Nat.{_∣_};
-ghost use Rattle.cycle.specs.Runs.{runsLaid};
+ghost use Rattle.bus.specs.Runs.{runsLaid};
 ghost use Rattle.rules.specs.Frames as rules;
 ghost use Rattle.bus.specs.Senders.{sendersOf};
 ghost use Rattle.control.specs.Control.{controlLaid};
 ghost use Rattle.frames.specs.Laid.{framesLaid};
 ghost use Rattle.line.specs.Line.{noLine, lineOf};
-ghost use Rattle.line.specs.Laying.{Lays, framing, closing, fileLaid};
+ghost use Rattle.line.specs.Laying.{Lays, laid, framing, closing, fileLaid};
 ghost use Rattle.answers.specs.declared.Verdict.the-variants.{Refused};
 use answers::Refusal;
 use answers::Verdict;
-use bus::Senders;
+use bus::period::bus_period;
+use bus::period::period_divides;
+use bus::period::switch_grid;
+use bus::runs::Runs;
+use bus::senders::Senders;
 use control::Control;
 use control::control_end;
 use control::control_rows;
-use cycle::period::bus_period;
-use cycle::period::period_divides;
-use cycle::period::switch_grid;
-use cycle::runs::Runs;
 use figures::divides;
 use frames::laid::Frames;
 use payloads::controls_fit;
@@ -110,8 +111,8 @@ fn line_of<'a>(
     requires { ⌜ PlanKept (seen p) ⌝ }
     requires { ⌜ (period .0 ≡ busPeriod (seen p)) × (end .0 ≡ controlEnd (seen p)) × (end .0 < 2 ^ 32) ⌝ }
     requires { ⌜ control ≡ controlLaid (controlRows (seen p)) ⌝ }
-    requires { ⌜ (framesLaid (rules.frames (seen p)) ≡ record { count = count; tasks = now tasks; releases = now releases; deadlines = now deadlines }) × (length (rules.frames (seen p)) ≤ mostFrames) ⌝ }
-    ensures { λ r. ⌜ r ≡ lineOf (layoutOf (seen p)) ⌝ }
+    requires { ⌜ (framesLaid (rules.pairs (seen p)) ≡ record { count = count; tasks = now tasks; releases = now releases; deadlines = now deadlines }) × (length (rules.pairs (seen p)) ≤ mostFrames) ⌝ }
+    ensures { λ r. ⌜ r ≡ lineOf (seen p) ⌝ }
 {
     let bus = p.bus;
     let resolution = bus.resolution;
@@ -153,9 +154,9 @@ fn closed<'a>(
     requires { ⌜ PlanKept (seen p) ⌝ }
     requires { ⌜ senders ≡ sendersOf (seen p) ⌝ }
     requires { ⌜ (period .0 ≡ busPeriod (seen p)) × (period .0 ≤ longestTime) ⌝ }
-    requires { ⌜ (framesLaid (rules.frames (seen p)) ≡ record { count = count; tasks = now task; releases = now release; deadlines = now deadline }) × (length (rules.frames (seen p)) ≤ mostFrames) ⌝ }
+    requires { ⌜ (framesLaid (rules.pairs (seen p)) ≡ record { count = count; tasks = now task; releases = now release; deadlines = now deadline }) × (length (rules.pairs (seen p)) ≤ mostFrames) ⌝ }
     requires { ⌜ layout (seen p) ≡ closing (seen p) ⌝ }
-    ensures { λ r. ⌜ Lays r (layout (seen p)) ⌝ }
+    ensures { λ r. ⌜ Lays r (laid (seen p)) ⌝ }
 {
     let tasks = senders.tasks;
     let payloads = senders.payloads;
@@ -184,7 +185,7 @@ fn framed(p: Plan, senders: Senders, runs: Runs, period: Ticks) -> Laid
     requires { ⌜ (someBusTask (seen p) ≡ true) × (busPeriod (seen p) ∣ switchGrid (seen p)) ⌝ }
     requires { ⌜ (senders ≡ sendersOf (seen p)) × (runs ≡ runsLaid (busRuns (seen p))) × (period .0 ≡ busPeriod (seen p)) ⌝ }
     requires { ⌜ layout (seen p) ≡ framing (seen p) ⌝ }
-    ensures { λ r. ⌜ Lays r (layout (seen p)) ⌝ }
+    ensures { λ r. ⌜ Lays r (laid (seen p)) ⌝ }
 {
     let frames = Frames::of(runs, period);
     if Frame::MOST < frames.count {
@@ -202,9 +203,9 @@ fn framed(p: Plan, senders: Senders, runs: Runs, period: Ticks) -> Laid
 }
 
 // Refusals 6 to 11 of a plan that was read, and its line. P is not computed before each period was tried against the grid.
-fn cycled(p: Plan) -> Laid
+pub fn of_plan(p: Plan) -> Laid
     requires { ⌜ PlanKept (seen p) ⌝ }
-    ensures { λ r. ⌜ Lays r (layout (seen p)) ⌝ }
+    ensures { λ r. ⌜ Lays r (laid (seen p)) ⌝ }
 {
     let senders = Senders::of(p);
     let tasks = senders.tasks;
@@ -231,7 +232,7 @@ pub fn lay_out(s: &[u8]) -> Laid
     let reading = planrules::read(s);
     let answer = reading.answer;
     match answer {
-        Verdict::Fine => cycled(reading.plan),
+        Verdict::Fine => of_plan(reading.plan),
         Verdict::Refused(why) => refused(why),
     }
 }

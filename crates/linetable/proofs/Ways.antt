@@ -4,15 +4,17 @@ use mathlib.Core.List.{List, [], _++_, map}
 use native.Mathlib.Nat.{zero-add}
 use native.Mathlib.Omega.{arith}
 use borrow.Author.Tests.{le-leb, lt-leb}
-use lib.ListN.{length, getD, drop, replicate}
+use lib.ListN.{length, getD, drop, replicate, length-map}
 use lib.Seq.{sets, sets-eq}
 use Prim.Native.Nat.{ℕ, _+_, _≤_, _<_}
+use Rattle.rules.specs.Limits.{mostFrames}
 use Rattle.laws.specs.Res.{Res, ok, refuse}
 use Rattle.laws.specs.Lists.{tab}
 use Rattle.laws.proofs.Lists.{length-tab, length-padTo}
-use Rattle.rules.specs.Frames.{Layout}
+use Rattle.rules.specs.Plan.{Plan}
+use Rattle.rules.specs.Frames.{Layout, pairs, layoutOf}
 use Rattle.rules.specs.LatestRelease.{Placed, numberedFrom, place, latestRelease}
-use Rattle.rules.specs.Table.{MadeTable, madeTable, tableBytes}
+use Rattle.rules.specs.Table.{alone, MadeTable, madeTable, tableBytes}
 use Rattle.rules.proofs.RuleSteps.{rule-twelve}
 use Rattle.answers.specs.declared.Refusal.{Refusal}
 use Rattle.answers.specs.declared.Refusal.the-variants.{BufferTooShort}
@@ -27,14 +29,14 @@ use Rattle.units.specs.declared.FrameNo.{FrameNo}
 use Rattle.rows.specs.declared.Rows.{Rows}
 use Rattle.rows.specs.declared.TableRows.{TableRows}
 use Rattle.rows.specs.Rows.{rowsLaid, scattered, tableRows}
-use Rattle.tablebytes.specs.Rows.{controlIn, dataIn, tableIn}
+use Rattle.table.specs.Rows.{controlIn, dataIn, tableIn, tableLength}
 use Rattle.linetable.specs.declared.Answer.the-variants.{Made, Refused}
 use Rattle.linetable.specs.declared.Making.{Making}
 use Rattle.linetable.specs.Making.{Makes}
-use Rattle.linetable.specs.Steps.{Stands, AllPlaced, laidTable, needed}
+use Rattle.linetable.specs.Steps.{Stands, AllPlaced, laidTable}
 use Rattle.line.proofs.Drawn.{Drawn, drawn}
 use Rattle.linetable.proofs.OverLine.{rule-is, deadlines-rise}
-use Rattle.linetable.proofs.Tabled.{Fair, fair, table-long, table-written, rows-are}
+use Rattle.linetable.proofs.Tabled.{Fair, fair, bytes-long, table-written, rows-are}
 
 -- ---- a refusal, and a table
 
@@ -48,17 +50,18 @@ table-stored table old h =
     let room : 0 + length table ≤ length old = omega arith in
     sets-eq table old 0 room ∙ ap (λ (k : ℕ). table ++ drop k old) (zero-add (length table))
 
-pub makes-table : (l : Layout) (placed : List Placed) (n : ℕ) (rows : Rows) (before after : List ℕ) → Fair l placed
-    → n ≡ needed (length (l .control)) (length (l .frames)) → n ≤ length before
-    → rows ≡ rowsLaid (madeTable l placed .rows) → after ≡ sets before 0 (tableBytes l placed)
-    → Makes (record { answer = Made n; rows = rows }) before after (ok (madeTable l placed))
+pub makes-table : (p : Plan) (placed : List Placed) (n : ℕ) (rows : Rows) (before after : List ℕ) → Fair p placed
+    → n ≡ tableLength (length (layoutOf p .control)) (length (layoutOf p .pairs)) → n ≤ length before
+    → rows ≡ rowsLaid (madeTable (layoutOf p) (map alone placed) .rows) → after ≡ sets before 0 (tableBytes (layoutOf p) (map alone placed))
+    → Makes (record { answer = Made n; rows = rows }) before after (ok (madeTable (layoutOf p) (map alone placed)))
 unfolding madeTable
-makes-table l placed n rows before after h e room q s =
-    let long : length (tableBytes l placed) ≡ n = table-long l placed (h .well .count) ∙ sym e in
+makes-table p placed n rows before after h e room q s =
+    let table = tableBytes (layoutOf p) (map alone placed) in
+    let long : length table ≡ n = bytes-long (layoutOf p) (map alone placed) (length-map placed alone ∙ h .settled .count) ∙ sym e in
     record {
       answered = ap ok (sym long);
       left = q;
-      written = s ∙ table-stored (tableBytes l placed) before (rw long room);
+      written = s ∙ table-stored table before (rw long room);
     }
 
 -- ---- refusals 12 and 13
@@ -90,100 +93,100 @@ ruleOver line =
     (numberedFrom 0 (tab (frameAt (line .tasks) (line .releases) (line .deadlines)) 0 (line .frames))) []
 
 module _ (line : Line) (s : Stands line) where
-  drawn-of : Drawn (s .lay)
-  drawn-of = drawn (s .file) (s .plan) (s .lay) (s .isRead) (s .isLaid)
+  drawn-of : Drawn (s .plan)
+  drawn-of = drawn (s .file) (s .plan) (layoutOf (s .plan)) (s .isRead) (s .isLaid)
 
   -- what the arrays of a line are known to keep
-  pub few-frames : line .frames ≤ 256
-  unfolding lineOf
+  pub few-frames : line .frames ≤ mostFrames
+  unfolding lineOf layoutOf pairs
   few-frames = rw (s .is) (drawn-of .few)
 
   pub few-controls : line .controls ≤ 8
   unfolding lineOf
   few-controls = rw (s .is) (drawn-of .controls)
 
-  pub tasks-long : length (line .tasks) ≡ 256
-  unfolding lineOf
-  tasks-long = rw (s .is) (length-padTo 256 0 (map taskOf (s .lay .frames)))
+  pub tasks-long : length (line .tasks) ≡ mostFrames
+  unfolding lineOf layoutOf pairs
+  tasks-long = rw (s .is) (length-padTo mostFrames 0 (map taskOf (pairs (s .plan))))
 
-  pub deadlines-long : length (line .deadlines) ≡ 256
-  unfolding lineOf
-  deadlines-long = rw (s .is) (length-padTo 256 0 (map deadlineOf (s .lay .frames)))
+  pub deadlines-long : length (line .deadlines) ≡ mostFrames
+  unfolding lineOf layoutOf pairs
+  deadlines-long = rw (s .is) (length-padTo mostFrames 0 (map deadlineOf (pairs (s .plan))))
 
   pub times-long : length (line .times) ≡ 32
   unfolding lineOf
-  times-long = rw (s .is) (length-tab (taskTime (s .lay .plan)) 0 32)
+  times-long = rw (s .is) (length-tab (taskTime (s .plan)) 0 32)
 
   pub deadlines-rising : (i j : ℕ) → i ≤ j → j < line .frames → getD (line .deadlines) i 0 ≤ getD (line .deadlines) j 0
-  deadlines-rising = rw (s .is) (deadlines-rise (s .lay) drawn-of)
+  deadlines-rising = rw (s .is) (deadlines-rise (s .plan) drawn-of)
 
   module _ (placing : Placing) (q : placing ≡ laid (ruleOver line)) where
-    pub placing-is : placing ≡ laid (latestRelease (s .lay))
+    pub placing-is : placing ≡ laid (latestRelease (layoutOf (s .plan)))
     placing-is =
-        let e : ruleOver line ≡ latestRelease (s .lay) = rw (s .is) (rule-is (s .lay) drawn-of) in
+        let e : ruleOver line ≡ latestRelease (layoutOf (s .plan)) = rw (s .is) (rule-is (s .plan) drawn-of) in
         q ∙ ap laid e
 
     -- 12: a frame found no room
-    pub no-room : (k : FrameNo) (room : ℕ) → placing .outcome ≡ NotPlaced k → laidTable (s .lay) room ≡ refuse 12 (k .0)
+    pub no-room : (k : FrameNo) (room : ℕ) → placing .outcome ≡ NotPlaced k → laidTable (layoutOf (s .plan)) room ≡ refuse 12 (k .0)
     unfolding laidTable
     no-room k room o =
-        let t = twelve (s .lay) k (latestRelease (s .lay)) refl (sym (ap (λ (p : Placing). p .outcome) placing-is) ∙ o) in
+        let t = twelve (layoutOf (s .plan)) k (latestRelease (layoutOf (s .plan))) refl (sym (ap (λ (p : Placing). p .outcome) placing-is) ∙ o) in
         rw t
 
     unfoldable pub all-placed : placing .outcome ≡ All → AllPlaced line placing
     all-placed o =
-        let a = all-of (s .lay) (latestRelease (s .lay)) placing refl placing-is o in
+        let a = all-of (layoutOf (s .plan)) (latestRelease (layoutOf (s .plan))) placing refl placing-is o in
         record { stands = s; placed = a .placed; rule = a .rule; is = a .is }
 
 module _ (line : Line) (placing : Placing) (a : AllPlaced line placing) where
-  pub fair-of : Fair (a .stands .lay) (a .placed)
-  fair-of = fair (a .stands .file) (a .stands .plan) (a .stands .lay) (a .placed) (a .stands .isRead) (a .stands .isLaid) (a .rule)
+  pub fair-of : Fair (a .stands .plan) (a .placed)
+  fair-of = fair (a .stands .file) (a .stands .plan) (a .placed) (a .stands .isRead) (a .stands .isLaid) (a .rule)
 
   -- the length of the table that is to be written
-  long : length (tableBytes (a .stands .lay) (a .placed)) ≡ needed (line .controls) (line .frames)
+  long : length (tableBytes (layoutOf (a .stands .plan)) (map alone (a .placed))) ≡ tableLength (line .controls) (line .frames)
   unfolding lineOf
-  long = table-long (a .stands .lay) (a .placed) (fair-of .well .count) ∙ rw (a .stands .is)
+  long = bytes-long (layoutOf (a .stands .plan)) (map alone (a .placed)) (length-map (a .placed) alone ∙ fair-of .settled .count) ∙ rw (a .stands .is)
 
   -- 13: the buffer is too short
-  pub too-short : (room : ℕ) → room < needed (line .controls) (line .frames) → laidTable (a .stands .lay) room ≡ refuse 13 (needed (line .controls) (line .frames))
+  pub too-short : (room : ℕ) → room < tableLength (line .controls) (line .frames) → laidTable (layoutOf (a .stands .plan)) room ≡ refuse 13 (tableLength (line .controls) (line .frames))
   unfolding laidTable madeTable
-  too-short room h = rw (a .rule, long, lt-leb (needed (line .controls) (line .frames)) room h)
+  too-short room h = rw (a .rule, long, lt-leb (tableLength (line .controls) (line .frames)) room h)
 
-  pub fits-in : (room : ℕ) → needed (line .controls) (line .frames) ≤ room → laidTable (a .stands .lay) room ≡ ok (madeTable (a .stands .lay) (a .placed))
+  pub fits-in : (room : ℕ) → tableLength (line .controls) (line .frames) ≤ room → laidTable (layoutOf (a .stands .plan)) room ≡ ok (madeTable (layoutOf (a .stands .plan)) (map alone (a .placed)))
   unfolding laidTable madeTable
-  fits-in room h = rw (a .rule, long, le-leb (needed (line .controls) (line .frames)) room h)
+  fits-in room h = rw (a .rule, long, le-leb (tableLength (line .controls) (line .frames)) room h)
 
-  pub short-made : (r : Making) (buffer : List ℕ) {n : ℕ} → n ≡ needed (line .controls) (line .frames) → length buffer < n
+  pub short-made : (r : Making) (buffer : List ℕ) {n : ℕ} → n ≡ tableLength (line .controls) (line .frames) → length buffer < n
       → r ≡ record { answer = Refused (BufferTooShort (record { 0 = n })); rows = rowsLaid [] }
-      → Makes r buffer buffer (laidTable (a .stands .lay) (length buffer))
+      → Makes r buffer buffer (laidTable (layoutOf (a .stands .plan)) (length buffer))
   short-made r buffer {n} e h q =
-      makes-refused (BufferTooShort (record { 0 = n })) r buffer buffer (laidTable (a .stands .lay) (length buffer)) q refl
+      makes-refused (BufferTooShort (record { 0 = n })) r buffer buffer (laidTable (layoutOf (a .stands .plan)) (length buffer)) q refl
       (too-short (length buffer) (omega arith) ∙ ap (refuse 13) (sym e))
 
-  pub written-made : (r : Making) (before after : List ℕ) (n : ℕ) → n ≡ needed (line .controls) (line .frames) → n ≤ length before
-      → ((s : AllPlaced line placing) → Makes r before after (ok (madeTable (s .stands .lay) (s .placed))))
-      → Makes r before after (laidTable (a .stands .lay) (length before))
+  pub written-made : (r : Making) (before after : List ℕ) (n : ℕ) → n ≡ tableLength (line .controls) (line .frames) → n ≤ length before
+      → ((s : AllPlaced line placing) → Makes r before after (ok (madeTable (layoutOf (s .stands .plan)) (map alone (s .placed)))))
+      → Makes r before after (laidTable (layoutOf (a .stands .plan)) (length before))
   written-made r before after n e h m = rw (fits-in (length before) (omega arith)) (m a)
 
   -- the table's bytes from the arrays of a line and of its placed frames
   abbrev bytesFrom : TableRows → List ℕ
   bytesFrom rows =
       tableIn (line .period .0) (tab (controlIn (line .«control_nodes») (line .«control_starts») (line .«control_stops»)) 0 (line .controls))
-      (tab (dataIn (rows .task) (rows .deadline) (placing .starts) (rows .stop)) 0 (line .frames)) (line .controls) (line .frames)
+      (tab (dataIn (rows .tasks) (rows .deadlines) (placing .starts) (rows .stops)) 0 (line .frames)) (line .controls) (line .frames)
 
-  pub written-table : (rows : TableRows) (start before after : List ℕ) (n : ℕ) → needed (line .controls) (line .frames) ≤ length before
+  pub written-table : (rows : TableRows) (start before after : List ℕ) (n : ℕ) → tableLength (line .controls) (line .frames) ≤ length before
       → rows ≡ tableRows (line .tasks) (line .deadlines) (line .times) (placing .numbers) (placing .starts) (line .frames)
-      → after ≡ sets before 0 (bytesFrom rows) → start ≡ scattered (placing .numbers) (placing .starts) (line .frames) (replicate 256 0)
-      → n ≡ needed (line .controls) (line .frames)
+      → after ≡ sets before 0 (bytesFrom rows) → start ≡ scattered (placing .numbers) (placing .starts) (line .frames) (replicate mostFrames 0)
+      → n ≡ tableLength (line .controls) (line .frames)
       → Makes
       (record {
         answer = Made n;
-        rows = record { frames = line .frames; task = line .tasks; release = line .releases; deadline = line .deadlines; start = start };
+        rows = record { frames = line .frames; tasks = line .tasks; releases = line .releases; deadlines = line .deadlines; starts = start };
       })
-      before after (ok (madeTable (a .stands .lay) (a .placed)))
-  unfolding lineOf madeTable
+      before after (ok (madeTable (layoutOf (a .stands .plan)) (map alone (a .placed))))
+  unfolding lineOf layoutOf pairs madeTable
   written-table rows start before after n room e w t q =
-      let bytes : bytesFrom rows ≡ tableBytes (a .stands .lay) (a .placed) = rw (e, a .stands .is, a .is) (table-written (a .stands .lay) (a .placed) fair-of) in
-      makes-table (a .stands .lay) (a .placed) n _ before after fair-of (q ∙ rw (a .stands .is)) (omega arith)
-      (rows-are (a .stands .lay) (a .placed) fair-of _ (rw (a .stands .is)) (rw (a .stands .is)) (rw (a .stands .is)) (rw (a .stands .is)) (t ∙ rw (a .stands .is, a .is)))
+      let bytes : bytesFrom rows ≡ tableBytes (layoutOf (a .stands .plan)) (map alone (a .placed)) = rw (e, a .stands .is, a .is) (table-written (a .stands .plan) (a .placed) fair-of) in
+      makes-table (a .stands .plan) (a .placed) n _ before after fair-of (q ∙ rw (a .stands .is)) (omega arith)
+      (rows-are (a .stands .plan) (a .placed) fair-of _ (rw (a .stands .is)) (rw (a .stands .is)) (rw (a .stands .is)) (rw (a .stands .is)) (t ∙ rw (a .stands .is, a .is)))
       (w ∙ ap (sets before 0) bytes)

@@ -1,14 +1,15 @@
 // The table of a line, by value: refusals 12 and 13, the table in a lent buffer, and the frame rows beside the answer.
 ghost use mathlib.Core.Path.{_≡_};
-ghost use mathlib.Core.List.{[]};
+ghost use mathlib.Core.List.{[], map};
 ghost use lib.ListN.{length};
 ghost use Prim.Native.Nat.{_≤_};
 ghost use Rattle.laws.specs.Res.{ok};
-ghost use Rattle.rules.specs.Limits.{mostFrames, mostNodes};
-ghost use Rattle.rules.specs.Table.{madeTable};
+ghost use Rattle.rules.specs.Frames.{layoutOf};
+ghost use Rattle.rules.specs.Table.{alone, madeTable};
 ghost use Rattle.rows.specs.Rows.{rowsLaid};
 ghost use Rattle.linetable.specs.Making.{Makes};
-ghost use Rattle.linetable.specs.Steps.{Stands, AllPlaced, laidTable, needed};
+ghost use Rattle.table.specs.Rows.{tableLength};
+ghost use Rattle.linetable.specs.Steps.{Stands, AllPlaced, laidTable};
 ghost use Rattle.linetable.specs.declared.Answer.the-variants.{Refused};
 use answers::Refusal;
 use line::Line;
@@ -16,6 +17,7 @@ use placing::Outcome;
 use placing::Placing;
 use placing::Rule;
 use rows::Rows;
+use table::write::table_length;
 use units::ByteCount;
 
 pub enum Answer {
@@ -39,19 +41,11 @@ pub fn refused(why: Refusal) -> Making
     }
 }
 
-// The length of the line's table: a header, its rows, and the end.
-fn bytes_needed(controls: usize, frames: usize) -> usize
-    requires { ⌜ (controls ≤ mostNodes) × (frames ≤ mostFrames) ⌝ }
-    ensures { λ r. ⌜ (r ≡ needed controls frames) × (r ≤ 3673) ⌝ }
-{
-    8 + 10 * controls + 14 * frames + 1
-}
-
 // The table of frames that are placed, at the front of the buffer, and the frame rows with its starts.
 fn written(line: Line, placing: Placing, buf: &mut [u8]) -> Making
     requires { ⌜ AllPlaced line placing ⌝ }
-    requires { ⌜ needed (line .controls) (line .frames) ≤ length (now buf) ⌝ }
-    ensures { λ r. ⌜ ((s : AllPlaced line placing) → Makes r (now (buf .entry)) (now (buf .exit)) (ok (madeTable (s .stands .lay) (s .placed)))) ⌝ }
+    requires { ⌜ tableLength (line .controls) (line .frames) ≤ length (now buf) ⌝ }
+    ensures { λ r. ⌜ ((s : AllPlaced line placing) → Makes r (now (buf .entry)) (now (buf .exit)) (ok (madeTable (layoutOf (s .stands .plan)) (map alone (s .placed))))) ⌝ }
 {
     let data = rows::table_rows(
         &line.tasks,
@@ -61,31 +55,31 @@ fn written(line: Line, placing: Placing, buf: &mut [u8]) -> Making
         &placing.starts,
         line.frames,
     );
-    tablebytes::write_table(
+    table::write::write_table(
         &mut *buf,
         line.period,
         &line.control_nodes,
         &line.control_starts,
         &line.control_stops,
         line.controls,
-        &data.task,
-        &data.deadline,
+        &data.tasks,
+        &data.deadlines,
         &placing.starts,
-        &data.stop,
+        &data.stops,
         line.frames,
     );
-    let start = rows::starts_by_number(&placing.numbers, &placing.starts, line.frames);
-    let task = line.tasks;
-    let release = line.releases;
-    let deadline = line.deadlines;
+    let starts = rows::starts_by_number(&placing.numbers, &placing.starts, line.frames);
+    let tasks = line.tasks;
+    let releases = line.releases;
+    let deadlines = line.deadlines;
     Making {
-        answer: Answer::Made(bytes_needed(line.controls, line.frames)),
+        answer: Answer::Made(table_length(line.controls, line.frames)),
         rows: Rows {
             frames: line.frames,
-            task: task,
-            release: release,
-            deadline: deadline,
-            start: start,
+            tasks,
+            releases,
+            deadlines,
+            starts,
         },
     }
 }
@@ -93,7 +87,7 @@ fn written(line: Line, placing: Placing, buf: &mut [u8]) -> Making
 // Refusals 12 and 13 of a line, and its table.
 pub fn placed_table(line: Line, buf: &mut [u8]) -> Making
     requires { ⌜ Stands line ⌝ }
-    ensures { λ r. ⌜ ((s : Stands line) → Makes r (now (buf .entry)) (now (buf .exit)) (laidTable (s .lay) (length (now (buf .entry))))) ⌝ }
+    ensures { λ r. ⌜ ((s : Stands line) → Makes r (now (buf .entry)) (now (buf .exit)) (laidTable (layoutOf (s .plan)) (length (now (buf .entry))))) ⌝ }
 {
     let rule = Rule {
         resolution: line.resolution,
@@ -112,7 +106,7 @@ pub fn placed_table(line: Line, buf: &mut [u8]) -> Making
     let outcome = placing.outcome;
     match outcome {
         Outcome::All => {
-            let needed = bytes_needed(line.controls, line.frames);
+            let needed = table_length(line.controls, line.frames);
             if buf.len() < needed {
                 return refused(Refusal::BufferTooShort(ByteCount(needed as u32)));
             }

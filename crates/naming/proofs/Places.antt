@@ -11,6 +11,7 @@ use lib.ListN.{length, getD, set, length-replicate, length-set, getD-replicate}
 use lib.Seq.{getD-set-same, getD-set-other}
 use borrow.Author.Tests.{lt-ltb, le-ltb, eqb-true, eqb-false}
 use Prim.Native.Nat.{ℕ, zero, suc, _+_, _-_, _≤_, _<_}
+use Rattle.rules.specs.Limits.{mostFrames}
 use Rattle.laws.specs.Lists.{any, firstBad, tab, upTo}
 use Rattle.laws.proofs.Lists.{any-upTo-more}
 use Rattle.laws.proofs.Loops.{firstBad-upTo-hit}
@@ -82,13 +83,13 @@ unfoldable pub names : List ℕ → ℕ → ℕ → Bool
 names numbers f j = eqb (getD numbers j 0) f
 
 module _ (numbers : List ℕ) where
-  length-marks : (k : ℕ) → length (marks numbers k) ≡ 256
-  length-marks zero = length-replicate 256 false
+  length-marks : (k : ℕ) → length (marks numbers k) ≡ mostFrames
+  length-marks zero = length-replicate mostFrames false
   length-marks (suc k) = length-set (marks numbers k) (getD numbers k 0) true ∙ length-marks k
 
-  pub marked : (k f : ℕ) → f < 256 → getD (marks numbers k) f false ≡ any (names numbers f) (upTo k)
+  pub marked : (k f : ℕ) → f < mostFrames → getD (marks numbers k) f false ≡ any (names numbers f) (upTo k)
   unfolding names
-  marked zero f h = getD-replicate 256 f false false h
+  marked zero f h = getD-replicate mostFrames f false false h
   marked (suc k) f h =
       here (eqb (getD numbers k 0) f) refl (marked k f h)
       ∙ sym (ap (λ (n : ℕ). any (names numbers f) (upTo n)) (sym (add-one k)) ∙ any-upTo-more (names numbers f) k)
@@ -130,8 +131,8 @@ module _ (numbers : List ℕ) (frames k : ℕ) where
     marks-more = rw (add-one k, e)
 
 module _ (numbers starts : List ℕ) (k : ℕ) {out : List ℕ} (e : out ≡ spread numbers starts k) where
-  pub spread-more : getD numbers k 0 < 256 → set out (getD numbers k 0) (getD starts k 0) ≡ spread numbers starts (k + 1)
-  spread-more h = rw (add-one k, lt-ltb (getD numbers k 0) 256 h, e)
+  pub spread-more : getD numbers k 0 < mostFrames → set out (getD numbers k 0) (getD starts k 0) ≡ spread numbers starts (k + 1)
+  spread-more h = rw (add-one k, lt-ltb (getD numbers k 0) mostFrames h, e)
 
-  pub spread-past : 256 ≤ getD numbers k 0 → out ≡ spread numbers starts (k + 1)
-  spread-past h = rw (add-one k, le-ltb (getD numbers k 0) 256 h, e)
+  pub spread-past : mostFrames ≤ getD numbers k 0 → out ≡ spread numbers starts (k + 1)
+  spread-past h = rw (add-one k, le-ltb (getD numbers k 0) mostFrames h, e)

@@ -19,15 +19,16 @@ use Rattle.rules.proofs.FollowsTold.{numbers-of-any-tick}
 use Rattle.rules.proofs.RefusalNumbers.{passed-gives}
 use Rattle.rules.proofs.StationExact.{begin-checks}
 use Rattle.rules.proofs.Transparent.{begun}
-use Rattle.stationruns.specs.Inputs.{changeAt}
-use Rattle.station.specs.Memory.{keptOf, stateOf}
+use Rattle.stationruns.specs.Inputs.{inputOf, startingAt}
+use Rattle.stationruns.specs.declared.Input as given
+use Rattle.stationruns.specs.declared.Starting.{Starting}
+use Rattle.station.specs.Memory.{keptOf, ruled, stateOf}
 use Rattle.station.specs.declared.Station.{Station}
 use Rattle.station.proofs.Plays.{Plays, start, plays-on}
 use Rattle.beginning.specs.Begins.{stationLaid}
 use Rattle.beginning.proofs.Shown.{shows-told, history-allowed, call-exact}
-use Rattle.outward.specs.Numbers.{givensFor, changesFor}
-use Rattle.turning.specs.Turning.{inputFor, ruled, tickedBy}
-use Rattle.turning.specs.declared.Ticked.{Ticked}
+use Rattle.outward.specs.Numbers.{tickBy}
+use Rattle.outward.specs.declared.TickAnswer.{TickAnswer}
 use Rattle.olbiothar.specs.Playing.{Ticks, begunBy}
 use Rattle.olbiothar.specs.declared.Begun.{Begun}
 
@@ -37,58 +38,58 @@ use Rattle.olbiothar.specs.declared.Begun.{Begun}
 pub data Calls : Station → List Input → Station → Type 0 where
   none : {st : Station} → Calls st [] st
   accepted :
-      {st before after : Station} {past : List Input} {r : Ticked} (results given modes changed : List ℕ) → Calls st past before →
-      Ticks before results given modes changed r after → r .answer .number ≡ 0 →
-      Calls st (inputFor results given modes changed ∷ past) after
+      {st before after : Station} {past : List Input} {r : TickAnswer} (input : given.Input) → Calls st past before →
+      Ticks before input r after → r .answer .number ≡ 0 →
+      Calls st (inputOf input ∷ past) after
   refused :
-      {st before after : Station} {past : List Input} {r : Ticked} (results given modes changed : List ℕ) → Calls st past before →
-      Ticks before results given modes changed r after → (r .answer .number ≡ 0 → ⊥) → Calls st past after
+      {st before after : Station} {past : List Input} {r : TickAnswer} (input : given.Input) → Calls st past before →
+      Ticks before input r after → (r .answer .number ≡ 0 → ⊥) → Calls st past after
 
 -- number 0 is no refusal's
-taken : (rule : Res rules.Ticked) → Gives 40 44 rule → tickedBy rule .answer .number ≡ 0 → (t : rules.Ticked) × (rule ≡ ok t)
+taken : (rule : Res rules.Ticked) → Gives 40 44 rule → tickBy rule .answer .number ≡ 0 → (t : rules.Ticked) × (rule ≡ ok t)
 taken (ok t) g e = (t, refl)
 taken (refuse n p) g e = absurd (omega (arith, g .number n p refl))
 
-taken-number : (rule : Res rules.Ticked) (t : rules.Ticked) → rule ≡ ok t → tickedBy rule .answer .number ≡ 0
+taken-number : (rule : Res rules.Ticked) (t : rules.Ticked) → rule ≡ ok t → tickBy rule .answer .number ≡ 0
 taken-number rule t e = rw e
 
-module _ {before after : Station} {r : Ticked} (results given modes changed : List ℕ) (c : Ticks before results given modes changed r after) where
+module _ {before after : Station} {r : TickAnswer} (input : given.Input) (c : Ticks before input r after) where
   abbrev rule : Res rules.Ticked
-  rule = ruled before results given modes changed
+  rule = ruled before input
 
   abbrev i : Input
-  i = inputFor results given modes changed
+  i = inputOf input
 
-  number-exact : (r .answer .number ≡ 0) ↔ ((t : rules.Ticked) × (ruled before results given modes changed ≡ ok t))
+  number-exact : (r .answer .number ≡ 0) ↔ ((t : rules.Ticked) × (ruled before input ≡ ok t))
   number-exact = (
     λ e. taken rule (numbers-of-any-tick (keptOf before) (stateOf before) i) (rw (c .answers) at e),
     λ h. rw (c .answers) (taken-number rule (h .0) (h .1)),
   )
 
-  plays-accepted : {st : Station} {past : List Input} → r .answer .number ≡ 0 → Plays st past before → Plays st (inputFor results given modes changed ∷ past) after
+  plays-accepted : {st : Station} {past : List Input} → r .answer .number ≡ 0 → Plays st past before → Plays st (inputOf input ∷ past) after
   plays-accepted {st} {past} e p =
       let h = number-exact .0 e in
       subst (λ (x : Station). Plays st (i ∷ past) x) (sym (c .leaves ∙ rw (h .1)))
-      (plays-on (givensFor results given) (changesFor modes changed) (ok (h .0)) (h .1) p)
+      (plays-on input (ok (h .0)) (h .1) p)
 
   plays-refused : {st : Station} {past : List Input} → (r .answer .number ≡ 0 → ⊥) → Plays st past before → Plays st past after
   plays-refused {st} {past} other p = go rule refl
     where
-      go : (x : Res rules.Ticked) → ruled before results given modes changed ≡ x → Plays st past after
+      go : (x : Res rules.Ticked) → ruled before input ≡ x → Plays st past after
       go (ok t) q = absurd (other (number-exact .1 (t, q)))
       go (refuse n k) q = subst (λ (x : Station). Plays st past x) (sym (c .leaves ∙ rw q)) p
 
 calls-play : {st after : Station} {history : List Input} → Calls st history after → Plays st history after
 calls-play none = start
-calls-play (accepted results given modes changed calls c e) = plays-accepted results given modes changed c e (calls-play calls)
-calls-play (refused results given modes changed calls c other) = plays-refused results given modes changed c other (calls-play calls)
+calls-play (accepted input calls c e) = plays-accepted input c e (calls-play calls)
+calls-play (refused input calls c other) = plays-refused input c other (calls-play calls)
 
 -- ---- a beginning that answered number 0
 
-module _ (plan table modes given : List ℕ) (r : Begun) (begins : r ≡ begunBy (begin plan table (changeAt (changesFor modes given))))
+module _ (plan table : List ℕ) (modes : Starting) (r : Begun) (begins : r ≡ begunBy (begin plan table (startingAt modes)))
     (fine : r .answer .number ≡ 0) where
   abbrev starting : ℕ → Option ℕ
-  starting = changeAt (changesFor modes given)
+  starting = startingAt modes
 
   began : (b : rules.Begun) × (begin plan table starting ≡ ok b)
   began = go (begin plan table starting) refl (rw begins at fine)
@@ -109,17 +110,17 @@ module _ (plan table modes given : List ℕ) (r : Begun) (begins : r ≡ begunBy
     played = subst (λ (st : Station). Plays st history after) (ap (λ (x : Begun). x .station) begins ∙ rw (began .1)) (calls-play calls)
 
     -- what the lent station shows is told by the history
-    pub calls-shown : ShowsTold p (changeAt (changesFor modes given)) history (stateOf after .shown)
+    pub calls-shown : ShowsTold p (startingAt modes) history (stateOf after .shown)
     calls-shown = shows-told plan table starting (began .0) (began .1) p reads history after played
 
     -- in which each result came in its time and modes changed at their instants
-    pub calls-allowed : Allowed p (changeAt (changesFor modes given)) history
+    pub calls-allowed : Allowed p (startingAt modes) history
     calls-allowed = history-allowed plan table starting (began .0) (began .1) p reads history after played
 
     -- and the next call answers number 0 exactly when it is given such a tick
-    pub call-answers : {r′ : Ticked} {next : Station} (results given′ modes′ changed : List ℕ) → Ticks after results given′ modes′ changed r′ next
-        → (r′ .answer .number ≡ 0) ↔ MayTell p (changeAt (changesFor modes given)) history (inputFor results given′ modes′ changed)
-    call-answers results given′ modes′ changed c =
-        let number = number-exact results given′ modes′ changed c in
-        let told = call-exact plan table starting (began .0) (began .1) p reads history after played (inputFor results given′ modes′ changed) in
+    pub call-answers : {r′ : TickAnswer} {next : Station} (input : given.Input) → Ticks after input r′ next
+        → (r′ .answer .number ≡ 0) ↔ MayTell p (startingAt modes) history (inputOf input)
+    call-answers input c =
+        let number = number-exact input c in
+        let told = call-exact plan table starting (began .0) (began .1) p reads history after played (inputOf input) in
         (λ e. told .0 (number .0 e), λ m. number .1 (told .1 m))

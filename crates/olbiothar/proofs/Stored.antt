@@ -15,7 +15,7 @@ use Rattle.stationnodes.proofs.Node as N
 use Rattle.stationnodes.proofs.Node.Laws as N′
 use Rattle.stationrefusals.specs.declared.Play.{Play}
 use Rattle.station.specs.declared.Station.{Station}
-use Rattle.station.specs.Turns.{moved}
+use Rattle.station.specs.Parts.{withPlayAndNodes}
 use Rattle.station.proofs.Lent.{mach, Known}
 use Rattle.stationrefusals.proofs.Play as P
 use Rattle.stationrefusals.proofs.Play.Laws as P′
@@ -62,14 +62,16 @@ nodes-out nodes vs is =
 -- ---- the station
 
 module _ (h : Station) (known : Known h (mach h)) where
-  pub play-stored : (p : Play) → Is P.the-row p (LL.val P.the-type P′.the-laws p ∷ []) → Known (moved h p (h .nodes)) (mach (moved h p (h .nodes)))
+  pub play-stored : (p : Play) → Is P.the-row p (LL.val P.the-type P′.the-laws p ∷ [])
+      → Known (withPlayAndNodes h p (h .nodes)) (mach (withPlayAndNodes h p (h .nodes)))
   play-stored p is =
       let k = LL.owed T.the-type T′.the-laws h (mach h ∷ []) known in
-      LL.owes T.the-type T′.the-laws (moved h p (h .nodes))
-      (k .0, (k .1 .0, (k .1 .1 .0, (k .1 .1 .1 .0, (k .1 .1 .1 .1 .0, (k .1 .1 .1 .1 .1 .0, (k .1 .1 .1 .1 .1 .1 .0, (k .1 .1 .1 .1 .1 .1 .1 .0, (k .1 .1 .1 .1 .1 .1 .1 .1 .0, (k .1 .1 .1 .1 .1 .1 .1 .1 .1 .0, (k .1 .1 .1 .1 .1 .1 .1 .1 .1 .1 .0, (is, (k .1 .1 .1 .1 .1 .1 .1 .1 .1 .1 .1 .1 .0, tt)))))))))))))
+      LL.owes T.the-type T′.the-laws (withPlayAndNodes h p (h .nodes))
+      (k .0, (k .1 .0, (k .1 .1 .0, (k .1 .1 .1 .0, (k .1 .1 .1 .1 .0, (k .1 .1 .1 .1 .1 .0, (k .1 .1 .1 .1 .1 .1 .0, (is, (k .1 .1 .1 .1 .1 .1 .1 .1 .0, tt)))))))))
 
-  pub nodes-stored : (nodes : List Node) → Is Field (field nodes) (nodes-mach nodes ∷ []) → Known (moved h (h .play) nodes) (mach (moved h (h .play) nodes))
+  pub nodes-stored : (nodes : List Node) → Is Field (field nodes) (nodes-mach nodes ∷ [])
+      → Known (withPlayAndNodes h (h .play) nodes) (mach (withPlayAndNodes h (h .play) nodes))
   nodes-stored nodes is =
       let k = LL.owed T.the-type T′.the-laws h (mach h ∷ []) known in
-      LL.owes T.the-type T′.the-laws (moved h (h .play) nodes)
-      (k .0, (k .1 .0, (k .1 .1 .0, (k .1 .1 .1 .0, (k .1 .1 .1 .1 .0, (k .1 .1 .1 .1 .1 .0, (k .1 .1 .1 .1 .1 .1 .0, (k .1 .1 .1 .1 .1 .1 .1 .0, (k .1 .1 .1 .1 .1 .1 .1 .1 .0, (k .1 .1 .1 .1 .1 .1 .1 .1 .1 .0, (k .1 .1 .1 .1 .1 .1 .1 .1 .1 .1 .0, (k .1 .1 .1 .1 .1 .1 .1 .1 .1 .1 .1 .0, (is, tt)))))))))))))
+      LL.owes T.the-type T′.the-laws (withPlayAndNodes h (h .play) nodes)
+      (k .0, (k .1 .0, (k .1 .1 .0, (k .1 .1 .1 .0, (k .1 .1 .1 .1 .0, (k .1 .1 .1 .1 .1 .0, (k .1 .1 .1 .1 .1 .1 .0, (k .1 .1 .1 .1 .1 .1 .1 .0, (is, tt)))))))))

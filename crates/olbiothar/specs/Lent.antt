@@ -5,7 +5,7 @@ use Prim.Native.Nat.{ℕ}
 use Rattle.rules.specs.Table.{make}
 use Rattle.rules.specs.Checker.{check}
 use Rattle.units.specs.declared.Frame.{Frame}
-use Rattle.framerows.specs.Frames.{rowOf}
+use Rattle.rows.specs.Frames.{rowOf}
 use Rattle.outward.specs.declared.Answer.{Answer}
 use Rattle.outward.specs.Answers.{answerOf, madeOf}
 

@@ -1,17 +1,20 @@
-// Answers, rows and what a tick is given, in the numbers that C has: C has no enums that carry values.
+// Answers, rows and ticks in the numbers that C has: C has no enums that carry values.
 ghost use mathlib.Core.Path.{_≡_};
 ghost use Rattle.answers.specs.Refusals.{said, heard};
 ghost use Rattle.linetable.specs.Making as making;
 ghost use Rattle.outward.specs.Answers.{answerOf, madeOf};
-ghost use Rattle.outward.specs.Numbers.{answerSaid, changeFor, changesFor, givenFor, givensFor, rowFor, rowSaid};
+ghost use Rattle.outward.specs.Numbers.{CompletesWith, answerSaid, rowFor, rowSaid};
+ghost use Rattle.station.specs.Parts.{stationBy};
 use answers::Refusal;
 use answers::Verdict;
-use places::is_set;
+use station::BeforeNodes;
+use station::tick_before_nodes;
 use stationmoves::Said;
-use stationruns::Change;
-use stationruns::Given;
+use stationrefusals::Fixed;
+use stationrefusals::Play;
+use stationruns::Input;
+use units::Frame;
 use units::ModeNo;
-use units::ModuleNo;
 use units::TaskNo;
 
 // Number 0: not refused; the place is then what was made, or 0. Else the refusal's number and its place.
@@ -62,54 +65,6 @@ pub struct Row {
     pub deadline: u32,
     pub start: u32,
     pub stop: u32,
-}
-
-fn given_for(given: u8, result: u64) -> Given
-    ensures { λ r. ⌜ r ≡ givenFor given result ⌝ }
-{
-    if is_set(given) {
-        return Given::Result(result);
-    }
-    Given::Nothing
-}
-
-fn change_for(changed: u8, mode: ModeNo) -> Change
-    ensures { λ r. ⌜ r ≡ changeFor changed (mode .0) ⌝ }
-{
-    if is_set(changed) {
-        return Change::To(mode);
-    }
-    Change::Nothing
-}
-
-pub fn givens_for(
-    results: &[u64; TaskNo::MOST],
-    given: &[u8; TaskNo::MOST],
-) -> [Given; TaskNo::MOST]
-    ensures { λ r. ⌜ r ≡ givensFor (now (results .entry)) (now (given .entry)) ⌝ }
-{
-    let mut givens = [Given::Nothing; TaskNo::MOST];
-    let mut t = 0;
-    while t < TaskNo::MOST {
-        givens[t] = given_for(given[t], results[t]);
-        t += 1;
-    }
-    givens
-}
-
-pub fn changes_for(
-    modes: &[u8; ModuleNo::MOST],
-    changed: &[u8; ModuleNo::MOST],
-) -> [Change; ModuleNo::MOST]
-    ensures { λ r. ⌜ r ≡ changesFor (now (modes .entry)) (now (changed .entry)) ⌝ }
-{
-    let mut changes = [Change::Nothing; ModuleNo::MOST];
-    let mut m = 0;
-    while m < ModuleNo::MOST {
-        changes[m] = change_for(changed[m], ModeNo(modes[m]));
-        m += 1;
-    }
-    changes
 }
 
 fn no_row() -> Row
@@ -164,5 +119,54 @@ pub fn answer_said(said: Said) -> Answer
             place: 0,
         },
         Said::Refused(why) => refused(why),
+    }
+}
+
+// What a tick answers: the refusal or number 0, and the row that starts.
+#[repr(C)]
+pub struct TickAnswer {
+    pub answer: Answer,
+    pub row: Row,
+}
+
+// What a tick answers, and its part before the nodes.
+pub struct AnswerBeforeNodes {
+    pub tick: TickAnswer,
+    pub part: BeforeNodes,
+}
+
+// A tick but for the nodes, in the numbers that C has. The station may hold any nodes.
+pub fn answer_before_nodes<'a>(
+    input: Input,
+    fixed: Fixed,
+    play: Play,
+    runs: &'a [u32; ModeNo::MOST * TaskNo::MOST],
+    pair_tasks: &'a [u8; Frame::MOST],
+    pair_deadlines: &'a [u32; Frame::MOST],
+    pair_starts: &'a [u32; Frame::MOST],
+    pair_stops: &'a [u32; Frame::MOST],
+    pair_modes: &'a [u32; Frame::MOST],
+) -> AnswerBeforeNodes
+    ensures { λ r. ⌜ CompletesWith (stationBy fixed (now (runs .entry)) (now («pair_tasks» .entry)) (now («pair_deadlines» .entry)) (now («pair_starts» .entry)) (now («pair_stops» .entry)) (now («pair_modes» .entry)) play) input r ⌝ }
+{
+    let first = tick_before_nodes(
+        input,
+        fixed,
+        play,
+        runs,
+        pair_tasks,
+        pair_deadlines,
+        pair_starts,
+        pair_stops,
+        pair_modes,
+    );
+    let said = first.said;
+    let part = first.part;
+    AnswerBeforeNodes {
+        tick: TickAnswer {
+            answer: answer_said(said),
+            row: row_said(said),
+        },
+        part,
     }
 }

@@ -2,6 +2,7 @@
 ghost use mathlib.Core.Path.{_≡_};
 ghost use Prim.Native.Nat.{_<_};
 ghost use lib.ListN.{getD};
+ghost use Rattle.places.specs.Bits.{bitAt};
 ghost use Rattle.places.specs.Flags.{flagAt, flagByte, isSet};
 
 // A byte as a number for an index.
@@ -47,4 +48,15 @@ pub fn flag_byte(flag: bool) -> u8
 pub enum Found {
     At(usize),
     Nothing,
+}
+
+// Places as the bits of a word. A place from 32 on has none.
+pub fn has_bit(bits: u32, place: usize) -> bool
+    ensures { λ r. ⌜ r ≡ bitAt bits place ⌝ }
+{
+    if place < 32 {
+        (bits >> place) % 2 == 1
+    } else {
+        false
+    }
 }

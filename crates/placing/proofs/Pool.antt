@@ -15,7 +15,7 @@ use Rattle.laws.specs.Lists.{keep}
 use Rattle.laws.specs.Numbers.{down}
 use Rattle.laws.proofs.Divisors.{down-below}
 use Rattle.laws.proofs.Members.{All, empty, also, Pairs, alone, before, all-head, all-tail, all-member, all-of-members, all-weaker, pairs-head, pairs-tail, keep-member, keep-from, keep-passes}
-use Rattle.rules.specs.Frames.{Frame}
+use Rattle.rules.specs.Frames.{Pair}
 use Rattle.rules.specs.LatestRelease.{Numbered, Placed, isCandidate, isLater, isOther, latestOf, latest, withDeadline, greatestDeadline, lowered, taken, startOf, fits, place}
 use Rattle.rules.proofs.RuleSteps.{greatest-above}
 
@@ -58,17 +58,17 @@ module _ (x : Numbered) where
   latest-top (also {x = y} q r) (List·Memᴰ·head e) = latestOf-top y q r (inl (sym e))
   latest-top (also {x = y} q r) (List·Memᴰ·tail m) = latestOf-top y q r (inr m)
 
-greatest-le : (b : ℕ) {l : List Numbered} → All (λ y. y .frame .deadline ≤ b) l → greatestDeadline l ≤ b
+greatest-le : (b : ℕ) {l : List Numbered} → All (λ y. y .pair .deadline ≤ b) l → greatestDeadline l ≤ b
 unfolding greatestDeadline withDeadline
 greatest-le b empty = omega arith
 greatest-le b (also p r) = max-le p (greatest-le b r)
 
 -- ---- the machine
 
-module _ (F : ℕ → Frame) where
+module _ (F : ℕ → Pair) where
   -- frame k with its number, and its key: release and number in one number
   abbrev pub numbered : ℕ → Numbered
-  numbered k = record { number = k; frame = F k }
+  numbered k = record { number = k; pair = F k }
 
   abbrev pub keyOf : ℕ → ℕ
   keyOf k = F k .release * 65536 + k
@@ -281,10 +281,10 @@ module _ (F : ℕ → Frame) where
         let r : greatestDeadline left ≡ F m .deadline = omega arith in
         rw (q, r)
       where
-        at-most : (y : Numbered) → (k : ℕ) × (y ≡ numbered k) × ((k < suc m) ⊎ List·Memᴰ k []) → y .frame .deadline ≤ F m .deadline
+        at-most : (y : Numbered) → (k : ℕ) × (y ≡ numbered k) × ((k < suc m) ⊎ List·Memᴰ k []) → y .pair .deadline ≤ F m .deadline
         at-most y t = by (t .2)
           where
-            by : (t .0 < suc m) ⊎ List·Memᴰ (t .0) [] → y .frame .deadline ≤ F m .deadline
+            by : (t .0 < suc m) ⊎ List·Memᴰ (t .0) [] → y .pair .deadline ≤ F m .deadline
             by (inl w) = rw (t .1) (sorted (t .0) m (le-of-suc-le-suc w) (s .within))
             by (inr w) = elim w [ ]
 
@@ -305,8 +305,8 @@ module _ (F : ℕ → Frame) where
       unfolding isCandidate
       candidate-is-below y j e c (inl l) =
           let d : F j .deadline < end = r .early j l in
-          let c′ : end ≤ y .frame .deadline = leb-true _ _ c in
-          let q : y .frame .deadline ≡ F j .deadline = ap (λ (z : Numbered). z .frame .deadline) e in
+          let c′ : end ≤ y .pair .deadline = leb-true _ _ c in
+          let q : y .pair .deadline ≡ F j .deadline = ap (λ (z : Numbered). z .pair .deadline) e in
           absurd (omega arith)
       candidate-is-below y j e c (inr l) = subst (Below (numbered k)) (sym e) (is-below j l)
 
@@ -364,9 +364,9 @@ module _ (F : ℕ → Frame) where
 
   -- ---- the whole run
 
-  module _ (resolution gap floor : ℕ) (sending : Frame → ℕ) where
+  module _ (resolution gap floor : ℕ) (sending : Pair → ℕ) where
     abbrev pub placedAt : ℕ → ℕ → Placed
-    placedAt end k = record { number = k; frame = F k; start = startOf resolution gap floor sending end (F k) }
+    placedAt end k = record { number = k; pair = F k; start = startOf resolution gap floor sending end (F k) }
 
     -- n frames left: m outside and the pool; `done` as in the rule
     unfoldable pub machine : ℕ → ℕ → ℕ → List ℕ → List Placed → Res (List Placed)
@@ -384,7 +384,7 @@ module _ (F : ℕ → Frame) where
     lowEnd-le e m [] = min-le-left e (F (m - 1) .deadline)
     lowEnd-le e m (k ∷ pool) = le-refl e
 
-    start-le : (end : ℕ) (f : Frame) → startOf resolution gap floor sending end f - gap ≤ end
+    start-le : (end : ℕ) (f : Pair) → startOf resolution gap floor sending end f - gap ≤ end
     unfolding startOf
     start-le end f =
         let d : down resolution (end - sending f) ≤ end - sending f = down-below resolution (end - sending f) in
@@ -400,19 +400,19 @@ module _ (F : ℕ → Frame) where
           in
           omega arith
         where
-          at-most : (y : Numbered) (k : ℕ) → y ≡ numbered k → (k < m) ⊎ List·Memᴰ k [] → y .frame .deadline ≤ end - 1
+          at-most : (y : Numbered) (k : ℕ) → y ≡ numbered k → (k < m) ⊎ List·Memᴰ k [] → y .pair .deadline ≤ end - 1
           at-most y k e (inl l) =
               let d : F k .deadline < end = r .early k l in
-              let q : y .frame .deadline ≡ F k .deadline = ap (λ (z : Numbered). z .frame .deadline) e in
+              let q : y .pair .deadline ≡ F k .deadline = ap (λ (z : Numbered). z .pair .deadline) e in
               omega arith
           at-most y k e (inr w) = elim w [ ]
 
       -- the rule's step, once the end and the frame taken are known
       stepWith : ℕ → List Numbered → List Placed → ℕ → Numbered → Res (List Placed)
       stepWith n left done end x =
-          elim (fits resolution gap floor sending end (x .frame)) [
-            | true ↦ place resolution gap floor sending n (startOf resolution gap floor sending end (x .frame) - gap) (keep (isOther (x .number)) left)
-                (record { number = x .number; frame = x .frame; start = startOf resolution gap floor sending end (x .frame) } ∷ done)
+          elim (fits resolution gap floor sending end (x .pair)) [
+            | true ↦ place resolution gap floor sending n (startOf resolution gap floor sending end (x .pair) - gap) (keep (isOther (x .number)) left)
+                (record { number = x .number; pair = x .pair; start = startOf resolution gap floor sending end (x .pair) } ∷ done)
             | false ↦ refuse 12 (x .number)
           ]
 

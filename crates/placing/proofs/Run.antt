@@ -10,6 +10,7 @@ use lib.ListN.{length, getD, set, replicate, length-set, length-replicate, getD-
 use lib.Seq.{getD-set-same, getD-set-other, ext-getD}
 use borrow.Author.Tests.{leb-true, leb-false, ltb-true, ltb-false, ne-eqb}
 use Prim.Native.Nat.{ℕ, zero, suc, _+_, _*_, _-_, _%_, _≤_, _<_}
+use Rattle.rules.specs.Limits.{mostFrames}
 use Rattle.laws.specs.Res.{Res, refuse}
 use Rattle.laws.specs.Lists.{tab}
 use Rattle.laws.specs.Numbers.{down}
@@ -17,7 +18,7 @@ use Rattle.laws.specs.Loops.{padTo}
 use Rattle.laws.proofs.Lists.{length-padTo, getD-padTo, length-tab, getD-tab, map-tab}
 use Rattle.laws.proofs.Orders.{le-or-lt}
 use Rattle.laws.proofs.Members.{All, empty, also, all-weaker, alone}
-use Rattle.rules.specs.Frames.{Frame}
+use Rattle.rules.specs.Frames.{Pair}
 use Rattle.rules.specs.LatestRelease.{Numbered, Placed, numberedFrom, place, fits}
 use Rattle.rules.specs.LatestRelease as rule
 use Rattle.laws.proofs.Laid.{tab-same}
@@ -43,7 +44,7 @@ padded l c n e h z =
     by i (inr w) = getD-tab (λ j. getD l j 0) 0 n i 0 w ∙ rw zero-add
 
 -- the frames of a numbering are those of its places
-module _ (F : ℕ → Frame) where
+module _ (F : ℕ → Pair) where
   numbering-from : (lo n : ℕ) (y : Numbered) → List·Memᴰ y (numberedFrom lo (tab F lo n)) → (k : ℕ) × (y ≡ numbered F k) × (lo ≤ k) × (k < lo + n)
   unfolding numberedFrom
   numbering-from lo (suc n) y (List·Memᴰ·head e) = (lo, e, le-refl lo, omega arith)
@@ -65,7 +66,7 @@ numberIn x = x % 65536
 -- ---- the pool in the array of keys
 
 module _ (task release deadline : List ℕ) where
-  abbrev pub F : ℕ → Frame
+  abbrev pub F : ℕ → Pair
   F = frameAt task release deadline
 
   outside-same : (end m : ℕ) → pool.outsideAt F end m ≡ outsideAt deadline end m
@@ -169,16 +170,16 @@ module _ (task release deadline : List ℕ) where
 
     -- what was placed, read off the arrays
     abbrev pub placedIn : List ℕ → List ℕ → ℕ → Placed
-    placedIn number start j = record { number = getD number j 0; frame = F (getD number j 0); start = getD start j 0 }
+    placedIn number start j = record { number = getD number j 0; pair = F (getD number j 0); start = getD start j 0 }
 
     abbrev pub doneIn : List ℕ → List ℕ → ℕ → List Placed
     doneIn number start left = tab (placedIn number start) left (count - left)
 
     pub record Going (keys number start : List ℕ) (left outside low : ℕ) : Type 0 where
-      pub few : count ≤ 256
-      pub keysLong : length keys ≡ 256
-      pub numberLong : length number ≡ 256
-      pub startLong : length start ≡ 256
+      pub few : count ≤ mostFrames
+      pub keysLong : length keys ≡ mostFrames
+      pub numberLong : length number ≡ mostFrames
+      pub startLong : length start ≡ mostFrames
       pub leftLe : left ≤ count
       pub outsideLe : outside ≤ left
       pub keyed : topDown keys (left - outside) ≡ map (keyOf F) (numbersIn keys (left - outside))
@@ -187,23 +188,23 @@ module _ (task release deadline : List ℕ) where
       pub zeroStart : (j : ℕ) → count ≤ j → getD start j 0 ≡ 0
       pub whole : runFrom count e₀ count [] [] ≡ runFrom left low outside (numbersIn keys (left - outside)) (doneIn number start left)
 
-    zeros : (j : ℕ) → getD {A = ℕ} (replicate 256 0) j 0 ≡ 0
-    zeros j = by (le-or-lt 256 j)
+    zeros : (j : ℕ) → getD {A = ℕ} (replicate mostFrames 0) j 0 ≡ 0
+    zeros j = by (le-or-lt mostFrames j)
       where
-        by : (256 ≤ j) ⊎ (j < 256) → getD {A = ℕ} (replicate 256 0) j 0 ≡ 0
+        by : (mostFrames ≤ j) ⊎ (j < mostFrames) → getD {A = ℕ} (replicate mostFrames 0) j 0 ≡ 0
         by (inl w) =
-            let q : length {A = ℕ} (replicate 256 0) ≤ j = w in
-            List·getD-eq-default (replicate 256 0) 0 q
-        by (inr w) = getD-replicate 256 j 0 0 w
+            let q : length {A = ℕ} (replicate mostFrames 0) ≤ j = w in
+            List·getD-eq-default (replicate mostFrames 0) 0 q
+        by (inr w) = getD-replicate mostFrames j 0 0 w
 
-    pub going-none : count ≤ 256 → Going (replicate 256 0) (replicate 256 0) (replicate 256 0) count count e₀
+    pub going-none : count ≤ mostFrames → Going (replicate mostFrames 0) (replicate mostFrames 0) (replicate mostFrames 0) count count e₀
     unfolding numbersIn
     going-none few =
         record {
           few = few;
-          keysLong = length-replicate {A = ℕ} 256 0;
-          numberLong = length-replicate {A = ℕ} 256 0;
-          startLong = length-replicate {A = ℕ} 256 0;
+          keysLong = length-replicate {A = ℕ} mostFrames 0;
+          numberLong = length-replicate {A = ℕ} mostFrames 0;
+          startLong = length-replicate {A = ℕ} mostFrames 0;
           leftLe = le-refl count;
           outsideLe = le-refl count;
           keyed = rw (sub-self count);
@@ -259,12 +260,12 @@ module _ (task release deadline : List ℕ) where
         top-down′ =
             rw keysAre
             (keys-pool low′ outside (left - outside) (left - outside′) keys (numbersIn keys (left - outside))
-            (let f : count ≤ 256 = g .few in let o : outside ≤ left = g .outsideLe in let c : left ≤ count = g .leftLe in let l : length keys ≡ 256 = g .keysLong in omega arith)
+            (let f : count ≤ mostFrames = g .few in let o : outside ≤ left = g .outsideLe in let c : left ≤ count = g .leftLe in let l : length keys ≡ mostFrames = g .keysLong in omega arith)
             (g .keyed)
             (let o : outside ≤ left = g .outsideLe in let p = outside-less in rw (← outsideIs) (omega arith)))
 
         small : {l : List ℕ} → All (λ j. j < count) l → All (λ j. j < 65536) l
-        small a = let f : count ≤ 256 = g .few in all-weaker (λ j h. omega arith) a
+        small a = let f : count ≤ mostFrames = g .few in all-weaker (λ j h. omega arith) a
 
         -- the pool's top and the rest of it
         split : (l : List ℕ) (n : ℕ) → topDown keys′ (suc n) ≡ map (keyOf F) l → All (λ j. j < count) l
@@ -272,7 +273,7 @@ module _ (task release deadline : List ℕ) where
         split [] n e a = absurd (nil≢cons (sym e))
         split (j ∷ l) n e (also b a) =
             let h : getD keys′ n 0 ≡ keyOf F j = head-eq-of-cons-eq e in
-            let f : count ≤ 256 = g .few in
+            let f : count ≤ mostFrames = g .few in
             let m : keyOf F j % 65536 ≡ j = mul-add-mod-self-right (F j .release) 65536 j ∙ mod-eq-of-lt (omega arith) in
             (sym (ap (λ (x : ℕ). x % 65536) h ∙ m), tail-eq-of-cons-eq e, a, b)
 
@@ -331,10 +332,10 @@ module _ (task release deadline : List ℕ) where
             (startIs : start′ ≡ set start (left - 1) begin)
           where
             in-number : left - 1 < length number
-            in-number = let f : count ≤ 256 = g .few in let l : length number ≡ 256 = g .numberLong in let c : left ≤ count = g .leftLe in omega arith
+            in-number = let f : count ≤ mostFrames = g .few in let l : length number ≡ mostFrames = g .numberLong in let c : left ≤ count = g .leftLe in omega arith
 
             in-start : left - 1 < length start
-            in-start = let f : count ≤ 256 = g .few in let l : length start ≡ 256 = g .startLong in let c : left ≤ count = g .leftLe in omega arith
+            in-start = let f : count ≤ mostFrames = g .few in let l : length start ≡ mostFrames = g .startLong in let c : left ≤ count = g .leftLe in omega arith
 
             number-at : getD number′ (left - 1) 0 ≡ k
             number-at = rw numberIs (getD-set-same number (left - 1) k 0 in-number)
@@ -395,13 +396,13 @@ module _ (task release deadline : List ℕ) where
           map-tab (placedIn number start) numberOf 0 (count - 0),
           map-tab (placedIn number start) startOf 0 (count - 0),
           sub-zero,
-          padded number 256 count (g .numberLong) (g .few) (g .zeroNumber),
-          padded start 256 count (g .startLong) (g .few) (g .zeroStart),
+          padded number mostFrames count (g .numberLong) (g .few) (g .zeroNumber),
+          padded start mostFrames count (g .startLong) (g .few) (g .zeroStart),
         ))
     going-end {keys} {number} {start} {left = suc left} {outside} {low} g h = absurd (not-suc-le-zero h)
 
     -- the rule over the frames of the arrays is the machine's run
-    pub rule-is : count ≤ 256 → ((i j : ℕ) → i ≤ j → j < count → getD deadline i 0 ≤ getD deadline j 0)
+    pub rule-is : count ≤ mostFrames → ((i j : ℕ) → i ≤ j → j < count → getD deadline i 0 ≤ getD deadline j 0)
         → place resolution gap floor (timeOf time) count e₀ (numberedFrom 0 (tab F 0 count)) [] ≡ runFrom count e₀ count [] []
     unfolding frameAt Falling
     rule-is few sorted =

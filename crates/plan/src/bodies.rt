@@ -22,17 +22,17 @@ use units::Ticks;
 pub fn bus(body: &[u8]) -> Bus
     ensures { λ r. ⌜ r ≡ busLaid (busOf (recordOf 1 (now (body .entry)) .numbers)) ⌝ }
 {
-    let overhead = read16(body, 4);
-    let least = read16(body, 6);
-    let most = read16(body, 8);
-    let gap = read16(body, 10);
+    let overhead = read16(body, fields::bus::OVERHEAD);
+    let least = read16(body, fields::bus::LEAST);
+    let most = read16(body, fields::bus::MOST);
+    let gap = read16(body, fields::bus::GAP);
     Bus {
-        rate: read32(body, 0),
+        rate: read32(body, fields::bus::RATE),
         overhead: ByteCount(overhead as u32),
         least: ByteCount(least as u32),
         most: ByteCount(most as u32),
         gap: gap as u32,
-        resolution: Ticks(read32(body, 12)),
+        resolution: Ticks(read32(body, fields::bus::RESOLUTION)),
     }
 }
 
@@ -40,7 +40,7 @@ pub fn module(body: &[u8]) -> Module
     ensures { λ r. ⌜ r ≡ moduleLaid (moduleOf (recordOf 3 (now (body .entry)) .numbers)) ⌝ }
 {
     Module {
-        node: NodeNo(read8(body, 0)),
+        node: NodeNo(read8(body, fields::module::NODE)),
     }
 }
 
@@ -48,30 +48,30 @@ pub fn mode(body: &[u8]) -> Mode
     ensures { λ r. ⌜ r ≡ modeLaid (modeOf (recordOf 4 (now (body .entry)) .numbers)) ⌝ }
 {
     Mode {
-        home: ModuleNo(read8(body, 0)),
-        period: Ticks(read32(body, 1)),
-        switch: Ticks(read32(body, 5)),
+        home: ModuleNo(read8(body, fields::mode::HOME)),
+        period: Ticks(read32(body, fields::mode::PERIOD)),
+        switch: Ticks(read32(body, fields::mode::SWITCH)),
     }
 }
 
 pub fn task(body: &[u8]) -> Task
     ensures { λ r. ⌜ r ≡ taskLaid (taskOf (recordOf 5 (now (body .entry)) .numbers)) ⌝ }
 {
-    let size = read8(body, 1);
+    let size = read8(body, fields::task::SIZE);
     Task {
-        home: ModuleNo(read8(body, 0)),
+        home: ModuleNo(read8(body, fields::task::HOME)),
         size: ByteCount(size as u32),
-        worst: Ticks(read32(body, 2)),
+        worst: Ticks(read32(body, fields::task::WORST)),
     }
 }
 
 pub fn invocation(body: &[u8]) -> Invocation
     ensures { λ r. ⌜ r ≡ invocationLaid (invocationOf (recordOf 6 (now (body .entry)) .numbers)) ⌝ }
 {
-    let rate = read16(body, 2);
+    let rate = read16(body, fields::invocation::RATE);
     Invocation {
-        mode: ModeNo(read8(body, 0)),
-        task: TaskNo(read8(body, 1)),
+        mode: ModeNo(read8(body, fields::invocation::MODE)),
+        task: TaskNo(read8(body, fields::invocation::TASK)),
         rate: rate as u32,
     }
 }
@@ -80,7 +80,7 @@ pub fn connection(body: &[u8]) -> Connection
     ensures { λ r. ⌜ r ≡ connectionLaid (connectionOf (recordOf 7 (now (body .entry)) .numbers)) ⌝ }
 {
     Connection {
-        producer: TaskNo(read8(body, 0)),
-        consumer: TaskNo(read8(body, 1)),
+        producer: TaskNo(read8(body, fields::connection::PRODUCER)),
+        consumer: TaskNo(read8(body, fields::connection::CONSUMER)),
     }
 }

@@ -5,16 +5,16 @@ use mathlib.Core.List.{List, [], _∷_}
 use native.Mathlib.Omega.{arith}
 use lib.Dec.{eqb}
 use lib.ListN.{length, getD, set, take, drop, replicate}
-use lib.Seq.{take-take, getD-set-other}
+use lib.Seq.{getD-set-other}
 use Prim.Native.Nat.{ℕ, zero, suc, _+_, _-_, _≤_, _<_}
 use Rattle.laws.specs.Res.{Res, ok, refuse}
-use Rattle.laws.proofs.Gather.{drop-take}
 use Rattle.laws.proofs.Res.{refuse≢ok, ok-injective, refuse-place}
-use Rattle.rules.specs.Records.{Rec, Field, width, widths, fields, bodyLength, decoded, recordOf, planFollows, before, records}
+use Rattle.rules.specs.Records.{Rec, bodyLength, recordOf, planFollows, before, records}
 use Rattle.records.specs.Reader.{nextAt}
 use Rattle.records.specs.declared.Sort.the-variants.{Plan}
 use Rattle.records.specs.declared.Step.{Step}
 use Rattle.records.specs.declared.Step.the-variants.{Record, End, Wrong}
+use Rattle.records.proofs.Bodies.{record-cut}
 use Rattle.records.proofs.Steps.{from, onward, one-step, found}
 use Rattle.units.specs.declared.Offset.{Offset}
 use Rattle.plan.specs.declared.Plan as memory
@@ -23,17 +23,6 @@ use Rattle.plan.specs.Memory.{emptyPlan, layOut, noPlan, countSeen}
 use Rattle.plangather.specs.Gather.{oneMore, withBus, withNodes, withModule, withMode, withTask, withInvocation, withConnection, withRecord, withRecords, numberOf, gatheredOf}
 use Rattle.plangather.proofs.Gathering.{gathered-whole, file-planned}
 use Rattle.plangather.proofs.Stored.{picked, number-least, sizesOf, sizes-kept}
-
--- ---- a body that is cut out of the file says what the file says there
-
-decoded-take : (fs : List Field) (l : List ℕ) → decoded fs (take (widths fs) l) ≡ decoded fs l
-decoded-take [] l = refl
-decoded-take (f ∷ fs) l =
-    rw (take-take (width f) (width f + widths fs) l (omega arith), drop-take (width f) (widths fs) l, decoded-take fs (drop (width f) l))
-
-pub record-cut : (kind : ℕ) (l : List ℕ) → recordOf kind (take (bodyLength kind) l) ≡ recordOf kind l
-unfolding recordOf bodyLength
-record-cut kind l = rw (decoded-take (fields kind) l)
 
 -- ---- a count grows by one at most
 

@@ -44,10 +44,10 @@ fn counted(counts: &mut [usize; 8], kind: u8) -> usize
     requires { ⌜ numberOf (now counts) kind + 1 < 2 ^ 64 ⌝ }
     ensures { λ r. ⌜ (r ≡ numberOf (now (counts .entry)) kind) × (now (counts .exit) ≡ countedMore (now (counts .entry)) kind) ⌝ }
 {
-    if kind < 3 {
+    if kind < fields::module::KIND {
         return 0;
     }
-    if 7 < kind {
+    if fields::connection::KIND < kind {
         return 0;
     }
     let n = counts[kind as usize];
@@ -83,13 +83,13 @@ pub fn gather(s: &[u8]) -> Gathered
                 let body = records::body(s, start, next);
                 let n = counted(&mut p.counts, kind);
                 match kept(kind, n) {
-                    1 => p.bus = bodies::bus(body),
-                    2 => p.counts[2] = read8(body, 0) as usize,
-                    3 => p.modules[n] = bodies::module(body),
-                    4 => p.modes[n] = bodies::mode(body),
-                    5 => p.tasks[n] = bodies::task(body),
-                    6 => p.invocations[n] = bodies::invocation(body),
-                    7 => p.connections[n] = bodies::connection(body),
+                    fields::bus::KIND => p.bus = bodies::bus(body),
+                    fields::nodes::KIND => p.counts[2] = read8(body, fields::nodes::COUNT) as usize,
+                    fields::module::KIND => p.modules[n] = bodies::module(body),
+                    fields::mode::KIND => p.modes[n] = bodies::mode(body),
+                    fields::task::KIND => p.tasks[n] = bodies::task(body),
+                    fields::invocation::KIND => p.invocations[n] = bodies::invocation(body),
+                    fields::connection::KIND => p.connections[n] = bodies::connection(body),
                     _ => {}
                 }
                 previous = kind;

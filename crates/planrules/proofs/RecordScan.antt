@@ -18,7 +18,7 @@ use Rattle.records.specs.declared.Step.{Step}
 use Rattle.records.specs.declared.Step.the-variants.{Record, End, Wrong}
 use Rattle.records.proofs.Steps.{from, onward, one-step, found}
 use Rattle.units.specs.declared.Offset.{Offset}
-use Rattle.plangather.proofs.SoFar.{record-cut}
+use Rattle.records.proofs.Bodies.{record-cut}
 use Rattle.places.specs.declared.Found.{Found}
 use Rattle.places.specs.declared.Found.the-variants.{At, Nothing}
 use Rattle.planfits.specs.Scans.{earlierOf, isOk, firstBadOf}

@@ -34,14 +34,14 @@ fn names_are_there(counts: [usize; 8], kind: u8, body: &[u8]) -> bool
     ensures { λ r. ⌜ r ≡ namesAreThere (listed counts) (records.recordOf kind (now (body .entry))) ⌝ }
 {
     match kind {
-        3 => bodies::module(body).node.place() < counts[2],
-        4 => bodies::mode(body).home.place() < counts[3],
-        5 => bodies::task(body).home.place() < counts[3],
-        6 => {
+        fields::module::KIND => bodies::module(body).node.place() < counts[2],
+        fields::mode::KIND => bodies::mode(body).home.place() < counts[3],
+        fields::task::KIND => bodies::task(body).home.place() < counts[3],
+        fields::invocation::KIND => {
             let i = bodies::invocation(body);
             both(i.mode.place() < counts[4], i.task.place() < counts[5])
         }
-        7 => {
+        fields::connection::KIND => {
             let c = bodies::connection(body);
             both(
                 c.producer.place() < counts[5],
@@ -101,10 +101,10 @@ fn numbers_are_within(kind: u8, body: &[u8]) -> bool
     ensures { λ r. ⌜ r ≡ numbersAreWithin (records.recordOf kind (now (body .entry))) ⌝ }
 {
     match kind {
-        1 => bus_is_within(body),
-        4 => mode_is_within(body),
-        5 => task_is_within(body),
-        6 => rate_is_within(body),
+        fields::bus::KIND => bus_is_within(body),
+        fields::mode::KIND => mode_is_within(body),
+        fields::task::KIND => task_is_within(body),
+        fields::invocation::KIND => rate_is_within(body),
         _ => true,
     }
 }

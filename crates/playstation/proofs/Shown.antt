@@ -9,12 +9,12 @@ use Rattle.rules.specs.Playing.{Input}
 use Rattle.rules.specs.Station as rules
 use Rattle.rules.specs.Told.{ShowsTold}
 use Rattle.rules.specs.Allowed.{Allowed}
-use Rattle.stationruns.specs.Inputs.{changeAt}
+use Rattle.stationruns.specs.Inputs.{startingAt}
 use Rattle.station.specs.Memory.{stateOf}
 use Rattle.station.proofs.Plays.{Plays, start, acceptedOf, plays-calls}
 use Rattle.beginning.specs.Begins.{stationLaid}
 use Rattle.beginning.proofs.Shown.{shows-told, history-allowed}
-use Rattle.history.specs.Reading.{readLine, changesOf}
+use Rattle.history.specs.Reading.{readLine, startingFrom}
 use Rattle.history.specs.declared.What.the-variants.{Begin}
 use Rattle.hearing.specs.Heard.{linesOf}
 use Rattle.hearing.proofs.Calls.{callsOf, after-lines}
@@ -22,7 +22,7 @@ use Rattle.playstation.specs.Played.{played}
 
 -- A history file whose first line is a `begin` with which a station begins:
 module _ (plan table s first : List ℕ) (lines : List (List ℕ)) (isFile : linesOf s ≡ first ∷ lines) (isBegin : readLine first .what ≡ Begin)
-    (b : rules.Begun) (begins : rules.begin plan table (changeAt (changesOf (readLine first .modes))) ≡ ok b) where
+    (b : rules.Begun) (begins : rules.begin plan table (startingAt (startingFrom (readLine first .modes))) ≡ ok b) where
   -- the ticks of the other lines that are accepted, the newest first
   abbrev pub acceptedIn : List Input
   acceptedIn = acceptedOf [] (stationLaid b) (callsOf lines)
@@ -33,10 +33,10 @@ module _ (plan table s first : List ℕ) (lines : List (List ℕ)) (isFile : lin
 
   module _ (p : Plan) (reads : readPlan plan ≡ ok p) where
     -- what the station after the file shows is told by them
-    pub played-shown : ShowsTold p (changeAt (changesOf (readLine first .modes))) acceptedIn (stateOf (played plan table s) .shown)
+    pub played-shown : ShowsTold p (startingAt (startingFrom (readLine first .modes))) acceptedIn (stateOf (played plan table s) .shown)
     played-shown =
-        shows-told plan table (changeAt (changesOf (readLine first .modes))) b begins p reads acceptedIn (played plan table s) played-calls
+        shows-told plan table (startingAt (startingFrom (readLine first .modes))) b begins p reads acceptedIn (played plan table s) played-calls
 
-    pub played-allowed : Allowed p (changeAt (changesOf (readLine first .modes))) acceptedIn
+    pub played-allowed : Allowed p (startingAt (startingFrom (readLine first .modes))) acceptedIn
     played-allowed =
-        history-allowed plan table (changeAt (changesOf (readLine first .modes))) b begins p reads acceptedIn (played plan table s) played-calls
+        history-allowed plan table (startingAt (startingFrom (readLine first .modes))) b begins p reads acceptedIn (played plan table s) played-calls

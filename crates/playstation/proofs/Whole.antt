@@ -6,12 +6,12 @@ use native.Mathlib.Omega.{arith}
 use lib.ListN.{length, drop, take}
 use Prim.Native.Nat.{ℕ, _-_, _<_}
 use Rattle.rules.specs.Station as rules
-use Rattle.stationruns.specs.Inputs.{changeAt}
-use Rattle.stationruns.specs.declared.Change.{Change}
+use Rattle.stationruns.specs.Inputs.{startingAt}
+use Rattle.stationruns.specs.declared.Starting.{Starting}
 use Rattle.station.specs.Memory.{notBegun}
 use Rattle.station.specs.declared.Station.{Station}
 use Rattle.beginning.specs.Begins.{stationFor}
-use Rattle.history.specs.Reading.{oneLine, readLine, lineEnd, changesOf}
+use Rattle.history.specs.Reading.{oneLine, readLine, lineEnd, startingFrom}
 use Rattle.history.specs.declared.Line.{Line}
 use Rattle.history.specs.declared.What.{What}
 use Rattle.history.specs.declared.What.the-variants.{Begin, Tick, Quiet, Unreadable}
@@ -37,8 +37,8 @@ module _ (plan table s : List ℕ) {end : ℕ} {line : Line} (some : length s �
   unfolding played
   played-by w e = ap (playedLines plan table) first-line ∙ rw (← read, e)
 
-  pub played-begin : {st left : Station} {changes : List Change} {next : ℕ} → line .what ≡ Begin → changes ≡ changesOf (line .modes)
-      → left ≡ stationFor (rules.begin plan table (changeAt changes)) → next ≡ behindEnd s end → st ≡ afterLines (linesOf (drop next s)) left
+  pub played-begin : {st left : Station} {starting : Starting} {next : ℕ} → line .what ≡ Begin → starting ≡ startingFrom (line .modes)
+      → left ≡ stationFor (rules.begin plan table (startingAt starting)) → next ≡ behindEnd s end → st ≡ afterLines (linesOf (drop next s)) left
       → st ≡ played plan table s
   played-begin e c l n h = h ∙ rw (n, l, c) (sym (played-by Begin e))
 

@@ -2,19 +2,19 @@
 use mathlib.Core.List.{List, [], _∷_}
 use Prim.Native.Nat.{ℕ}
 use Rattle.rules.specs.Station as rules
-use Rattle.stationruns.specs.Inputs.{changeAt}
+use Rattle.stationruns.specs.Inputs.{startingAt}
 use Rattle.station.specs.Memory.{notBegun}
 use Rattle.station.specs.declared.Station.{Station}
 use Rattle.beginning.specs.Begins.{stationFor}
 use Rattle.hearing.specs.Heard.{afterLines, linesOf}
-use Rattle.history.specs.Reading.{readLine, changesOf}
+use Rattle.history.specs.Reading.{readLine, startingFrom}
 use Rattle.history.specs.declared.Line.{Line}
 use Rattle.history.specs.declared.What.{What}
 use Rattle.history.specs.declared.What.the-variants.{Begin, Tick, Quiet, Unreadable}
 
 -- the first line must be `begin`
 abbrev pub begunBy : List ℕ → List ℕ → Line → What → List (List ℕ) → Station
-begunBy plan table line Begin lines = afterLines lines (stationFor (rules.begin plan table (changeAt (changesOf (line .modes)))))
+begunBy plan table line Begin lines = afterLines lines (stationFor (rules.begin plan table (startingAt (startingFrom (line .modes)))))
 begunBy plan table line Tick lines = notBegun
 begunBy plan table line (Quiet n) lines = notBegun
 begunBy plan table line Unreadable lines = notBegun

@@ -11,9 +11,9 @@ use hearing::hear_lines;
 use hearing::say_refusal;
 use hearing::say_unreadable;
 use history::What;
-use history::changes_of;
 use history::line_end;
 use history::read_line;
+use history::starting_of;
 use input::Input;
 use input::file_room;
 use input::history_room;
@@ -50,7 +50,7 @@ fn play(plan: &[u8], table: &[u8], s: &[u8]) -> Station
     match what {
         What::Begin => {
             let modes = line.modes;
-            let begun = beginning::begin(plan, table, changes_of(modes));
+            let begun = beginning::begin(plan, table, starting_of(modes));
             let answer = begun.answer;
             say_answer(answer);
             let station = begun.station;

@@ -1,3 +1,4 @@
+pub mod Bodies
 pub mod Held
 pub mod LengthTable
 pub mod Steps

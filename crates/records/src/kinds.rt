@@ -9,16 +9,19 @@ ghost use Rattle.records.specs.Kinds.{lengthOf};
 // Stands in the table for a kind that is unknown; no body is that long.
 const UNKNOWN: u8 = 255;
 
-// The length of each kind's body.
-const LENGTHS: [u8; 19] = [
-    0, // end
-    16, // bus
-    1, // number of nodes
-    1, // module
-    9, // mode
-    6, // task
-    4, // invocation
-    2, // connection
+// The kinds from here on are unknown.
+const LISTED: u8 = fields::data_row::KIND + 1;
+
+// The length of each kind's body. Of bytes, so that the compiler keeps the table as it is: one of words it stores anew for each look.
+const LENGTHS: [u8; LISTED as usize] = [
+    fields::end::LENGTH as u8,
+    fields::bus::LENGTH as u8,
+    fields::nodes::LENGTH as u8,
+    fields::module::LENGTH as u8,
+    fields::mode::LENGTH as u8,
+    fields::task::LENGTH as u8,
+    fields::invocation::LENGTH as u8,
+    fields::connection::LENGTH as u8,
     UNKNOWN,
     UNKNOWN,
     UNKNOWN,
@@ -27,15 +30,15 @@ const LENGTHS: [u8; 19] = [
     UNKNOWN,
     UNKNOWN,
     UNKNOWN,
-    7, // table
-    9, // control row
-    13, // data row
+    fields::header::LENGTH as u8,
+    fields::control_row::LENGTH as u8,
+    fields::data_row::LENGTH as u8,
 ];
 
 pub fn body_length(kind: u8) -> u8
     ensures { λ r. ⌜ r ≡ lengthOf kind ⌝ }
 {
-    if kind < 19 {
+    if kind < LISTED {
         LENGTHS[kind as usize]
     } else {
         UNKNOWN
@@ -52,7 +55,7 @@ pub fn known(kind: u8) -> bool
 fn rises(previous: u8, kind: u8, low: u8, high: u8) -> bool
     ensures { λ r. ⌜ r ≡ (eqb kind 0 || (leb low kind && (leb previous kind && leb kind high))) ⌝ }
 {
-    if kind == 0 {
+    if kind == fields::end::KIND {
         return true;
     }
     if kind < low {
@@ -69,12 +72,17 @@ pub fn plan_follows(previous: u8, kind: u8) -> bool
     ensures { λ r. ⌜ r ≡ planFollows previous kind ⌝ }
 {
     if previous == 0 {
-        return kind == 1;
+        return kind == fields::bus::KIND;
     }
-    if previous == 1 {
-        return kind == 2;
+    if previous == fields::bus::KIND {
+        return kind == fields::nodes::KIND;
     }
-    rises(previous, kind, 3, 7)
+    rises(
+        previous,
+        kind,
+        fields::module::KIND,
+        fields::connection::KIND,
+    )
 }
 
 // The same in a table.
@@ -82,7 +90,12 @@ pub fn table_follows(previous: u8, kind: u8) -> bool
     ensures { λ r. ⌜ r ≡ tableFollows previous kind ⌝ }
 {
     if previous == 0 {
-        return kind == 16;
+        return kind == fields::header::KIND;
     }
-    rises(previous, kind, 17, 18)
+    rises(
+        previous,
+        kind,
+        fields::control_row::KIND,
+        fields::data_row::KIND,
+    )
 }

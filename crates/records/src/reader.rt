@@ -53,8 +53,8 @@ fn step_at(s: &[u8], sort: Sort, previous: u8, at: usize) -> Step
     }
     let kind = s[at];
     if allowed(sort, previous, kind) {
-        let body = at + 1;
-        if kind == 0 {
+        let body = at + fields::BODY;
+        if kind == fields::end::KIND {
             if body == end {
                 return Step::End;
             }

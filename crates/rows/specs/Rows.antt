@@ -26,10 +26,10 @@ unfoldable pub rowsLaid : List FrameRow → Rows
 rowsLaid rs =
     record {
       frames = length rs;
-      task = padTo mostFrames 0 (map rowTask rs);
-      release = padTo mostFrames 0 (map rowRelease rs);
-      deadline = padTo mostFrames 0 (map rowDeadline rs);
-      start = padTo mostFrames 0 (map rowStart rs);
+      tasks = padTo mostFrames 0 (map rowTask rs);
+      releases = padTo mostFrames 0 (map rowRelease rs);
+      deadlines = padTo mostFrames 0 (map rowDeadline rs);
+      starts = padTo mostFrames 0 (map rowStart rs);
     }
 
 -- the starts stored at the numbers of the frames, the last first
@@ -47,7 +47,7 @@ stopAt task time number start j = (getD start j 0 + getD time (taskAt task numbe
 unfoldable pub tableRows : List ℕ → List ℕ → List ℕ → List ℕ → List ℕ → ℕ → TableRows
 tableRows task deadline time number start count =
     record {
-      task = stores (replicate mostFrames 0) (taskAt task number) count;
-      deadline = stores (replicate mostFrames 0) (taskAt deadline number) count;
-      stop = stores (replicate mostFrames 0) (stopAt task time number start) count;
+      tasks = stores (replicate mostFrames 0) (taskAt task number) count;
+      deadlines = stores (replicate mostFrames 0) (taskAt deadline number) count;
+      stops = stores (replicate mostFrames 0) (stopAt task time number start) count;
     }

@@ -1,4 +1,5 @@
-// The frame rows of an answer by value, and what the arrays of placed frames give for them and for the table.
+// The frame rows of an answer by value, and what the arrays of placed frames give for them and for the table; and the passes that bring
+// them into a lent list of rows.
 ghost use mathlib.Core.Path.{_≡_};
 ghost use Prim.Native.Nat.{_+_, _%_, _≤_, _<_};
 ghost use lib.ListN.{length, getD, replicate};
@@ -10,13 +11,15 @@ use units::FrameNo;
 use units::TaskNo;
 use units::Ticks;
 
+pub mod passes;
+
 // The frame rows of an answer by value: `frames` of them, zeros behind.
 pub struct Rows {
     pub frames: usize,
-    pub task: [u8; Frame::MOST],
-    pub release: [u32; Frame::MOST],
-    pub deadline: [u32; Frame::MOST],
-    pub start: [u32; Frame::MOST],
+    pub tasks: [u8; Frame::MOST],
+    pub releases: [u32; Frame::MOST],
+    pub deadlines: [u32; Frame::MOST],
+    pub starts: [u32; Frame::MOST],
 }
 
 impl Rows {
@@ -25,10 +28,10 @@ impl Rows {
     {
         Rows {
             frames: 0,
-            task: [0; Frame::MOST],
-            release: [0; Frame::MOST],
-            deadline: [0; Frame::MOST],
-            start: [0; Frame::MOST],
+            tasks: [0; Frame::MOST],
+            releases: [0; Frame::MOST],
+            deadlines: [0; Frame::MOST],
+            starts: [0; Frame::MOST],
         }
     }
 }
@@ -69,9 +72,9 @@ pub fn starts_by_number<'a>(
 
 // What stands in the table's data rows besides the starts, by row.
 pub struct TableRows {
-    pub task: [u8; Frame::MOST],
-    pub deadline: [u32; Frame::MOST],
-    pub stop: [u32; Frame::MOST],
+    pub tasks: [u8; Frame::MOST],
+    pub deadlines: [u32; Frame::MOST],
+    pub stops: [u32; Frame::MOST],
 }
 
 fn task_of(tasks: &[u8; Frame::MOST], number: FrameNo) -> TaskNo
@@ -134,8 +137,8 @@ pub fn table_rows<'a>(
         j += 1;
     }
     TableRows {
-        task: row_tasks,
-        deadline: row_deadlines,
-        stop: row_stops,
+        tasks: row_tasks,
+        deadlines: row_deadlines,
+        stops: row_stops,
     }
 }

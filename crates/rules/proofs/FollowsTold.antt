@@ -35,9 +35,9 @@ agree-in : {k : Kept} {s s′ : State} → Agree s s′ → StateIn k s′ → S
 agree-in {k} {s} {s′} a h =
     record {
       clock = rw (a .clock) (h .clock);
-      load = rw (a .load) (h .load);
       plays = λ m w. play m w (h .plays m w);
       boxes = λ t w. rw (a .out t w) (h .boxes t w);
+      loads = λ t w. rw (a .load t w) (h .loads t w);
       landed = λ n v t w. rw (a .landed n v t w) (h .landed n v t w);
       shown = λ n v t w. rw (a .shown n v t w) (h .shown n v t w);
       held = λ n v m w. rw (a .held n v m w) (h .held n v m w);

@@ -1,5 +1,5 @@
--- The frames of the runs of bus tasks as a grid: deadlines 1 to P, at each the tasks below n, at each of these the greatest release
--- or none. So frames can be found deadline by deadline, without sorting; and a deadline at which no run ends may be passed over.
+-- The pairs of the runs of bus tasks as a grid: deadlines 1 to P, at each the tasks below n, at each of these the greatest release
+-- or none. So pairs can be found deadline by deadline, without sorting; and a deadline at which no run ends may be passed over.
 use mathlib.Core.Path.{_≡_, refl, sym, ap, ap₂, _∙_, subst}
 use mathlib.Core.Bool.{Bool, true, false, cond, _&&_}
 use mathlib.Core.List.{List, [], _∷_, _++_, append-assoc}
@@ -15,38 +15,39 @@ use Rattle.laws.proofs.Lists.{tested, true-false, both-left, both-right}
 use Rattle.laws.proofs.Orders.{compare-less, compare-more, compare-same}
 use Rattle.laws.proofs.Tests.{by-same, by-divides, by-eq}
 use Rattle.laws.proofs.Divisors.{divides-true, divides-is}
-use Rattle.rules.specs.Frames.{Run, Frame, message, messagesOf, messages, thenBy, frameOrder, merged, withMessage, framesOf}
+use Rattle.rules.specs.Traffic.{Run, Message, message, messagesOf, messages}
+use Rattle.rules.specs.Frames.{Pair, pairOf, thenBy, pairOrder, merged, withPair, pairsOf}
 
 -- ---- the grid
 
-abbrev pub frame : ℕ → ℕ → ℕ → Frame
-frame t r d = record { task = t; release = r; deadline = d }
+abbrev pub pair : ℕ → ℕ → ℕ → Pair
+pair t r d = record { task = t; release = r; deadline = d }
 
--- What a place of the grid holds: 0 for nothing, else one more than the release. The frame that it stands for, if any.
-abbrev pub cell : ℕ → ℕ → ℕ → List Frame
+-- What a place of the grid holds: 0 for nothing, else one more than the release. The pair that it stands for, if any.
+abbrev pub cell : ℕ → ℕ → ℕ → List Pair
 cell t d zero = []
-cell t d (suc r) = frame t r d ∷ []
+cell t d (suc r) = pair t r d ∷ []
 
--- the frames at deadline d of the tasks t, .., t + n - 1, where f says what each place holds
-abbrev pub row : (ℕ → ℕ) → ℕ → ℕ → ℕ → List Frame
+-- the pairs at deadline d of the tasks t, .., t + n - 1, where f says what each place holds
+abbrev pub row : (ℕ → ℕ) → ℕ → ℕ → ℕ → List Pair
 row f d t zero = []
 row f d t (suc n) = cell t d (f t) ++ row f d (suc t) n
 
--- the frames at the deadlines d, .., d + k - 1 of the tasks below n, where f d t says what the place holds
-abbrev pub grid : (ℕ → ℕ → ℕ) → ℕ → ℕ → ℕ → List Frame
+-- the pairs at the deadlines d, .., d + k - 1 of the tasks below n, where f d t says what the place holds
+abbrev pub grid : (ℕ → ℕ → ℕ) → ℕ → ℕ → ℕ → List Pair
 grid f n d zero = []
 grid f n d (suc k) = row (f d) d 0 n ++ grid f n (suc d) k
 
 pub row-same : (f g : ℕ → ℕ) (d t n : ℕ) → ((u : ℕ) → t ≤ u → u < t + n → f u ≡ g u) → row f d t n ≡ row g d t n
 row-same f g d t zero h = refl
 row-same f g d t (suc n) h =
-    ap₂ (λ (x : ℕ) (l : List Frame). cell t d x ++ l) (h t (omega arith) (omega arith))
+    ap₂ (λ (x : ℕ) (l : List Pair). cell t d x ++ l) (h t (omega arith) (omega arith))
     (row-same f g d (suc t) n (λ u a b. h u (omega arith) (omega arith)))
 
 pub grid-same : (f g : ℕ → ℕ → ℕ) (n d k : ℕ) → ((e t : ℕ) → d ≤ e → e < d + k → t < n → f e t ≡ g e t) → grid f n d k ≡ grid g n d k
 grid-same f g n d zero h = refl
 grid-same f g n d (suc k) h =
-    ap₂ (λ (a b : List Frame). a ++ b) (row-same (f d) (g d) d 0 n (λ u a b. h d u (omega arith) (omega arith) (omega arith)))
+    ap₂ (λ (a b : List Pair). a ++ b) (row-same (f d) (g d) d 0 n (λ u a b. h d u (omega arith) (omega arith) (omega arith)))
     (grid-same f g n (suc d) k (λ e t a b c. h e t (omega arith) (omega arith) c))
 
 pub row-empty : (f : ℕ → ℕ) (d t n : ℕ) → ((u : ℕ) → t ≤ u → u < t + n → f u ≡ 0) → row f d t n ≡ []
@@ -64,13 +65,13 @@ grid-nothing f n d (suc k) h =
 -- ---- a message put into the grid
 
 -- what a message adds to the place of deadline d and task t
-abbrev pub adds : Frame → ℕ → ℕ → ℕ
+abbrev pub adds : Pair → ℕ → ℕ → ℕ
 adds m d t = cond (eqb (m .deadline) d && eqb (m .task) t) (suc (m .release)) 0
 
-abbrev pub raised : Frame → (ℕ → ℕ → ℕ) → ℕ → ℕ → ℕ
+abbrev pub raised : Pair → (ℕ → ℕ → ℕ) → ℕ → ℕ → ℕ
 raised m f d t = max (adds m d t) (f d t)
 
-raised-other : (m : Frame) (f : ℕ → ℕ → ℕ) (d t : ℕ) → (m .deadline ≡ d → m .task ≡ t → ⊥) → raised m f d t ≡ f d t
+raised-other : (m : Pair) (f : ℕ → ℕ → ℕ) (d t : ℕ) → (m .deadline ≡ d → m .task ≡ t → ⊥) → raised m f d t ≡ f d t
 raised-other m f d t h = which (tested (eqb (m .deadline) d)) (tested (eqb (m .task) t))
   where
     which : ((eqb (m .deadline) d ≡ true) ⊎ (eqb (m .deadline) d ≡ false)) → ((eqb (m .task) t ≡ true) ⊎ (eqb (m .task) t ≡ false)) → raised m f d t ≡ f d t
@@ -79,29 +80,29 @@ raised-other m f d t h = which (tested (eqb (m .deadline) d)) (tested (eqb (m .t
     which (inl e) (inl q) = absurd (h (eqb-true (m .deadline) d e) (eqb-true (m .task) t q))
 
 module _ (a r e : ℕ) where
-  abbrev m : Frame
-  m = frame a r e
+  abbrev m : Pair
+  m = pair a r e
 
   -- where m stands against the place of deadline d and task t
   abbrev order : ℕ → ℕ → Ordering
   order d t = thenBy (compare e d) (compare a t)
 
   -- m goes in front of these
-  abbrev Leads : List Frame → Type 0
+  abbrev Leads : List Pair → Type 0
   Leads [] = Unit {0}
-  Leads (f ∷ fs) = frameOrder m f ≡ Ordering·lt
+  Leads (f ∷ fs) = pairOrder m f ≡ Ordering·lt
 
-  leads : (l : List Frame) → Leads l → withMessage m l ≡ m ∷ l
-  unfolding withMessage
+  leads : (l : List Pair) → Leads l → withPair m l ≡ m ∷ l
+  unfolding withPair
   leads [] h = refl
   leads (f ∷ fs) h = rw h
 
-  cell-leads : (d t x : ℕ) (l : List Frame) → order d t ≡ Ordering·lt → Leads l → Leads (cell t d x ++ l)
-  unfolding frameOrder
+  cell-leads : (d t x : ℕ) (l : List Pair) → order d t ≡ Ordering·lt → Leads l → Leads (cell t d x ++ l)
+  unfolding pairOrder
   cell-leads d t zero l o h = h
   cell-leads d t (suc x) l o h = o
 
-  row-leads : (f : ℕ → ℕ) (d t n : ℕ) (l : List Frame) → ((u : ℕ) → t ≤ u → order d u ≡ Ordering·lt) → Leads l → Leads (row f d t n ++ l)
+  row-leads : (f : ℕ → ℕ) (d t n : ℕ) (l : List Pair) → ((u : ℕ) → t ≤ u → order d u ≡ Ordering·lt) → Leads l → Leads (row f d t n ++ l)
   row-leads f d t zero l o h = h
   row-leads f d t (suc n) l o h =
       rw (append-assoc (cell t d (f t)) (row f d (suc t) n) l)
@@ -113,110 +114,110 @@ module _ (a r e : ℕ) where
       row-leads (f d) d 0 n (grid f n (suc d) k) (λ u b. rw (compare-less e d h)) (grid-leads f n (suc d) k (omega arith))
 
   -- m goes behind these
-  cell-passed : (d t x : ℕ) (l : List Frame) → order d t ≡ Ordering·gt → withMessage m (cell t d x ++ l) ≡ cell t d x ++ withMessage m l
-  unfolding withMessage frameOrder
+  cell-passed : (d t x : ℕ) (l : List Pair) → order d t ≡ Ordering·gt → withPair m (cell t d x ++ l) ≡ cell t d x ++ withPair m l
+  unfolding withPair pairOrder
   cell-passed d t zero l o = refl
   cell-passed d t (suc x) l o = rw o
 
-  row-passed : (f : ℕ → ℕ) (d t n : ℕ) (l : List Frame) → d < e → withMessage m (row f d t n ++ l) ≡ row f d t n ++ withMessage m l
+  row-passed : (f : ℕ → ℕ) (d t n : ℕ) (l : List Pair) → d < e → withPair m (row f d t n ++ l) ≡ row f d t n ++ withPair m l
   row-passed f d t zero l h = refl
   row-passed f d t (suc n) l h =
-      ap (withMessage m) (append-assoc (cell t d (f t)) (row f d (suc t) n) l)
+      ap (withPair m) (append-assoc (cell t d (f t)) (row f d (suc t) n) l)
       ∙ cell-passed d t (f t) (row f d (suc t) n ++ l) (rw (compare-more e d h))
-      ∙ ap (λ (s : List Frame). cell t d (f t) ++ s) (row-passed f d (suc t) n l h)
-      ∙ sym (append-assoc (cell t d (f t)) (row f d (suc t) n) (withMessage m l))
+      ∙ ap (λ (s : List Pair). cell t d (f t) ++ s) (row-passed f d (suc t) n l h)
+      ∙ sym (append-assoc (cell t d (f t)) (row f d (suc t) n) (withPair m l))
 
 -- m into the row of its deadline
 module _ (r e : ℕ) where
   -- at its own task
-  row-here : (f : ℕ → ℕ → ℕ) (t n : ℕ) (l : List Frame) → Leads t r e l → withMessage (frame t r e) (row (f e) e t (suc n) ++ l) ≡ row (raised (frame t r e) f e) e t (suc n) ++ l
-  unfolding withMessage frameOrder merged
+  row-here : (f : ℕ → ℕ → ℕ) (t n : ℕ) (l : List Pair) → Leads t r e l → withPair (pair t r e) (row (f e) e t (suc n) ++ l) ≡ row (raised (pair t r e) f e) e t (suc n) ++ l
+  unfolding withPair pairOrder merged
   row-here f t n l h =
-      ap (withMessage (frame t r e)) (append-assoc (cell t e (f e t)) (row (f e) e (suc t) n) l)
-      ∙ into (f e t) refl ∙ sym (append-assoc (cell t e (raised (frame t r e) f e t)) (row (raised (frame t r e) f e) e (suc t) n) l)
+      ap (withPair (pair t r e)) (append-assoc (cell t e (f e t)) (row (f e) e (suc t) n) l)
+      ∙ into (f e t) refl ∙ sym (append-assoc (cell t e (raised (pair t r e) f e t)) (row (raised (pair t r e) f e) e (suc t) n) l)
     where
-      rest : row (f e) e (suc t) n ++ l ≡ row (raised (frame t r e) f e) e (suc t) n ++ l
+      rest : row (f e) e (suc t) n ++ l ≡ row (raised (pair t r e) f e) e (suc t) n ++ l
       rest =
-          ap (λ (s : List Frame). s ++ l)
-          (row-same (f e) (raised (frame t r e) f e) e (suc t) n (λ u a b. sym (raised-other (frame t r e) f e u (λ p q. omega arith))))
+          ap (λ (s : List Pair). s ++ l)
+          (row-same (f e) (raised (pair t r e) f e) e (suc t) n (λ u a b. sym (raised-other (pair t r e) f e u (λ p q. omega arith))))
 
       before : Leads t r e (row (f e) e (suc t) n ++ l)
       before = row-leads t r e (f e) e (suc t) n l (λ u b. rw (compare-same e) (compare-less t u b)) h
 
-      here : raised (frame t r e) f e t ≡ max (suc r) (f e t)
+      here : raised (pair t r e) f e t ≡ max (suc r) (f e t)
       here = rw (eq-eqb e e refl, eq-eqb t t refl)
 
-      into : (x : ℕ) → f e t ≡ x → withMessage (frame t r e) (cell t e x ++ (row (f e) e (suc t) n ++ l)) ≡ cell t e (raised (frame t r e) f e t) ++ (row (raised (frame t r e) f e) e (suc t) n ++ l)
+      into : (x : ℕ) → f e t ≡ x → withPair (pair t r e) (cell t e x ++ (row (f e) e (suc t) n ++ l)) ≡ cell t e (raised (pair t r e) f e t) ++ (row (raised (pair t r e) f e) e (suc t) n ++ l)
       into zero q = rw (here, q, max-zero (suc r), ← rest) (leads t r e _ before)
       into (suc x) q = rw (here, q, suc-max-suc r x, ← rest, compare-same e, compare-same t)
 
-  row-insert : (f : ℕ → ℕ → ℕ) (a t n : ℕ) (l : List Frame) → t ≤ a → a < t + n → Leads a r e l → withMessage (frame a r e) (row (f e) e t n ++ l) ≡ row (raised (frame a r e) f e) e t n ++ l
+  row-insert : (f : ℕ → ℕ → ℕ) (a t n : ℕ) (l : List Pair) → t ≤ a → a < t + n → Leads a r e l → withPair (pair a r e) (row (f e) e t n ++ l) ≡ row (raised (pair a r e) f e) e t n ++ l
   row-insert f a t zero l h k w = absurd (omega arith)
   row-insert f a t (suc n) l h k w = which (row-insert f a (suc t) n l) (eq-or-lt-of-le h)
     where
-      which : (suc t ≤ a → a < suc t + n → Leads a r e l → withMessage (frame a r e) (row (f e) e (suc t) n ++ l) ≡ row (raised (frame a r e) f e) e (suc t) n ++ l)
-          → (t ≡ a) ⊎ (t < a) → withMessage (frame a r e) (row (f e) e t (suc n) ++ l) ≡ row (raised (frame a r e) f e) e t (suc n) ++ l
+      which : (suc t ≤ a → a < suc t + n → Leads a r e l → withPair (pair a r e) (row (f e) e (suc t) n ++ l) ≡ row (raised (pair a r e) f e) e (suc t) n ++ l)
+          → (t ≡ a) ⊎ (t < a) → withPair (pair a r e) (row (f e) e t (suc n) ++ l) ≡ row (raised (pair a r e) f e) e t (suc n) ++ l
       which later (inl q) =
-          subst (λ (b : ℕ). Leads b r e l → withMessage (frame b r e) (row (f e) e t (suc n) ++ l) ≡ row (raised (frame b r e) f e) e t (suc n) ++ l)
+          subst (λ (b : ℕ). Leads b r e l → withPair (pair b r e) (row (f e) e t (suc n) ++ l) ≡ row (raised (pair b r e) f e) e t (suc n) ++ l)
           q (row-here f t n l) w
       which later (inr q) =
-          ap (withMessage (frame a r e)) (append-assoc (cell t e (f e t)) (row (f e) e (suc t) n) l)
+          ap (withPair (pair a r e)) (append-assoc (cell t e (f e t)) (row (f e) e (suc t) n) l)
           ∙ cell-passed a r e e t (f e t) (row (f e) e (suc t) n ++ l) (rw (compare-same e) (compare-more a t q))
-          ∙ ap₂ (λ (x : ℕ) (s : List Frame). cell t e x ++ s) (sym (raised-other (frame a r e) f e t (λ p s. omega arith))) (later q (omega arith) w)
-          ∙ sym (append-assoc (cell t e (raised (frame a r e) f e t)) (row (raised (frame a r e) f e) e (suc t) n) l)
+          ∙ ap₂ (λ (x : ℕ) (s : List Pair). cell t e x ++ s) (sym (raised-other (pair a r e) f e t (λ p s. omega arith))) (later q (omega arith) w)
+          ∙ sym (append-assoc (cell t e (raised (pair a r e) f e t)) (row (raised (pair a r e) f e) e (suc t) n) l)
 
 -- m into the grid
-grid-here : (a r d : ℕ) (f : ℕ → ℕ → ℕ) (n k : ℕ) → a < n → withMessage (frame a r d) (grid f n d (suc k)) ≡ grid (raised (frame a r d) f) n d (suc k)
+grid-here : (a r d : ℕ) (f : ℕ → ℕ → ℕ) (n k : ℕ) → a < n → withPair (pair a r d) (grid f n d (suc k)) ≡ grid (raised (pair a r d) f) n d (suc k)
 grid-here a r d f n k s =
     row-insert r d f a 0 n (grid f n (suc d) k) (omega arith) (omega arith) (grid-leads a r d f n (suc d) k (omega arith))
-    ∙ ap (λ (l : List Frame). row (raised (frame a r d) f d) d 0 n ++ l)
-    (grid-same f (raised (frame a r d) f) n (suc d) k (λ e t p q w. sym (raised-other (frame a r d) f e t (λ u v. omega arith))))
+    ∙ ap (λ (l : List Pair). row (raised (pair a r d) f d) d 0 n ++ l)
+    (grid-same f (raised (pair a r d) f) n (suc d) k (λ e t p q w. sym (raised-other (pair a r d) f e t (λ u v. omega arith))))
 
-grid-insert : (m : Frame) (f : ℕ → ℕ → ℕ) (n d k : ℕ) → d ≤ m .deadline → m .deadline < d + k → m .task < n → withMessage m (grid f n d k) ≡ grid (raised m f) n d k
+grid-insert : (m : Pair) (f : ℕ → ℕ → ℕ) (n d k : ℕ) → d ≤ m .deadline → m .deadline < d + k → m .task < n → withPair m (grid f n d k) ≡ grid (raised m f) n d k
 grid-insert m f n d zero h w s = absurd (omega arith)
 grid-insert m f n d (suc k) h w s = which (grid-insert m f n (suc d) k) (eq-or-lt-of-le h)
   where
-    which : (suc d ≤ m .deadline → m .deadline < suc d + k → m .task < n → withMessage m (grid f n (suc d) k) ≡ grid (raised m f) n (suc d) k)
-        → (d ≡ m .deadline) ⊎ (d < m .deadline) → withMessage m (grid f n d (suc k)) ≡ grid (raised m f) n d (suc k)
+    which : (suc d ≤ m .deadline → m .deadline < suc d + k → m .task < n → withPair m (grid f n (suc d) k) ≡ grid (raised m f) n (suc d) k)
+        → (d ≡ m .deadline) ⊎ (d < m .deadline) → withPair m (grid f n d (suc k)) ≡ grid (raised m f) n d (suc k)
     which later (inl q) =
-        subst (λ (e : ℕ). withMessage m (grid f n e (suc k)) ≡ grid (raised m f) n e (suc k)) (sym q)
+        subst (λ (e : ℕ). withPair m (grid f n e (suc k)) ≡ grid (raised m f) n e (suc k)) (sym q)
         (grid-here (m .task) (m .release) (m .deadline) f n k s)
     which later (inr q) =
         row-passed (m .task) (m .release) (m .deadline) (f d) d 0 n (grid f n (suc d) k) q
-        ∙ ap₂ (λ (a b : List Frame). a ++ b)
+        ∙ ap₂ (λ (a b : List Pair). a ++ b)
         (row-same (f d) (raised m f d) d 0 n (λ u a b. sym (raised-other m f d u (λ p s. omega arith))))
         (later q (omega arith) s)
 
--- ---- the frames of messages
+-- ---- the pairs of messages
 
 -- what the place of deadline d and task t holds after all these messages
-abbrev pub best : List Frame → ℕ → ℕ → ℕ
+abbrev pub best : List Message → ℕ → ℕ → ℕ
 best [] d t = 0
-best (m ∷ ms) d t = max (adds m d t) (best ms d t)
+best (m ∷ ms) d t = max (adds (pairOf m) d t) (best ms d t)
 
 -- every message is of a task below n and has its deadline from 1 to P
-pub data Within (n period : ℕ) : List Frame → Type 0 where
+pub data Within (n period : ℕ) : List Message → Type 0 where
   nothing : Within n period []
-  also : {m : Frame} {ms : List Frame} → m .task < n → 0 < m .deadline → m .deadline ≤ period → Within n period ms → Within n period (m ∷ ms)
+  also : {m : Message} {ms : List Message} → m .task < n → 0 < m .deadline → m .deadline ≤ period → Within n period ms → Within n period (m ∷ ms)
 
-within-append : {n period : ℕ} {ms ns : List Frame} → Within n period ms → Within n period ns → Within n period (ms ++ ns)
+within-append : {n period : ℕ} {ms ns : List Message} → Within n period ms → Within n period ns → Within n period (ms ++ ns)
 within-append nothing w = w
 within-append (also a b c v) w = also a b c (within-append v w)
 
-pub frames-best : {n period : ℕ} {ms : List Frame} → Within n period ms → framesOf ms ≡ grid (best ms) n 1 period
-unfolding framesOf
-frames-best {n} {period} nothing = sym (grid-nothing (best []) n 1 period (λ e t a b c. refl))
-frames-best {n} {period} (also {m} {ms} a b c w) =
-    ap (withMessage m) (frames-best w) ∙ grid-insert m (best ms) n 1 period b (omega arith) a
+pub pairs-best : {n period : ℕ} {ms : List Message} → Within n period ms → pairsOf ms ≡ grid (best ms) n 1 period
+unfolding pairsOf pairOf
+pairs-best {n} {period} nothing = sym (grid-nothing (best []) n 1 period (λ e t a b c. refl))
+pairs-best {n} {period} (also {m} {ms} a b c w) =
+    ap (withPair (pairOf m)) (pairs-best w) ∙ grid-insert (pairOf m) (best ms) n 1 period b (omega arith) a
 
 max-assoc : (a b c : ℕ) → max (max a b) c ≡ max a (max b c)
 max-assoc a b c = omega arith
 
-best-append : (ms ns : List Frame) (d t : ℕ) → best (ms ++ ns) d t ≡ max (best ms d t) (best ns d t)
+best-append : (ms ns : List Message) (d t : ℕ) → best (ms ++ ns) d t ≡ max (best ms d t) (best ns d t)
 best-append [] ns d t = sym (zero-max (best ns d t))
-best-append (m ∷ ms) ns d t = ap (max (adds m d t)) (best-append ms ns d t) ∙ sym (max-assoc (adds m d t) (best ms d t) (best ns d t))
+best-append (m ∷ ms) ns d t = ap (max (adds (pairOf m) d t)) (best-append ms ns d t) ∙ sym (max-assoc (adds (pairOf m) d t) (best ms d t) (best ns d t))
 
--- ---- the frames of runs
+-- ---- the pairs of runs
 
 -- what a run adds to the place of deadline d and task t: its message that has to be there by d, if its period divides d
 abbrev pub ends : Run → ℕ → ℕ → ℕ
@@ -235,14 +236,14 @@ times-less period i j p h =
 
 -- the messages lo, .., lo + k - 1 of a run, none with deadline d
 none-ends : (r : Run) (lo k d t : ℕ) → ((i : ℕ) → lo ≤ i → i * r .period ≡ d → ⊥) → best (tab (message r) lo k) d t ≡ 0
-unfolding message
+unfolding message pairOf
 none-ends r lo zero d t h = refl
 none-ends r lo (suc k) d t h =
     rw (ne-eqb (lo * r .period) d (h lo (omega arith)), none-ends r (suc lo) k d t (λ i w. h i (omega arith)))
 
 -- one of them, message q, with deadline d
 one-ends : (r : Run) (q lo k d t : ℕ) → 0 < r .period → lo ≤ q → q < lo + k → q * r .period ≡ d → best (tab (message r) lo k) d t ≡ cond (eqb (r .task) t) (suc ((q - 1) * r .period + r .worst)) 0
-unfolding message
+unfolding message pairOf
 one-ends r q lo zero d t p h w e = absurd (omega arith)
 one-ends r q lo (suc k) d t p h w e = which (one-ends r q (suc lo) k d t p) (eq-or-lt-of-le h)
   where
@@ -257,9 +258,9 @@ one-ends r q lo (suc k) d t p h w e = which (one-ends r q (suc lo) k d t p) (eq-
         rw (ne-eqb (lo * r .period) d (λ u. ne-of-lt l (u ∙ sym e)), zero-max (best (tab (message r) (suc lo) k) d t)) (later s (omega arith) e)
 
 -- the number of the message with deadline d, and its release
-message-of : (q period d : ℕ) → q * period ≡ d → 0 < d → (0 < q) × ((q - 1) * period ≡ d - period)
-message-of zero period d e h = let z : zero * period ≡ 0 = zero-mul period in absurd (omega arith)
-message-of (suc q) period d e h =
+pub message-number : (q period d : ℕ) → q * period ≡ d → 0 < d → (0 < q) × ((q - 1) * period ≡ d - period)
+message-number zero period d e h = let z : zero * period ≡ 0 = zero-mul period in absurd (omega arith)
+message-number (suc q) period d e h =
     let s : suc q * period ≡ q * period + period = suc-mul q period in
     let o : suc q - 1 ≡ q = omega arith in
     (omega arith, rw o (omega arith))
@@ -278,7 +279,7 @@ module _ (period : ℕ) (r : Run) where
           let q = d / r .period in
           let m : q * r .period ≡ d = div-mul-cancel (r .period) (divides-true (r .period) d e) in
           let l : q ≤ period / r .period = le-div-iff-mul-le p .1 (rw m w) in
-          let f = message-of q (r .period) d m h in
+          let f = message-number q (r .period) d m h in
           rw (e, one-ends r q 1 (period / r .period) d t p (f .0) (omega arith) m, f .1)
 
   some-within : (n lo k : ℕ) → r .task < n → 0 < r .period → 0 < lo → lo + k ≤ suc (period / r .period) → Within n period (tab (message r) lo k)
@@ -313,10 +314,10 @@ module _ (period : ℕ) where
       within-append (run-within period r n (ltb-true (r .task) n (both-left (below n r) (all (below n) rs) h)))
       (runs-within n rs (both-right (below n r) (all (below n) rs) h))
 
-  -- The frames of runs of tasks below n, deadline by deadline, task by task.
-  pub frames-grid : (n : ℕ) (rs : List Run) → all (below n) rs ≡ true → framesOf (messages period rs) ≡ grid (latest rs) n 1 period
-  frames-grid n rs h =
-      frames-best (runs-within n rs h)
+  -- The pairs of runs of tasks below n, deadline by deadline, task by task.
+  pub pairs-grid : (n : ℕ) (rs : List Run) → all (below n) rs ≡ true → pairsOf (messages period rs) ≡ grid (latest rs) n 1 period
+  pairs-grid n rs h =
+      pairs-best (runs-within n rs h)
       ∙ grid-same (best (messages period rs)) (latest rs) n 1 period (λ d t a b c. runs-best rs d t a (omega arith))
 
 -- ---- from deadline to deadline

@@ -1,4 +1,4 @@
--- LaidOut: what refusals 6 to 11 leave of a plan, and how large its numbers can be: P is at most a mode period, the frames' deadlines
+-- LaidOut: what refusals 6 to 11 leave of a plan, and how large its numbers can be: P is at most a mode period, the pairs' deadlines
 -- and the control rows lie within P, and tasks and nodes are those of the plan.
 use mathlib.Core.Path.{_≡_, refl, ap}
 use mathlib.Core.Bool.{true}
@@ -31,9 +31,10 @@ use Rattle.laws.proofs.Members.{
 }
 use Rattle.rules.specs.Limits.{mostFrames}
 use Rattle.rules.specs.Plan.{Plan, noMode, theMode, theTask}
-use Rattle.rules.specs.Frames.{Run, runOf, ofBusTask, busRuns, invokes, isBusTask, busTasks, livesIn, isSending, isSendingNode, sendingNodes, ofSender, switchGrid, busPeriod, Frame, message, messagesOf, messages, frames, sendingTime, gapTime, controlPayload, ControlRow, noControlRow, controlFrom, controlRows, controlEnd, someBusTask, payloadsFit, Layout, layoutOf, layout}
+use Rattle.rules.specs.Traffic.{Run, runOf, ofBusTask, busRuns, invokes, isBusTask, busTasks, livesIn, isSending, isSendingNode, sendingNodes, ofSender, switchGrid, busPeriod, message, messagesOf, messages, basic, controlPayload}
+use Rattle.rules.specs.Frames.{Pair, pairOf, pairs, sendingTime, gapTime, ControlRow, noControlRow, controlFrom, controlRows, controlEnd, someBusTask, payloadsFit, Layout, layoutOf, layout}
 use Rattle.rules.proofs.Period.{switch-grid}
-use Rattle.rules.proofs.FramesOf.{plan-frames}
+use Rattle.rules.proofs.PairsOf.{plan-pairs}
 use Rattle.rules.proofs.PlanExact.{some-means, payloads-mean, layout-exact}
 use Rattle.rules.proofs.PlanKept.{Between, PlanKept}
 
@@ -42,7 +43,7 @@ pub record LaidOut (p : Plan) (l : Layout) : Type 0 where
   pub someBus : someBusTask p ≡ true
   pub divides : busPeriod p ∣ switchGrid p
   pub onGrid : p .bus .resolution ∣ busPeriod p
-  pub few : length (frames p) ≤ mostFrames
+  pub few : length (pairs p) ≤ mostFrames
   pub payloads : payloadsFit p ≡ true
   pub room : controlEnd p ≤ busPeriod p
   pub is : layoutOf p ≡ l
@@ -102,21 +103,21 @@ module _ (p : Plan) (k : PlanKept p) where
       let d = period-divides-mode (h .divides) m in
       record { least = pos-of-dvd-of-pos d (μ .period .least); most = omega (arith, le-of-dvd (μ .period .least) d, μ .period .most) }
 
--- ---- frames
+-- ---- pairs
 
--- a frame's task is one of the plan, and its deadline lies within P
-pub record FrameKept (p : Plan) (f : Frame) : Type 0 where
+-- a pair's task is one of the plan, and its deadline lies within P
+pub record PairKept (p : Plan) (f : Pair) : Type 0 where
   pub task : f .task < length (p .tasks)
   pub deadline : f .deadline ≤ busPeriod p
 
 module _ (p : Plan) (k : PlanKept p) where
-  message-kept : (r : Run) → r .task < length (p .tasks) → (i : ℕ) → i ≤ busPeriod p / r .period → FrameKept p (message r i)
-  unfolding message
+  message-kept : (r : Run) → r .task < length (p .tasks) → (i : ℕ) → i ≤ busPeriod p / r .period → PairKept p (pairOf (message r i))
+  unfolding message pairOf
   message-kept r t i h =
       let within : i * r .period ≤ busPeriod p / r .period * r .period = mul-le-mul-right (r .period) h in
       record { task = t; deadline = omega (arith, within, div-mul-le-self (busPeriod p) (r .period)) }
 
-  messagesOf-kept : (r : Run) → r .task < length (p .tasks) → All (FrameKept p) (messagesOf (busPeriod p) r)
+  messagesOf-kept : (r : Run) → r .task < length (p .tasks) → All (λ m. PairKept p (pairOf m)) (messagesOf (busPeriod p) r)
   unfolding messagesOf
   messagesOf-kept r t = all-tab (message r) 1 (busPeriod p / r .period) (λ i a b. message-kept r t i (omega arith))
 
@@ -124,12 +125,12 @@ module _ (p : Plan) (k : PlanKept p) where
   unfolding busRuns runOf
   runs-kept = all-map (runOf p) (all-weaker (λ i h. h .task) (all-keep (ofBusTask p) (k .invocations)))
 
-  messages-kept : All (FrameKept p) (messages (busPeriod p) (busRuns p))
-  unfolding messages
+  messages-kept : All (λ m. PairKept p (pairOf m)) (basic p .messages)
+  unfolding basic messages
   messages-kept = all-joined (all-map (messagesOf (busPeriod p)) (all-weaker messagesOf-kept runs-kept))
 
-  pub frames-kept : All (FrameKept p) (frames p)
-  frames-kept = all-of-members (frames p) (λ f m. all-member messages-kept (plan-frames p .comes f m))
+  pub pairs-kept : All (PairKept p) (pairs p)
+  pairs-kept = all-of-members (pairs p) (λ f m. all-member {P = PairKept p} (all-map pairOf messages-kept) (plan-pairs p .comes f m))
 
 -- ---- control rows
 

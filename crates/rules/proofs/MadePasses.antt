@@ -1,45 +1,35 @@
--- MadePasses: whatever `make` makes, `check` passes, and both leave the same frame rows.
+-- MadePasses: a table whose rows are placed well passes the checker, and both have the same frame rows (`well-passes`). The latest-release
+-- rule places well, so whatever `make` makes, `check` passes.
 use mathlib.Core.Path.{_≡_, refl, sym, ap, _∙_, subst}
-use mathlib.Core.Bool.{true, false}
-use mathlib.Core.List.{List, [], _∷_, map}
+use mathlib.Core.Bool.{true}
+use mathlib.Core.List.{List, [], _∷_, map, List·Memᴰ, List·Memᴰ·head, List·Memᴰ·tail}
 use mathlib.Core.Logic.{_⊎_, inl, inr}
-use native.Mathlib.Nat.{zero-add, add-zero, add-suc, suc-add}
 use native.Mathlib.Omega.{arith}
-use borrow.Author.Tests.{leb-true, eqb-true, eqb-false, le-leb, lt-leb}
-use lib.Dec.{eqb, leb}
-use lib.ListN.{length, getD, take, drop, length-map}
+use borrow.Author.Tests.{leb-true, le-leb, lt-leb}
+use lib.Dec.{leb}
+use lib.ListN.{length, take, drop}
 use lib.Seq.{take-at}
-use Prim.Native.Nat.{ℕ, zero, suc, _+_, _≤_, _<_, zero-le, suc-le-suc}
+use Prim.Native.Nat.{ℕ, _≤_, _<_}
 use Rattle.laws.specs.Res.{Res, ok, refuse, unless}
 use Rattle.laws.proofs.Res.{refuse≢ok, ok-injective, bind-case, then-case, unless-ok}
-use Rattle.laws.proofs.Lists.{tested}
-use Rattle.laws.proofs.Tests.{by-same, by-and, by-eq}
+use Rattle.laws.proofs.Lists.{true-false}
 use Rattle.laws.proofs.Orders.{le-or-lt}
-use Rattle.laws.proofs.Members.{
-  All,
-  empty,
-  also,
-  Pairs,
-  all-weaker,
-  all-both,
-  all-getD,
-  all-map,
-  pairs-getD,
-  chain-getD,
-  member-getD,
-  map-getD,
-}
+use Rattle.laws.proofs.Members.{All, Pairs, all-weaker, all-of-members, all-getD, all-map}
 use Rattle.rules.specs.Limits.{mostFrames}
-use Rattle.rules.specs.Records.{records, tableFollows}
+use Rattle.rules.specs.Records.{Rec, tableFollows}
 use Rattle.rules.specs.Plan.{Plan, readPlan}
-use Rattle.rules.specs.Frames.{Frame, Layout, layout, layoutOf, gapTime, controlRows, controlEnd, frames}
-use Rattle.rules.specs.LatestRelease.{Placed, noFrame, frameTime, latestRelease}
+use Rattle.rules.specs.Traffic.{basic}
+use Rattle.rules.specs.Frames.{isOne, Layout, layout, layoutOf, pairs, controlEnd}
+use Rattle.rules.specs.LatestRelease.{Numbered, Placed, noPair, latestRelease}
 use Rattle.rules.specs.Table.{
-  DataRow,
+  PlacedRow,
+  pairOfNumbered,
+  heldIn,
+  pairsIn,
+  alone,
   dataRow,
   tableBytes,
   FrameRow,
-  startFor,
   rowsFrom,
   rowsThenZero,
   MadeTable,
@@ -48,33 +38,62 @@ use Rattle.rules.specs.Table.{
   outcome,
   make,
 }
-use Rattle.rules.specs.Checker.{TableRead, rowAt, noDataRow, Passed, checkFiles, startIn, isFrameOf, checkedRow, check}
-use Rattle.rules.specs.Obeys.{frameAt, NamesFrame, NamesNew, TimeIsRight, IsReleased, IsInTime, IsSpaced, ObeysTable, MayPass}
+use Rattle.rules.specs.Checker.{nameOf, rowOf, tableOf, Passed, checkFiles, checkedRow, check}
+use Rattle.rules.specs.Obeys.{AreRecords, pairAt, ObeysTable, MayPass, stopOf, RowPlacedWell, numbersIn, PlacedWell}
 use Rattle.rules.proofs.PlanKept.{PlanKept, readable-kept}
-use Rattle.rules.proofs.LaidOut.{LaidOut, laid-out, period-kept, FrameKept, frames-kept, control-kept, control-count, gap-within}
-use Rattle.rules.proofs.FramesOf.{Before, before-not-same, one-of-a-pair, plan-frames}
-use Rattle.rules.proofs.Placing.{Known, Good, PlacedWell, placed-well}
-use Rattle.rules.proofs.TableBytes.{ControlFits, DataFits, TableFits, tableRead, tableRecords, table-reads, table-read}
-use Rattle.rules.proofs.RecordsExact.{records-exact}
+use Rattle.rules.proofs.LaidOut.{LaidOut, laid-out, period-kept, PairKept, pairs-kept, control-kept, control-count, gap-within}
+use Rattle.rules.proofs.PairsOf.{Before, plan-pairs}
+use Rattle.rules.proofs.Placing.{placed-well}
+use Rattle.rules.proofs.TableBytes.{ControlFits, DataFits, TableFits, tableRead, tableRecords, table-written, table-read}
+use Rattle.rules.proofs.WellPlaced.{rowPlaced, tablePlaced, well-obeys, well-rows}
 use Rattle.rules.proofs.CheckerExact.{passed-passes, lent-enough}
 
-abbrev noPlaced : Placed
-noPlaced = record { number = 0; frame = noFrame; start = 0 }
+-- The table of these rows passes: its bytes are records, and what they say is the rows as placed; these keep 21 to 27, and the frame rows
+-- that the checker takes from them are those of the placing.
+pub record Passes (l : Layout) (rows : List PlacedRow) : Type 0 where
+  pub read : List Rec
+  pub areRows : AreRecords tableFollows 0 (tableBytes l rows) read
+  pub is : tableOf read ≡ tablePlaced l rows
+  pub obeys : ObeysTable l (tablePlaced l rows)
+  pub sameRows : map (checkedRow (tablePlaced l rows)) (l .pairs) ≡ rowsFrom rows 0 (l .pairs)
 
-module _ (p : Plan) (k : PlanKept p) (h : LaidOut p (layoutOf p)) (placed : List Placed) (rule : latestRelease (layoutOf p) ≡ ok placed) where
+-- ---- a row holds one pair, so that its record says all of it
+
+one-held : (r : PlacedRow) → isOne (pairsIn r) ≡ true → r .others ≡ []
+unfolding pairsIn heldIn
+one-held r e = only (r .others) e
+  where
+    only : (xs : List Numbered) → isOne (r .opens .pair ∷ map pairOfNumbered xs) ≡ true → xs ≡ []
+    only [] e = refl
+    only (x ∷ xs) e = true-false (sym e)
+
+row-read : (l : Layout) (r : PlacedRow) → r .others ≡ [] → rowOf (dataRow l r) ≡ rowPlaced l r
+unfolding rowOf nameOf dataRow heldIn stopOf
+row-read l r e = rw e
+
+rows-read : (l : Layout) (rows : List PlacedRow) → ((r : PlacedRow) → List·Memᴰ r rows → r .others ≡ [])
+    → map rowOf (map (dataRow l) rows) ≡ map (rowPlaced l) rows
+rows-read l [] h = refl
+rows-read l (r ∷ rows) h = rw (row-read l r (h r (List·Memᴰ·head refl)), rows-read l rows (λ s m. h s (List·Memᴰ·tail m)))
+
+numbers-count : (rows : List PlacedRow) → ((r : PlacedRow) → List·Memᴰ r rows → r .others ≡ []) → length (numbersIn rows) ≡ length rows
+unfolding numbersIn heldIn
+numbers-count [] h = refl
+numbers-count (r ∷ rows) h = rw (h r (List·Memᴰ·head refl), numbers-count rows (λ s m. h s (List·Memᴰ·tail m)))
+
+module _ (p : Plan) (k : PlanKept p) (h : LaidOut p (layoutOf p)) (rows : List PlacedRow) (well : PlacedWell (layoutOf p) rows) where
   abbrev l : Layout
   l = layoutOf p
 
-  abbrev t : TableRead
-  t = tableRead l placed
-
-  -- the frame placed k-th
-  abbrev put : ℕ → Placed
-  put j = getD placed j noPlaced
-
-  well : PlacedWell l placed
+  lone : (r : PlacedRow) → List·Memᴰ r rows → r .others ≡ []
   unfolding layoutOf
-  well = placed-well l (gap-within p) placed rule
+  lone r m = one-held r (well .rowsWell r m .together)
+
+  count : length rows ≡ length (l .pairs)
+  count = sym (numbers-count rows lone) ∙ well .once
+
+  read-placed : tableRead l rows ≡ tablePlaced l rows
+  read-placed = rw (rows-read l rows lone)
 
   -- ---- every number fits its field
 
@@ -90,194 +109,83 @@ module _ (p : Plan) (k : PlanKept p) (h : LaidOut p (layoutOf p)) (placed : List
       })
       (control-kept p)
 
-  data-fits : (x : Placed) → Good (l .plan .bus .resolution) (gapTime (l .plan .bus)) (l .afterControl) (frameTime l) x
-      → Known (l .frames) (record { number = x .number; frame = x .frame }) → DataFits (dataRow l x)
-  unfolding layoutOf dataRow
-  data-fits x g n =
+  data-fits : (r : PlacedRow) → RowPlacedWell l r → DataFits (dataRow l r)
+  unfolding layoutOf pairs dataRow heldIn stopOf pairAt
+  data-fits r w =
       let period = period-kept p k h in
-      let f = subst (FrameKept p) (n .is) (all-getD noFrame (frames-kept p k) (x .number) (n .within)) in
+      let first : List·Memᴰ (r .opens) (heldIn r) = List·Memᴰ·head refl in
+      let opens = w .known (r .opens) first in
+      let pair = subst (PairKept p) (opens .is) (all-getD noPair (pairs-kept p k) (r .opens .number) (opens .there)) in
+      let stop = w .inTime (r .opens) first in
       record {
-        task = omega (arith, f .task, k .taskCount .most);
-        deadline = omega (arith, f .deadline, period .most);
-        start = omega (arith, g .in-time, f .deadline, period .most);
-        stop = omega (arith, g .in-time, f .deadline, period .most);
+        task = omega (arith, pair .task, k .taskCount .most);
+        deadline = omega (arith, pair .deadline, period .most);
+        start = omega (arith, stop, pair .deadline, period .most);
+        stop = omega (arith, stop, pair .deadline, period .most);
       }
 
-  pub table-fits : TableFits l placed
-  unfolding layoutOf
+  pub table-fits : TableFits l rows
+  unfolding layoutOf basic pairs
   table-fits =
       let period = period-kept p k h in
       record {
         period = omega (arith, period .most);
         controls = omega (arith, control-count p, k .nodeCount .most);
-        datas = omega (arith, well .count, h .few);
+        datas = omega (arith, count, h .few);
         control = control-fits;
-        rows = all-map (dataRow l) (all-weaker (λ x a. data-fits x (a .0) (a .1)) (all-both (well .good) (well .origin)));
+        rows = all-map (dataRow l) (all-of-members rows (λ r m. data-fits r (well .rowsWell r m)));
       }
 
-  -- ---- every rule is kept
+  sorted : Pairs Before (l .pairs)
+  unfolding layoutOf pairs
+  sorted = plan-pairs p .sorted
 
-  good : (j : ℕ) → j < length placed → Good (l .plan .bus .resolution) (gapTime (l .plan .bus)) (l .afterControl) (frameTime l) (put j)
-  good j w = all-getD noPlaced (well .good) j w
-
-  known : (j : ℕ) → j < length placed → Known (l .frames) (record { number = put j .number; frame = put j .frame })
-  known j w = all-getD noPlaced (well .origin) j w
-
-  row-is : (j : ℕ) → j < length placed → rowAt t j ≡ dataRow l (put j)
-  unfolding rowAt
-  row-is j w = map-getD (dataRow l) placed noPlaced noDataRow j w
-
-  task-is : (j : ℕ) → j < length placed → rowAt t j .task ≡ put j .frame .task
-  unfolding dataRow
-  task-is j w = ap (λ (r : DataRow). r .task) (row-is j w)
-
-  deadline-is : (j : ℕ) → j < length placed → rowAt t j .deadline ≡ put j .frame .deadline
-  unfolding dataRow
-  deadline-is j w = ap (λ (r : DataRow). r .deadline) (row-is j w)
-
-  start-is : (j : ℕ) → j < length placed → rowAt t j .start ≡ put j .start
-  unfolding dataRow
-  start-is j w = ap (λ (r : DataRow). r .start) (row-is j w)
-
-  stop-is : (j : ℕ) → j < length placed → rowAt t j .stop ≡ put j .start + frameTime l (put j .frame)
-  unfolding dataRow
-  stop-is j w = ap (λ (r : DataRow). r .stop) (row-is j w)
-
-  sorted : Pairs Before (l .frames)
-  unfolding layoutOf
-  sorted = plan-frames p .sorted
-
-  -- frames of different numbers have different pairs
-  other-pair : (a b : ℕ) → a < length (l .frames) → b < length (l .frames) → (a ≡ b → ⊥) → frameAt l a .task ≡ frameAt l b .task
-      → frameAt l a .deadline ≡ frameAt l b .deadline → ⊥
-  unfolding frameAt
-  other-pair a b v w n e d = either (le-or-lt b a)
-    where
-      either : (b ≤ a) ⊎ (a < b) → ⊥
-      either (inl q) =
-          let less : b < a = omega arith in
-          before-not-same (frameAt l b) (frameAt l a) (sym e) (sym d) (pairs-getD noFrame sorted b a less v)
-      either (inr q) = before-not-same (frameAt l a) (frameAt l b) e d (pairs-getD noFrame sorted a b q w)
-
-  frame-is : (j : ℕ) → j < length placed → frameAt l (put j .number) ≡ put j .frame
-  unfolding frameAt
-  frame-is j w = known j w .is
-
-  names : (j : ℕ) → j < length placed → NamesFrame l t j (put j .number)
-  names j w =
-      record {
-        there = known j w .within;
-        task = task-is j w ∙ sym (ap (λ (f : Frame). f .task) (frame-is j w));
-        deadline = deadline-is j w ∙ sym (ap (λ (f : Frame). f .deadline) (frame-is j w));
-      }
-
-  names-new : (j : ℕ) → j < length placed → NamesNew l t j
-  names-new j w = record { frame = put j .number; names = names j w; new = new }
-    where
-      new : (i : ℕ) → i < j → rowAt t i .task ≡ rowAt t j .task → rowAt t i .deadline ≡ rowAt t j .deadline → ⊥
-      new i v e d =
-          let u : i < length placed = omega arith in
-          other-pair (put i .number) (put j .number) (known i u .within) (known j w .within) (pairs-getD noPlaced (well .distinct) i j v w)
-          (sym (names i u .task) ∙ e ∙ names j w .task)
-          (sym (names i u .deadline) ∙ d ∙ names j w .deadline)
-
-  -- a row names no second frame
-  named : (j : ℕ) → j < length placed → (f : ℕ) → NamesFrame l t j f → frameAt l f ≡ put j .frame
-  unfolding frameAt
-  named j w f n =
-      one-of-a-pair sorted (frameAt l f) (frameAt l (put j .number)) (member-getD (l .frames) noFrame f (n .there))
-      (member-getD (l .frames) noFrame (put j .number) (known j w .within))
-      (sym (n .task) ∙ names j w .task)
-      (sym (n .deadline) ∙ names j w .deadline)
-      ∙ frame-is j w
-
-  time : (j : ℕ) → j < length placed → TimeIsRight l t j
-  time j w =
-      record {
-        stop = λ f n. stop-is j w ∙ rw (start-is j w, named j w f n);
-        grid = rw (start-is j w) (good j w .on-grid);
-      }
-
-  released : (j : ℕ) → j < length placed → IsReleased l t j
-  released j w f n = rw (start-is j w, named j w f n) (good j w .released)
-
-  in-time : (j : ℕ) → j < length placed → IsInTime t j
-  in-time j w = rw (stop-is j w, deadline-is j w) (good j w .in-time)
-
-  spaced : (j : ℕ) → j < length placed → IsSpaced l t j
+  passes : Passes l rows
   unfolding layoutOf controlEnd
-  spaced zero w = rw (start-is 0 w) (good 0 w .behind)
-  spaced (suc j) w =
-      let v : j < length placed = omega arith in
-      rw (start-is (suc j) w, stop-is j v) (chain-getD noPlaced (well .spaced) j w)
-
-  rows-count : length (t .rows) ≡ length placed
-  rows-count = length-map placed (dataRow l)
-
-  pub made-obeys : ObeysTable l t
-  made-obeys =
+  passes =
       record {
-        header =
-            record {
-              period = refl;
-              controls = refl;
-              datas = well .count;
-              controlRows = refl;
-              dataRows = rows-count ∙ well .count;
-            };
-        control = λ j w. refl;
-        names = λ j w. names-new j (rw rows-count at w);
-        time = λ j w. time j (rw rows-count at w);
-        released = λ j w. released j (rw rows-count at w);
-        inTime = λ j w. in-time j (rw rows-count at w);
-        spaced = λ j w. spaced j (rw rows-count at w);
+        read = tableRecords l rows;
+        areRows = table-written l rows table-fits;
+        is = table-read l rows ∙ read-placed;
+        obeys = well-obeys l sorted rows well (omega arith) count;
+        sameRows = well-rows l sorted rows well;
       }
 
-  -- ---- the frame rows are the same
+-- Rows that are placed well, whatever placed them, make a table that passes, with the same frame rows.
+pub well-passes : (p : Plan) → PlanKept p → LaidOut p (layoutOf p) → (rows : List PlacedRow) → PlacedWell (layoutOf p) rows
+    → Passes (layoutOf p) rows
+well-passes p k h rows well = passes p k h rows well
 
-  -- the k-th frame is the row's exactly when k is its number
-  row-of : (x : Placed) → Known (l .frames) (record { number = x .number; frame = x .frame }) → (n : ℕ) → n < length (l .frames)
-      → isFrameOf (dataRow l x) (frameAt l n) ≡ eqb (x .number) n
-  unfolding isFrameOf dataRow frameAt
-  row-of x c n w =
-      by-same
-      (by-and (by-eq (x .frame .task) (frameAt l n .task)) (by-eq (x .frame .deadline) (frameAt l n .deadline)))
-      (by-eq (x .number) n)
-      (λ e. same (tested (eqb (x .number) n)) e)
-      (λ e. let q : x .frame ≡ frameAt l n = sym (c .is) ∙ ap (frameAt l) e in (ap (λ (f : Frame). f .task) q, ap (λ (f : Frame). f .deadline) q))
-    where
-      same : (eqb (x .number) n ≡ true) ⊎ (eqb (x .number) n ≡ false)
-          → (x .frame .task ≡ frameAt l n .task) × (x .frame .deadline ≡ frameAt l n .deadline)
-          → x .number ≡ n
-      same (inl q) e = eqb-true (x .number) n q
-      same (inr q) e =
-          absurd
-          (other-pair (x .number) n (c .within) w (eqb-false (x .number) n q)
-          (ap (λ (f : Frame). f .task) (c .is) ∙ e .0)
-          (ap (λ (f : Frame). f .deadline) (c .is) ∙ e .1))
+-- The same of a plan file, in the words of the checker.
+module _ (plan : List ℕ) {p : Plan} {l : Layout} (isRead : readPlan plan ≡ ok p) (isLaid : layout p ≡ ok l) {rows : List PlacedRow} (well : PlacedWell l rows) where
+  passes-laid : Passes l rows
+  passes-laid =
+      let h = laid-out p l isLaid in
+      let well₀ = subst (λ (l : Layout). PlacedWell l rows) (sym (h .is)) well in
+      subst (λ (l : Layout). Passes l rows) (h .is)
+      (well-passes p (readable-kept plan p isRead) (subst (LaidOut p) (sym (h .is)) h) rows well₀)
 
-  start-same : {xs : List Placed} → All (λ x. Known (l .frames) (record { number = x .number; frame = x .frame })) xs → (n : ℕ)
-      → n < length (l .frames) → startIn (map (dataRow l) xs) (frameAt l n) ≡ startFor xs n
-  unfolding startIn startFor dataRow
-  start-same empty n w = refl
-  start-same (also {x} {l = xs} c a) n w = rw (row-of x c n w, start-same a n w)
+  may-pass : MayPass plan (tableBytes l rows)
+  may-pass =
+      record {
+        read = p;
+        isRead = isRead;
+        laid = l;
+        isLaid = isLaid;
+        rows = passes-laid .read;
+        areRows = passes-laid .areRows;
+        obeys = rw (passes-laid .is) (passes-laid .obeys);
+      }
 
-  rows-same : (n : ℕ) (fs : List Frame)
-      → ((j : ℕ) → j < length fs → (n + j < length (l .frames)) × (getD (l .frames) (n + j) noFrame ≡ getD fs j noFrame))
-      → map (checkedRow t) fs ≡ rowsFrom placed n fs
-  unfolding checkedRow rowsFrom frameAt
-  rows-same n [] e = refl
-  rows-same n (f ∷ fs) e =
-      let first = e 0 (suc-le-suc zero-le) in
-      let w : n < length (l .frames) = rw (add-zero n) at (first .0) in
-      let is : frameAt l n ≡ f = rw (add-zero n) at (first .1) in
-      let start : startIn (t .rows) f ≡ startFor placed n = ap (startIn (t .rows)) (sym is) ∙ start-same (well .origin) n w in
-      let rest : map (checkedRow t) fs ≡ rowsFrom placed (suc n) fs =
-      rows-same (suc n) fs (λ j v. rw (suc-add n j, ← add-suc n j) (e (suc j) (suc-le-suc v))) in
-      rw (start, rest)
+  -- what the checker hands on is what was laid out and placed
+  pub well-checked : checkFiles plan (tableBytes l rows) ≡ ok (record { plan = p; traffic = basic p; layout = l; table = tablePlaced l rows })
+  unfolding may-pass
+  well-checked = passed-passes plan (tableBytes l rows) may-pass ∙ rw (passes-laid .is)
 
-  pub frame-rows-same : map (checkedRow t) (l .frames) ≡ rowsFrom placed 0 (l .frames)
-  frame-rows-same = rows-same 0 (l .frames) (λ j w. rw (zero-add j) (w, refl))
+  pub well-checks : (lent : List FrameRow) → mostFrames ≤ length lent
+      → check plan (tableBytes l rows) lent ≡ record { answer = ok tt; rows = rowsThenZero (madeTable l rows .rows) (length lent) }
+  unfolding madeTable
+  well-checks lent w = lent-enough plan (tableBytes l rows) lent w ∙ rw (well-checked, passes-laid .sameRows)
 
 -- ---- what was made
 
@@ -288,8 +196,8 @@ pub record TableMade (plan : List ℕ) (room : ℕ) (t : MadeTable) : Type 0 whe
   pub isLaid : layout read ≡ ok laid
   pub placed : List Placed
   pub rule : latestRelease laid ≡ ok placed
-  pub fits : length (tableBytes laid placed) ≤ room
-  pub is : madeTable laid placed ≡ t
+  pub fits : length (tableBytes laid (map alone placed)) ≤ room
+  pub is : madeTable laid (map alone placed) ≡ t
 
 pub table-made : (plan : List ℕ) (room : ℕ) (t : MadeTable) → tableFor plan room ≡ ok t → TableMade plan room t
 unfolding tableFor madeTable
@@ -297,7 +205,7 @@ table-made plan room t e =
     bind-case (readPlan plan) _ e λ p isRead e₁.
     bind-case (layout p) _ e₁ λ l isLaid e₂.
     bind-case (latestRelease l) _ e₂ λ placed rule e₃.
-    let n = length (tableBytes l placed) in
+    let n = length (tableBytes l (map alone placed)) in
     then-case (unless 13 n (leb n room)) _ e₃ λ _ fits e₄.
     record {
       read = p;
@@ -310,63 +218,38 @@ table-made plan room t e =
       is = ok-injective e₄;
     }
 
--- what is said of a laid out plan and of what the rule placed
-record Fine (l : Layout) (placed : List Placed) : Type 0 where
-  fit : TableFits l placed
-  obeys : ObeysTable l (tableRead l placed)
-  rows : map (checkedRow (tableRead l placed)) (l .frames) ≡ rowsFrom placed 0 (l .frames)
-
-fine : (plan : List ℕ) (p : Plan) (l : Layout) (placed : List Placed) → readPlan plan ≡ ok p → layout p ≡ ok l → latestRelease l ≡ ok placed
-    → Fine l placed
-fine plan p l placed isRead isLaid rule =
-    let k = readable-kept plan p isRead in
-    let h = laid-out p l isLaid in
-    let h₀ = subst (LaidOut p) (sym (h .is)) h in
-    let rule₀ : latestRelease (layoutOf p) ≡ ok placed = rw (h .is) rule in
-    subst (λ (l : Layout). Fine l placed) (h .is)
-    (record { fit = table-fits p k h₀ placed rule₀; obeys = made-obeys p k h₀ placed rule₀; rows = frame-rows-same p k h₀ placed rule₀ })
+-- the latest-release rule on a plan's layout places well
+pub rule-well : (p : Plan) (l : Layout) → layout p ≡ ok l → (placed : List Placed) → latestRelease l ≡ ok placed → PlacedWell l (map alone placed)
+unfolding layoutOf
+rule-well p l isLaid placed rule =
+    let is = laid-out p l isLaid .is in
+    let rule₀ : latestRelease (layoutOf p) ≡ ok placed = rw is rule in
+    subst (λ (l : Layout). PlacedWell l (map alone placed)) is (placed-well (layoutOf p) (gap-within p) (λ f. refl) placed rule₀)
 
 module _ {plan : List ℕ} {room : ℕ} {t : MadeTable} (m : TableMade plan room t) where
-  abbrev fineOf : Fine (m .laid) (m .placed)
-  fineOf = fine plan (m .read) (m .laid) (m .placed) (m .isRead) (m .isLaid) (m .rule)
+  abbrev rowsOf : List PlacedRow
+  rowsOf = map alone (m .placed)
 
-  bytes-are : tableBytes (m .laid) (m .placed) ≡ t .table
+  abbrev wellOf : PlacedWell (m .laid) rowsOf
+  wellOf = rule-well (m .read) (m .laid) (m .isLaid) (m .placed) (m .rule)
+
+  bytes-are : tableBytes (m .laid) rowsOf ≡ t .table
   unfolding madeTable
   bytes-are = ap (λ (t : MadeTable). t .table) (m .is)
 
-  rows-are : rowsFrom (m .placed) 0 (m .laid .frames) ≡ t .rows
-  unfolding madeTable
-  rows-are = ap (λ (t : MadeTable). t .rows) (m .is)
-
-  read-back : records tableFollows 20 (t .table) ≡ ok (tableRecords (m .laid) (m .placed))
-  read-back = ap (records tableFollows 20) (sym bytes-are) ∙ table-reads (m .laid) (m .placed) (fineOf .fit)
-
-  pub made-keeps : MayPass plan (t .table)
-  made-keeps =
-      record {
-        read = m .read;
-        isRead = m .isRead;
-        laid = m .laid;
-        isLaid = m .isLaid;
-        rows = tableRecords (m .laid) (m .placed);
-        areRows = records-exact tableFollows 20 (t .table) (tableRecords (m .laid) (m .placed)) .0 read-back;
-        obeys = rw (table-read (m .laid) (m .placed)) (fineOf .obeys);
-      }
-
-  -- what the checker hands on is what was laid out and written
-  pub made-passed : checkFiles plan (t .table) ≡ ok (record { layout = m .laid; table = tableRead (m .laid) (m .placed) })
-  unfolding made-keeps
-  made-passed = passed-passes plan (t .table) made-keeps ∙ rw (table-read (m .laid) (m .placed))
+  pub made-passed : checkFiles plan (t .table)
+      ≡ ok (record { plan = m .read; traffic = basic (m .read); layout = m .laid; table = tablePlaced (m .laid) rowsOf })
+  made-passed = ap (checkFiles plan) (sym bytes-are) ∙ well-checked plan (m .isRead) (m .isLaid) wellOf
 
   pub made-checked : (lent : List FrameRow) → mostFrames ≤ length lent
       → check plan (t .table) lent ≡ record { answer = ok tt; rows = rowsThenZero (t .rows) (length lent) }
-  made-checked lent w = lent-enough plan (t .table) lent w ∙ rw (made-passed, fineOf .rows, rows-are)
+  made-checked lent w =
+      ap (λ (table : List ℕ). check plan table lent) (sym bytes-are) ∙ well-checks plan (m .isRead) (m .isLaid) wellOf lent w
+      ∙ rw (m .is)
 
 -- Whatever the maker makes passes the checker.
 pub made-passes : (plan : List ℕ) (room : ℕ) (t : MadeTable) → tableFor plan room ≡ ok t → (c : Passed) × (checkFiles plan (t .table) ≡ ok c)
-made-passes plan room t e =
-    let m = table-made plan room t e in
-    (record { layout = m .laid; table = tableRead (m .laid) (m .placed) }, made-passed m)
+made-passes plan room t e = (_, made-passed (table-made plan room t e))
 
 -- ---- make and check
 

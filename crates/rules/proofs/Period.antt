@@ -12,7 +12,7 @@ use Rattle.laws.proofs.Lists.{all-map, all-snoc}
 use Rattle.laws.proofs.Tests.{Tests, by-itself, by-divides, by-and, by-all-keep}
 use Rattle.laws.proofs.Divisors.{divides-true, divides-is, lcm-divides, divides-gcd, same-multiples, same-divisors}
 use Rattle.rules.specs.Plan.{Mode, Plan, noMode, noInvocation, theMode, theInvocation, periodOf}
-use Rattle.rules.specs.Frames.{Run, runOf, ofBusTask, busRuns, withRun, periodOfRuns, busPeriod, withMode, ofSender, switchGrid}
+use Rattle.rules.specs.Traffic.{Run, runOf, ofBusTask, busRuns, withRun, periodOfRuns, busPeriod, withMode, ofSender, switchGrid}
 
 -- ---- what P and G are
 

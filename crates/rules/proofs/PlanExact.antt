@@ -53,27 +53,8 @@ use Rattle.rules.specs.Plan.{
   rule5,
   readPlan,
 }
-use Rattle.rules.specs.Frames.{
-  Layout,
-  taskNode,
-  invokes,
-  leaves,
-  isBusTask,
-  busTasks,
-  busPeriod,
-  switchGrid,
-  frames,
-  controlPayload,
-  isSendingNode,
-  sendingNodes,
-  controlEnd,
-  someBusTask,
-  messageFits,
-  controlFits,
-  payloadsFit,
-  layoutOf,
-  layout,
-}
+use Rattle.rules.specs.Traffic.{taskNode, invokes, leaves, isBusTask, busTasks, busPeriod, switchGrid, controlPayload, isSendingNode, sendingNodes, basic}
+use Rattle.rules.specs.Frames.{Layout, pairs, controlEnd, someBusTask, messageFits, controlFits, payloadsFit, layoutOf, layout}
 use Rattle.rules.specs.Obeys.{AreRecords, theEnd, oneMore}
 use Rattle.rules.specs.ObeysPlan.{
   CountFits,
@@ -356,7 +337,7 @@ module _ (p : Plan) where
   from10 = _>>_ (unless 10 0 (payloadsFit p)) from11
 
   abbrev from9 : Res (Unit {0})
-  from9 = _>>_ (unless 9 0 (leb (length (frames p)) mostFrames)) from10
+  from9 = _>>_ (unless 9 0 (leb (length (pairs p)) mostFrames)) from10
 
   abbrev from8 : Res (Unit {0})
   from8 = _>>_ (unless 8 0 (divides (p .bus .resolution) (busPeriod p))) from9
@@ -372,18 +353,18 @@ module _ (p : Plan) where
       exact-then (exact-once 6 0 some-means) λ h₆.
       exact-then (exact-once 7 0 (by-divides (busPeriod p) (switchGrid p))) λ h₇.
       exact-then (exact-once 8 0 (by-divides (p .bus .resolution) (busPeriod p))) λ h₈.
-      exact-then (exact-once 9 0 (by-le (length (frames p)) mostFrames)) λ h₉.
+      exact-then (exact-once 9 0 (by-le (length (pairs p)) mostFrames)) λ h₉.
       exact-then (exact-once 10 0 payloads-mean) λ h₁₀.
       exact-once 11 0 (by-le (controlEnd p) (busPeriod p))
 
   layout-grouped : _>>_ from6 (ok (layoutOf p)) ≡ layout p
-  unfolding layout
+  unfolding layout basic
   layout-grouped =
       rw (
         then-assoc (unless 6 0 (someBusTask p)) from7 (ok (layoutOf p)),
         then-assoc (unless 7 0 (divides (busPeriod p) (switchGrid p))) from8 (ok (layoutOf p)),
         then-assoc (unless 8 0 (divides (p .bus .resolution) (busPeriod p))) from9 (ok (layoutOf p)),
-        then-assoc (unless 9 0 (leb (length (frames p)) mostFrames)) from10 (ok (layoutOf p)),
+        then-assoc (unless 9 0 (leb (length (pairs p)) mostFrames)) from10 (ok (layoutOf p)),
         then-assoc (unless 10 0 (payloadsFit p)) from11 (ok (layoutOf p)),
       )
 

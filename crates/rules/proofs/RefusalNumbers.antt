@@ -25,17 +25,20 @@ use Rattle.rules.specs.Plan.{
   readPlan,
 }
 use Rattle.rules.specs.Limits.{mostFrames}
-use Rattle.rules.specs.Frames.{someBusTask, busPeriod, switchGrid, frames, payloadsFit, controlEnd, Layout, layout, layoutOf}
+use Rattle.rules.specs.Traffic.{basic}
+use Rattle.rules.specs.Frames.{someBusTask, pairs, payloadsFit, controlEnd, Layout, layout, layoutOf}
 use Rattle.rules.specs.Checker.{
   TableRead,
   headerRight,
   controlKept,
-  namesNewFrame,
+  namesNew,
   timeKept,
   releaseKept,
   deadlineKept,
   gapKept,
   firstRow,
+  shaped,
+  timed,
   judged,
   tableOf,
   checkFiles,
@@ -67,25 +70,32 @@ pub layout-gives : (p : Plan) → Gives 6 11 (layout p)
 unfolding layout
 layout-gives p =
     gives-then (gives-unless 6 0 (someBusTask p) (lit≤ tt) (lit≤ tt))
-    (gives-then (gives-unless 7 0 (divides (busPeriod p) (switchGrid p)) (lit≤ tt) (lit≤ tt))
-    (gives-then (gives-unless 8 0 (divides (p .bus .resolution) (busPeriod p)) (lit≤ tt) (lit≤ tt))
-    (gives-then (gives-unless 9 0 (leb (length (frames p)) mostFrames) (lit≤ tt) (lit≤ tt))
+    (gives-then (gives-unless 7 0 (divides (basic p .period) (basic p .grid)) (lit≤ tt) (lit≤ tt))
+    (gives-then (gives-unless 8 0 (divides (p .bus .resolution) (basic p .period)) (lit≤ tt) (lit≤ tt))
+    (gives-then (gives-unless 9 0 (leb (length (pairs p)) mostFrames) (lit≤ tt) (lit≤ tt))
     (gives-then (gives-unless 10 0 (payloadsFit p) (lit≤ tt) (lit≤ tt))
-    (gives-then (gives-unless 11 0 (leb (controlEnd p) (busPeriod p)) (lit≤ tt) (lit≤ tt)) (gives-ok (layoutOf p)))))))
+    (gives-then (gives-unless 11 0 (leb (controlEnd p) (basic p .period)) (lit≤ tt) (lit≤ tt)) (gives-ok (layoutOf p)))))))
 
 rows-give : (n : ℕ) (t : TableRead) (test : ℕ → Bool) → T (leb 21 n) → T (leb n 27) → Gives 21 27 (rowsKeep n t test)
 unfolding rowsKeep
 rows-give n t test a b = gives-at n (firstRow t) (firstBad test (upTo (length (t .rows)))) (lit≤ a) (lit≤ b)
 
-pub judged-gives : (l : Layout) (t : TableRead) → Gives 21 27 (judged l t)
-unfolding judged
-judged-gives l t =
+shaped-gives : (l : Layout) (t : TableRead) → Gives 21 27 (shaped l t)
+unfolding shaped
+shaped-gives l t =
     gives-then (gives-unless 21 0 (headerRight l t) (lit≤ tt) (lit≤ tt))
     (gives-then (gives-at 22 1 (firstBad (controlKept l t) (upTo (length (t .control)))) (lit≤ tt) (lit≤ tt))
-    (gives-then (rows-give 23 t (namesNewFrame l t) tt tt)
-    (gives-then (rows-give 24 t (timeKept l t) tt tt)
-    (gives-then (rows-give 25 t (releaseKept l t) tt tt)
-    (gives-then (rows-give 26 t (deadlineKept t) tt tt) (rows-give 27 t (gapKept l t) tt tt))))))
+    (gives-then (rows-give 23 t (namesNew l t) tt tt) (rows-give 24 t (timeKept l t) tt tt)))
+
+timed-gives : (l : Layout) (t : TableRead) → Gives 21 27 (timed l t)
+unfolding timed
+timed-gives l t =
+    gives-then (rows-give 25 t (releaseKept l t) tt tt)
+    (gives-then (rows-give 26 t (deadlineKept t) tt tt) (rows-give 27 t (gapKept l t) tt tt))
+
+pub judged-gives : (l : Layout) (t : TableRead) → Gives 21 27 (judged l t)
+unfolding judged
+judged-gives l t = gives-then (shaped-gives l t) (timed-gives l t)
 
 pub passed-gives : (plan table : List ℕ) → Gives 1 27 (checkFiles plan table)
 unfolding checkFiles

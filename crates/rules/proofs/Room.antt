@@ -1,7 +1,7 @@
 -- Room: `make` gives 12 exactly where the latest-release rule refuses, at the frame that it had taken, and a table exactly where the rule
 -- places every frame and the room suffices.
 use mathlib.Core.Path.{_≡_, refl, sym, ap, _∙_}
-use mathlib.Core.List.{List}
+use mathlib.Core.List.{List, map}
 use mathlib.Core.Logic.{_⊎_, inl, inr, _↔_}
 use native.Mathlib.Omega.{arith}
 use borrow.Author.Tests.{leb-true, leb-false, le-leb, lt-leb}
@@ -26,7 +26,7 @@ use Rattle.rules.specs.Limits.{mostFrames}
 use Rattle.rules.specs.Plan.{Plan, readPlan}
 use Rattle.rules.specs.Frames.{Layout, layout}
 use Rattle.rules.specs.LatestRelease.{Placed, latestRelease}
-use Rattle.rules.specs.Table.{FrameRow, tableBytes, MadeTable, madeTable, tableFor, outcome, make}
+use Rattle.rules.specs.Table.{FrameRow, alone, tableBytes, MadeTable, madeTable, tableFor, outcome, make}
 use Rattle.rules.specs.RuleSteps.{RuleGives}
 use Rattle.rules.specs.Obeys.{MakesTable, MakeFault, inPlan, inLayout, inRule, inRoom, RuleRefuses}
 use Rattle.rules.proofs.RuleSteps.{rule-exact}
@@ -42,7 +42,7 @@ module _ (plan : List ℕ) (room : ℕ) where
       bind-refused (readPlan plan) _ e inPlan λ q isRead e₁.
       bind-refused (layout q) _ e₁ (inLayout isRead) λ l isLaid e₂.
       bind-refused (latestRelease l) _ e₂ (inRule isRead isLaid) λ placed rule e₃.
-      let long = length (tableBytes l placed) in
+      let long = length (tableBytes l (map alone placed)) in
       then-refused (unless 13 long (leb long room)) _ e₃
       (λ f.
       let r = unless-refused 13 long (leb long room) n p f in
@@ -54,50 +54,50 @@ module _ (plan : List ℕ) (room : ℕ) where
   fault-table n p (inPlan e) = rw e
   fault-table n p (inLayout a e) = rw (a, e)
   fault-table n p (inRule a b e) = rw (a, b, e)
-  fault-table n p (inRoom {l = l} {placed = placed} a b c w e f) = rw (a, b, c, lt-leb (length (tableBytes l placed)) room w, e, f)
+  fault-table n p (inRoom {l = l} {placed = placed} a b c w e f) = rw (a, b, c, lt-leb (length (tableBytes l (map alone placed))) room w, e, f)
 
-  pub table-makes : (n : ℕ) (h : MakesTable plan room n) → tableFor plan room ≡ ok (madeTable (h .laid) (h .placed))
+  pub table-makes : (n : ℕ) (h : MakesTable plan room n) → tableFor plan room ≡ ok (madeTable (h .laid) (map alone (h .placed)))
   unfolding tableFor madeTable
-  table-makes n h = rw (h .isRead, h .isLaid, h .rule, le-leb (length (tableBytes (h .laid) (h .placed))) room (h .fits))
+  table-makes n h = rw (h .isRead, h .isLaid, h .rule, le-leb (length (tableBytes (h .laid) (map alone (h .placed)))) room (h .fits))
 
 -- ---- plans that pass 1 to 11
 
 module _ (plan : List ℕ) (room : ℕ) {p : Plan} {l : Layout} (isRead : readPlan plan ≡ ok p) (isLaid : layout p ≡ ok l) where
   on : tableFor plan room
       ≡ _>>=_ (latestRelease l)
-      (λ placed. let t = madeTable l placed in _>>_ (unless 13 (length (t .table)) (leb (length (t .table)) room)) (ok t))
+      (λ placed. let t = madeTable l (map alone placed) in _>>_ (unless 13 (length (t .table)) (leb (length (t .table)) room)) (ok t))
   unfolding tableFor
   on = rw (isRead, isLaid)
 
-  twelve-says : (frame : ℕ) → tableFor plan room ≡ refuse 12 frame → latestRelease l ≡ refuse 12 frame
+  twelve-says : (pair : ℕ) → tableFor plan room ≡ refuse 12 pair → latestRelease l ≡ refuse 12 pair
   unfolding madeTable
-  twelve-says frame e =
+  twelve-says pair e =
       bind-refused (latestRelease l) _ (sym on ∙ e) (λ r. r) λ placed rule e₁.
-      let long = length (tableBytes l placed) in
+      let long = length (tableBytes l (map alone placed)) in
       then-refused (unless 13 long (leb long room)) _ e₁
-      (λ f. let z : 13 ≡ 12 = unless-refused 13 long (leb long room) 12 frame f .1 in absurd (omega arith))
+      (λ f. let z : 13 ≡ 12 = unless-refused 13 long (leb long room) 12 pair f .1 in absurd (omega arith))
       (λ _ _ f. refuse≢ok (sym f))
 
   -- 12 is the rule's own refusal, at the frame that it had taken
-  pub room-twelve : (frame : ℕ) → (tableFor plan room ≡ refuse 12 frame) ↔ RuleGives l (refuse 12 frame)
-  room-twelve frame = (
-    λ e. rule-exact l (refuse 12 frame) .0 (twelve-says frame e),
-    λ s. fault-table plan room 12 frame (inRule isRead isLaid (rule-exact l (refuse 12 frame) .1 s)),
+  pub room-twelve : (pair : ℕ) → (tableFor plan room ≡ refuse 12 pair) ↔ RuleGives l (refuse 12 pair)
+  room-twelve pair = (
+    λ e. rule-exact l (refuse 12 pair) .0 (twelve-says pair e),
+    λ s. fault-table plan room 12 pair (inRule isRead isLaid (rule-exact l (refuse 12 pair) .1 s)),
   )
 
   made-says : (t : MadeTable) → tableFor plan room ≡ ok t
-      → (placed : List Placed) × RuleGives l (ok placed) × (length (tableBytes l placed) ≤ room) × (madeTable l placed ≡ t)
+      → (placed : List Placed) × RuleGives l (ok placed) × (length (tableBytes l (map alone placed)) ≤ room) × (madeTable l (map alone placed) ≡ t)
   unfolding madeTable
   made-says t e =
       bind-case (latestRelease l) _ (sym on ∙ e) λ placed rule e₁.
-      let long = length (tableBytes l placed) in
+      let long = length (tableBytes l (map alone placed)) in
       then-case (unless 13 long (leb long room)) _ e₁ λ _ fits e₂.
       (placed, rule-exact l (ok placed) .0 rule, leb-true long room (unless-ok 13 long (leb long room) fits), ok-injective e₂)
 
-  made-is : (t : MadeTable) → (placed : List Placed) × RuleGives l (ok placed) × (length (tableBytes l placed) ≤ room) × (madeTable l placed ≡ t)
+  made-is : (t : MadeTable) → (placed : List Placed) × RuleGives l (ok placed) × (length (tableBytes l (map alone placed)) ≤ room) × (madeTable l (map alone placed) ≡ t)
       → tableFor plan room ≡ ok t
   made-is t h =
-      table-makes plan room (length (tableBytes l (h .0)))
+      table-makes plan room (length (tableBytes l (map alone (h .0))))
       (record {
         read = p;
         isRead = isRead;
@@ -112,7 +112,7 @@ module _ (plan : List ℕ) (room : ℕ) {p : Plan} {l : Layout} (isRead : readPl
 
   -- a table is made exactly where the rule places every frame and the room suffices
   pub room-made : (t : MadeTable)
-      → (tableFor plan room ≡ ok t) ↔ ((placed : List Placed) × RuleGives l (ok placed) × (length (tableBytes l placed) ≤ room) × (madeTable l placed ≡ t))
+      → (tableFor plan room ≡ ok t) ↔ ((placed : List Placed) × RuleGives l (ok placed) × (length (tableBytes l (map alone placed)) ≤ room) × (madeTable l (map alone placed) ≡ t))
   room-made t = (made-says t, made-is t)
 
 -- ---- make
@@ -168,19 +168,19 @@ module _ (plan : List ℕ) (rows : List FrameRow) (buffer : List ℕ) where
   pub make-refuses : (n p : ℕ) → (make plan rows buffer .answer ≡ refuse n p) ↔ MakeRefuses n p
   make-refuses n p = (refuses-only (le-or-lt mostFrames (length rows)) n p, refuses-all n p)
 
-  fault-twelve : (frame : ℕ) → MakeFault plan (length buffer) 12 frame → RuleRefuses plan frame
-  fault-twelve frame (inPlan e) = absurd (omega (arith, plan-gives plan .number 12 frame e))
-  fault-twelve frame (inLayout {q} a e) = absurd (omega (arith, layout-gives q .number 12 frame e))
-  fault-twelve frame (inRule {q} {l} a b e) = record { read = q; isRead = a; laid = l; isLaid = b; rule = e }
-  fault-twelve frame (inRoom a b c w e f) = absurd (omega (arith, e))
+  fault-twelve : (pair : ℕ) → MakeFault plan (length buffer) 12 pair → RuleRefuses plan pair
+  fault-twelve pair (inPlan e) = absurd (omega (arith, plan-gives plan .number 12 pair e))
+  fault-twelve pair (inLayout {q} a e) = absurd (omega (arith, layout-gives q .number 12 pair e))
+  fault-twelve pair (inRule {q} {l} a b e) = record { read = q; isRead = a; laid = l; isLaid = b; rule = e }
+  fault-twelve pair (inRoom a b c w e f) = absurd (omega (arith, e))
 
-  twelve-only : (frame : ℕ) → MakeRefuses 12 frame → (mostFrames ≤ length rows) × RuleRefuses plan frame
-  twelve-only frame (inl h) = absurd (omega (arith, h .1))
-  twelve-only frame (inr h) = (h .0, fault-twelve frame (h .1))
+  twelve-only : (pair : ℕ) → MakeRefuses 12 pair → (mostFrames ≤ length rows) × RuleRefuses plan pair
+  twelve-only pair (inl h) = absurd (omega (arith, h .1))
+  twelve-only pair (inr h) = (h .0, fault-twelve pair (h .1))
 
   -- 12 exactly where the latest-release rule refuses
-  pub twelve-exact : (frame : ℕ) → (make plan rows buffer .answer ≡ refuse 12 frame) ↔ ((mostFrames ≤ length rows) × RuleRefuses plan frame)
-  twelve-exact frame = (
-    λ e. twelve-only frame (make-refuses 12 frame .0 e),
-    λ h. make-refuses 12 frame .1 (inr (h .0, inRule (h .1 .isRead) (h .1 .isLaid) (h .1 .rule))),
+  pub twelve-exact : (pair : ℕ) → (make plan rows buffer .answer ≡ refuse 12 pair) ↔ ((mostFrames ≤ length rows) × RuleRefuses plan pair)
+  twelve-exact pair = (
+    λ e. twelve-only pair (make-refuses 12 pair .0 e),
+    λ h. make-refuses 12 pair .1 (inr (h .0, inRule (h .1 .isRead) (h .1 .isLaid) (h .1 .rule))),
   )

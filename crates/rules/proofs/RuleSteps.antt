@@ -32,7 +32,7 @@ use Rattle.laws.proofs.Members.{
   keep-from,
   pairs-keep,
 }
-use Rattle.rules.specs.Frames.{Frame, Layout, gapTime}
+use Rattle.rules.specs.Frames.{Pair, Layout}
 use Rattle.rules.specs.LatestRelease.{
   Numbered,
   numberedFrom,
@@ -49,8 +49,7 @@ use Rattle.rules.specs.LatestRelease.{
   startOf,
   fits,
   place,
-  firstEnd,
-  frameTime,
+  timeAlone,
   latestRelease,
 }
 use Rattle.rules.specs.RuleSteps.{
@@ -81,14 +80,14 @@ Other x y = x .number ≡ y .number → ⊥
 
 -- ---- the greatest deadline left
 
-pub greatest-above : {y : Numbered} {l : List Numbered} → List·Memᴰ y l → y .frame .deadline ≤ greatestDeadline l
+pub greatest-above : {y : Numbered} {l : List Numbered} → List·Memᴰ y l → y .pair .deadline ≤ greatestDeadline l
 unfolding greatestDeadline withDeadline
 greatest-above {y} (List·Memᴰ·head {x = x} e) =
-    let d : y .frame .deadline ≡ x .frame .deadline = ap (λ (z : Numbered). z .frame .deadline) e in
+    let d : y .pair .deadline ≡ x .pair .deadline = ap (λ (z : Numbered). z .pair .deadline) e in
     omega arith
 greatest-above (List·Memᴰ·tail m) = omega (arith, greatest-above m)
 
-greatest-step : (x : Numbered) (xs : List Numbered) → greatestDeadline (x ∷ xs) ≡ max (x .frame .deadline) (greatestDeadline xs)
+greatest-step : (x : Numbered) (xs : List Numbered) → greatestDeadline (x ∷ xs) ≡ max (x .pair .deadline) (greatestDeadline xs)
 unfolding greatestDeadline withDeadline
 greatest-step x xs = refl
 
@@ -98,9 +97,9 @@ greatest-none = refl
 
 -- one of two or more
 greater : (x y : Numbered) (ys : List Numbered) → IsGreatestDeadline (y ∷ ys) (greatestDeadline (y ∷ ys)) → (b : Bool)
-    → leb (greatestDeadline (y ∷ ys)) (x .frame .deadline) ≡ b → IsGreatestDeadline (x ∷ y ∷ ys) (greatestDeadline (x ∷ y ∷ ys))
+    → leb (greatestDeadline (y ∷ ys)) (x .pair .deadline) ≡ b → IsGreatestDeadline (x ∷ y ∷ ys) (greatestDeadline (x ∷ y ∷ ys))
 greater x y ys g true e =
-    let above : greatestDeadline (y ∷ ys) ≤ x .frame .deadline = leb-true (greatestDeadline (y ∷ ys)) (x .frame .deadline) e in
+    let above : greatestDeadline (y ∷ ys) ≤ x .pair .deadline = leb-true (greatestDeadline (y ∷ ys)) (x .pair .deadline) e in
     record {
       one = x;
       among = List·Memᴰ·head refl;
@@ -108,7 +107,7 @@ greater x y ys g true e =
       greatest = λ z m. greatest-above m;
     }
 greater x y ys g false e =
-    let below : x .frame .deadline < greatestDeadline (y ∷ ys) = leb-false (greatestDeadline (y ∷ ys)) (x .frame .deadline) e in
+    let below : x .pair .deadline < greatestDeadline (y ∷ ys) = leb-false (greatestDeadline (y ∷ ys)) (x .pair .deadline) e in
     record {
       one = g .one;
       among = List·Memᴰ·tail (g .among);
@@ -119,7 +118,7 @@ greater x y ys g false e =
 greatest-of : (x : Numbered) (xs : List Numbered) → IsGreatestDeadline (x ∷ xs) (greatestDeadline (x ∷ xs))
 greatest-of x [] =
     record { one = x; among = List·Memᴰ·head refl; has = omega (arith, greatest-step x [], greatest-none); greatest = λ z m. greatest-above m }
-greatest-of x (y ∷ ys) = greater x y ys (greatest-of y ys) (leb (greatestDeadline (y ∷ ys)) (x .frame .deadline)) refl
+greatest-of x (y ∷ ys) = greater x y ys (greatest-of y ys) (leb (greatestDeadline (y ∷ ys)) (x .pair .deadline)) refl
 
 greatest-unique : {left : List Numbered} {d c : ℕ} → IsGreatestDeadline left d → IsGreatestDeadline left c → d ≡ c
 greatest-unique g h =
@@ -136,8 +135,8 @@ candidate-of h = record { among = h .isGreatest .among; inTime = omega (arith, h
 
 -- y is not later than x: by release, then by number
 record NotAfter (y x : Numbered) : Type 0 where
-  release : y .frame .release ≤ x .frame .release
-  number : y .frame .release ≡ x .frame .release → y .number ≤ x .number
+  release : y .pair .release ≤ x .pair .release
+  number : y .pair .release ≡ x .pair .release → y .number ≤ x .number
 
 same-after : (x : Numbered) → NotAfter x x
 same-after x = record { release = omega arith; number = λ e. omega arith }
@@ -148,38 +147,38 @@ then-after {z} {y} {x} a b =
       release = omega (arith, a .release, b .release);
       number =
           λ e.
-          let zy : z .frame .release ≡ y .frame .release = omega (arith, a .release, b .release) in
-          let yx : y .frame .release ≡ x .frame .release = omega arith in
+          let zy : z .pair .release ≡ y .pair .release = omega (arith, a .release, b .release) in
+          let yx : y .pair .release ≡ x .pair .release = omega arith in
           omega (arith, a .number zy, b .number yx);
     }
 
 later-after : (x y : Numbered) → isLater x y ≡ true → NotAfter y x
 unfolding isLater
-later-after x y h = go (ltb (y .frame .release) (x .frame .release)) refl h
+later-after x y h = go (ltb (y .pair .release) (x .pair .release)) refl h
   where
-    go : (b : Bool) → ltb (y .frame .release) (x .frame .release) ≡ b
-        → (b || (eqb (y .frame .release) (x .frame .release) && ltb (y .number) (x .number))) ≡ true → NotAfter y x
+    go : (b : Bool) → ltb (y .pair .release) (x .pair .release) ≡ b
+        → (b || (eqb (y .pair .release) (x .pair .release) && ltb (y .number) (x .number))) ≡ true → NotAfter y x
     go true e h =
-        let less : y .frame .release < x .frame .release = ltb-true (y .frame .release) (x .frame .release) e in
+        let less : y .pair .release < x .pair .release = ltb-true (y .pair .release) (x .pair .release) e in
         record { release = omega arith; number = λ q. absurd (omega arith) }
     go false e h =
-        let equal = eqb (y .frame .release) (x .frame .release) in
-        let same : y .frame .release ≡ x .frame .release =
-        eqb-true (y .frame .release) (x .frame .release) (both-left equal (ltb (y .number) (x .number)) h) in
+        let equal = eqb (y .pair .release) (x .pair .release) in
+        let same : y .pair .release ≡ x .pair .release =
+        eqb-true (y .pair .release) (x .pair .release) (both-left equal (ltb (y .number) (x .number)) h) in
         let less : y .number < x .number = ltb-true (y .number) (x .number) (both-right equal (ltb (y .number) (x .number)) h) in
         record { release = omega arith; number = λ q. omega arith }
 
 else-after : (x y : Numbered) → isLater x y ≡ false → NotAfter x y
 unfolding isLater
 else-after x y h =
-    let less = ltb (y .frame .release) (x .frame .release) in
-    let tie = eqb (y .frame .release) (x .frame .release) && ltb (y .number) (x .number) in
+    let less = ltb (y .pair .release) (x .pair .release) in
+    let tie = eqb (y .pair .release) (x .pair .release) && ltb (y .number) (x .number) in
     record {
-      release = ltb-false (y .frame .release) (x .frame .release) (neither-left less tie h);
+      release = ltb-false (y .pair .release) (x .pair .release) (neither-left less tie h);
       number =
           λ q.
           let below : ltb (y .number) (x .number) ≡ false =
-          rw (eq-eqb (y .frame .release) (x .frame .release) (sym q)) at (neither-right less tie h) in
+          rw (eq-eqb (y .pair .release) (x .pair .release) (sym q)) at (neither-right less tie h) in
           ltb-false (y .number) (x .number) below;
     }
 
@@ -227,7 +226,7 @@ same-of-number (before a r) (List·Memᴰ·tail m) (List·Memᴰ·tail n) q = sa
 
 taken-unique : {end : ℕ} {left : List Numbered} {x y : Numbered} → Pairs Other left → IsTaken end left x → IsTaken end left y → x ≡ y
 taken-unique {x = x} {y = y} apart a b =
-    let release : x .frame .release ≡ y .frame .release = omega (arith, a .latest y (b .candidate), b .latest x (a .candidate)) in
+    let release : x .pair .release ≡ y .pair .release = omega (arith, a .latest y (b .candidate), b .latest x (a .candidate)) in
     let number : x .number ≡ y .number = omega (arith, a .larger y (b .candidate) (sym release), b .larger x (a .candidate) release) in
     same-of-number apart (a .candidate .among) (b .candidate .among) number
 
@@ -269,14 +268,14 @@ without-of {x} {left} apart m =
 
 -- ---- the steps
 
-module _ (resolution gap floor : ℕ) (sending : Frame → ℕ) where
+module _ (resolution gap floor : ℕ) (sending : Pair → ℕ) where
   abbrev takenAt : ℕ → List Numbered → Numbered
   takenAt = taken resolution gap floor sending
 
-  abbrev startAt : ℕ → Frame → ℕ
+  abbrev startAt : ℕ → Pair → ℕ
   startAt = startOf resolution gap floor sending
 
-  abbrev fitsAt : ℕ → Frame → Bool
+  abbrev fitsAt : ℕ → Pair → Bool
   fitsAt = fits resolution gap floor sending
 
   abbrev placing : ℕ → ℕ → List Numbered → List Placed → Res (List Placed)
@@ -292,19 +291,19 @@ module _ (resolution gap floor : ℕ) (sending : Frame → ℕ) where
   taken-of {end} {left} {x} c =
       let fit = isCandidate end in
       let kept : (y : Numbered) → IsCandidate end left y → List·Memᴰ y (keep fit left) =
-      λ y d. keep-member fit (le-leb end (y .frame .deadline) (d .inTime)) (d .among) in
+      λ y d. keep-member fit (le-leb end (y .pair .deadline) (d .inTime)) (d .among) in
       let found = latest-among x (keep fit left) (kept x c) in
       record {
         candidate =
             record {
               among = keep-from fit left found;
-              inTime = leb-true end (takenAt end left .frame .deadline) (all-member (keep-passes fit left) found);
+              inTime = leb-true end (takenAt end left .pair .deadline) (all-member (keep-passes fit left) found);
             };
         latest = λ y d. all-member (latest-after (keep fit left)) (kept y d) .release;
         larger = λ y d. all-member (latest-after (keep fit left)) (kept y d) .number;
       }
 
-  start-of : (end : ℕ) (f : Frame) → sending f ≤ end → IsStart resolution (sending f) end (startAt end f)
+  start-of : (end : ℕ) (f : Pair) → sending f ≤ end → IsStart resolution (sending f) end (startAt end f)
   unfolding startOf
   start-of end f h =
       record {
@@ -318,12 +317,12 @@ module _ (resolution gap floor : ℕ) (sending : Frame → ℕ) where
 
   -- ---- where a frame fits
 
-  record Fits (end : ℕ) (f : Frame) : Type 0 where
+  record Fits (end : ℕ) (f : Pair) : Type 0 where
     start : IsStart resolution (sending f) end (startAt end f)
     released : f .release ≤ startAt end f
     behindControl : floor ≤ startAt end f
 
-  fits-says : (end : ℕ) (f : Frame) → fitsAt end f ≡ true → Fits end f
+  fits-says : (end : ℕ) (f : Pair) → fitsAt end f ≡ true → Fits end f
   unfolding fits
   fits-says end f h =
       let later = both-right (leb (sending f) end) _ h in
@@ -333,16 +332,16 @@ module _ (resolution gap floor : ℕ) (sending : Frame → ℕ) where
         behindControl = leb-true floor (startAt end f) (both-right (leb (f .release) (startAt end f)) _ later);
       }
 
-  start-is : {end start : ℕ} {f : Frame} → IsStart resolution (sending f) end start → startAt end f ≡ start
+  start-is : {end start : ℕ} {f : Pair} → IsStart resolution (sending f) end start → startAt end f ≡ start
   start-is {end} {f = f} s = start-unique (start-of end f (omega (arith, s .stops))) s
 
-  fits-so : {end start : ℕ} {f : Frame} → IsStart resolution (sending f) end start → f .release ≤ start → floor ≤ start → fitsAt end f ≡ true
+  fits-so : {end start : ℕ} {f : Pair} → IsStart resolution (sending f) end start → f .release ≤ start → floor ≤ start → fitsAt end f ≡ true
   unfolding fits
   fits-so {end} {start} {f} s r c =
       let time : sending f ≤ end = omega (arith, s .stops) in
       rw (start-is {f = f} s, le-leb (sending f) end time, le-leb (f .release) start r, le-leb floor start c)
 
-  no-place : (end : ℕ) (f : Frame) → fitsAt end f ≡ false → NoPlace resolution floor (sending f) (f .release) end
+  no-place : (end : ℕ) (f : Pair) → fitsAt end f ≡ false → NoPlace resolution floor (sending f) (f .release) end
   unfolding fits
   no-place end f h = go (tested (leb (sending f) end)) (tested (leb (f .release) (startAt end f))) (tested (leb floor (startAt end f)))
     where
@@ -355,7 +354,7 @@ module _ (resolution gap floor : ℕ) (sending : Frame → ℕ) where
       go (inl a) (inl b) (inr c) = beforeFloor (start-of end f (leb-true _ _ a)) (leb-false _ _ c)
       go (inl a) (inl b) (inl c) = let z : _≡_ {A = ℕ} 0 1 = cc in absurd (omega arith)
 
-  fits-not : {end : ℕ} {f : Frame} → NoPlace resolution floor (sending f) (f .release) end → fitsAt end f ≡ false
+  fits-not : {end : ℕ} {f : Pair} → NoPlace resolution floor (sending f) (f .release) end → fitsAt end f ≡ false
   fits-not {end} {f} n = go (tested (fitsAt end f)) n
     where
       go : (fitsAt end f ≡ true) ⊎ (fitsAt end f ≡ false) → NoPlace resolution floor (sending f) (f .release) end → fitsAt end f ≡ false
@@ -375,10 +374,10 @@ module _ (resolution gap floor : ℕ) (sending : Frame → ℕ) where
   takenOf e left = takenAt (endOf e left) left
 
   abbrev fitsOf : ℕ → List Numbered → Bool
-  fitsOf e left = fitsAt (endOf e left) (takenOf e left .frame)
+  fitsOf e left = fitsAt (endOf e left) (takenOf e left .pair)
 
   abbrev putAt : ℕ → Numbered → Placed
-  putAt end x = record { number = x .number; frame = x .frame; start = startAt end (x .frame) }
+  putAt end x = record { number = x .number; pair = x .pair; start = startAt end (x .pair) }
 
   abbrev putOf : ℕ → List Numbered → Placed
   putOf e left = putAt (endOf e left) (takenOf e left)
@@ -408,7 +407,7 @@ module _ (resolution gap floor : ℕ) (sending : Frame → ℕ) where
     places-of : Pairs Other left → fitsOf e left ≡ true
         → Places resolution gap floor sending e left (putOf e left) (nextOf e left) (leftOf e left)
     places-of apart h =
-        let f = fits-says (endOf e left) (takenOf e left .frame) h in
+        let f = fits-says (endOf e left) (takenOf e left .pair) h in
         record {
           end = endOf e left;
           lowered = lowered-of e left some;
@@ -425,9 +424,9 @@ module _ (resolution gap floor : ℕ) (sending : Frame → ℕ) where
         record {
           end = endOf e left;
           lowered = lowered-of e left some;
-          frame = takenOf e left .frame;
+          pair = takenOf e left .pair;
           taken = takes;
-          noPlace = no-place (endOf e left) (takenOf e left .frame) h;
+          noPlace = no-place (endOf e left) (takenOf e left .pair) h;
         }
 
   abbrev Run : ℕ → List Numbered → List Placed → Res (List Placed) → Type 0
@@ -470,18 +469,18 @@ module _ (resolution gap floor : ℕ) (sending : Frame → ℕ) where
       → Places resolution gap floor sending e left x next rest → placing (suc n) e left done ≡ placing n next rest (x ∷ done)
   places-is {e} {next} {left} {rest} {x} n done apart p =
       let end = end-is (p .lowered) in
-      let frame = taken-is apart (p .taken) in
-      let start = start-is {f = x .frame} (p .start) in
-      let fit : fitsOf e left ≡ true = rw (end, frame) (fits-so {f = x .frame} (p .start) (p .released) (p .behindControl)) in
-      placing-turn n e left done fit ∙ rw (end, frame, start, without-is apart (p .leaves), p .ends)
+      let pair = taken-is apart (p .taken) in
+      let start = start-is {f = x .pair} (p .start) in
+      let fit : fitsOf e left ≡ true = rw (end, pair) (fits-so {f = x .pair} (p .start) (p .released) (p .behindControl)) in
+      placing-turn n e left done fit ∙ rw (end, pair, start, without-is apart (p .leaves), p .ends)
 
   sticks-is : {e number : ℕ} {left : List Numbered} (n : ℕ) (done : List Placed) → Pairs Other left
       → Sticks resolution gap floor sending e left number → placing (suc n) e left done ≡ refuse 12 number
   sticks-is {e} {number} {left} n done apart s =
       let end = end-is (s .lowered) in
-      let frame = taken-is apart (s .taken) in
-      let fit : fitsOf e left ≡ false = rw (end, frame) (fits-not {f = s .frame} (s .noPlace)) in
-      placing-stop n e left done fit ∙ rw (end, frame)
+      let pair = taken-is apart (s .taken) in
+      let fit : fitsOf e left ≡ false = rw (end, pair) (fits-not {f = s .pair} (s .noPlace)) in
+      placing-stop n e left done fit ∙ rw (end, pair)
 
   steps-is : {e : ℕ} {left : List Numbered} {done : List Placed} {outcome : Res (List Placed)} (n : ℕ) → length left ≡ n → Pairs Other left
       → Run e left done outcome → placing n e left done ≡ outcome
@@ -498,26 +497,73 @@ module _ (resolution gap floor : ℕ) (sending : Frame → ℕ) where
 
 -- ---- the frames with their numbers
 
-pub length-numbered : (k : ℕ) (fs : List Frame) → length (numberedFrom k fs) ≡ length fs
+pub length-numbered : (k : ℕ) (fs : List Pair) → length (numberedFrom k fs) ≡ length fs
 unfolding numberedFrom
 length-numbered k [] = refl
 length-numbered k (f ∷ fs) = ap suc (length-numbered (suc k) fs)
 
-numbered-above : (m k : ℕ) (fs : List Frame) → m < k → All (λ x. m ≡ x .number → ⊥) (numberedFrom k fs)
+numbered-above : (m k : ℕ) (fs : List Pair) → m < k → All (λ x. m ≡ x .number → ⊥) (numberedFrom k fs)
 unfolding numberedFrom
 numbered-above m k [] h = empty
 numbered-above m k (f ∷ fs) h =
     let below : m ≡ k → ⊥ = omega arith in
     also below (numbered-above m (suc k) fs (omega arith))
 
-pub numbered-distinct : (k : ℕ) (fs : List Frame) → Pairs Other (numberedFrom k fs)
+pub numbered-distinct : (k : ℕ) (fs : List Pair) → Pairs Other (numberedFrom k fs)
 unfolding numberedFrom
 numbered-distinct k [] = alone
 numbered-distinct k (f ∷ fs) = before (numbered-above k (suc k) fs (omega arith)) (numbered-distinct (suc k) fs)
 
+-- ---- the rule looks at the sending times of the pairs left, and at no other
+
+without-all : {P : Numbered → Type 0} {x : Numbered} {left rest : List Numbered} → Without x left rest → All P left → All P rest
+without-all {P} (here e q) (also p a) = subst (All P) q a
+without-all (behind w) (also p a) = also p (without-all w a)
+
+module _ (resolution gap floor : ℕ) (sending time : Pair → ℕ) where
+  -- the two times of the pair are the same
+  abbrev SameTime : Numbered → Type 0
+  SameTime x = sending (x .pair) ≡ time (x .pair)
+
+  steps-same : {e : ℕ} {left : List Numbered} {done : List Placed} {outcome : Res (List Placed)} → All SameTime left
+      → Steps resolution gap floor sending e left done outcome → Steps resolution gap floor time e left done outcome
+  steps-same a (noneLeft l o) = noneLeft l o
+  steps-same a (places {x = x} p r) =
+      let same = all-member a (p .taken .candidate .among) in
+      places
+      (record {
+        end = p .end;
+        lowered = p .lowered;
+        taken = p .taken;
+        start = subst (λ (t : ℕ). IsStart resolution t (p .end) (x .start)) same (p .start);
+        released = p .released;
+        behindControl = p .behindControl;
+        ends = p .ends;
+        leaves = p .leaves;
+      })
+      (steps-same (without-all (p .leaves) a) r)
+  steps-same a (sticks s o) =
+      let same = all-member a (s .taken .candidate .among) in
+      sticks
+      (record {
+        end = s .end;
+        lowered = s .lowered;
+        pair = s .pair;
+        taken = s .taken;
+        noPlace = subst (λ (t : ℕ). NoPlace resolution floor t (s .pair .release) (s .end)) same (s .noPlace);
+      })
+      o
+
+  pub place-same : (e : ℕ) (left : List Numbered) → Pairs Other left → All SameTime left
+      → place resolution gap floor sending (length left) e left [] ≡ place resolution gap floor time (length left) e left []
+  place-same e left apart a =
+      sym
+      (steps-is resolution gap floor time (length left) refl apart
+      (steps-same a (steps-of resolution gap floor sending (length left) e left [] refl apart)))
+
 -- ---- the rule
 
-steps-twelve : {resolution gap floor : ℕ} {sending : Frame → ℕ} {e n p : ℕ} {left : List Numbered} {done : List Placed}
+steps-twelve : {resolution gap floor : ℕ} {sending : Pair → ℕ} {e n p : ℕ} {left : List Numbered} {done : List Placed}
     → Steps resolution gap floor sending e left done (refuse n p) → n ≡ 12
 steps-twelve (noneLeft l o) = refuse≢ok (sym o)
 steps-twelve (places p r) = steps-twelve r
@@ -525,16 +571,16 @@ steps-twelve (sticks s o) = sym (refuse-number o)
 
 module _ (l : Layout) where
   rule-steps : RuleGives l (latestRelease l)
-  unfolding latestRelease firstEnd
+  unfolding latestRelease
   rule-steps =
-      steps-of (l .plan .bus .resolution) (gapTime (l .plan .bus)) (l .afterControl) (frameTime l) (length (l .frames)) (l .period)
-      (numberedFrom 0 (l .frames)) [] (length-numbered 0 (l .frames)) (numbered-distinct 0 (l .frames))
+      steps-of (l .grid) (l .gap) (l .floor) (timeAlone l) (length (l .pairs)) (l .end)
+      (numberedFrom 0 (l .pairs)) [] (length-numbered 0 (l .pairs)) (numbered-distinct 0 (l .pairs))
 
   rule-is : (outcome : Res (List Placed)) → RuleGives l outcome → latestRelease l ≡ outcome
-  unfolding latestRelease firstEnd
+  unfolding latestRelease
   rule-is outcome =
-      steps-is (l .plan .bus .resolution) (gapTime (l .plan .bus)) (l .afterControl) (frameTime l) (length (l .frames))
-      (length-numbered 0 (l .frames)) (numbered-distinct 0 (l .frames))
+      steps-is (l .grid) (l .gap) (l .floor) (timeAlone l) (length (l .pairs))
+      (length-numbered 0 (l .pairs)) (numbered-distinct 0 (l .pairs))
 
   -- the rule places these frames so, or refuses at that frame, exactly where a run of its steps comes to that
   pub rule-exact : (outcome : Res (List Placed)) → (latestRelease l ≡ outcome) ↔ RuleGives l outcome
@@ -545,5 +591,5 @@ module _ (l : Layout) where
   rule-unique a b r s = sym (rule-is a r) ∙ rule-is b s
 
   -- its refusal is 12
-  pub rule-twelve : (n frame : ℕ) → latestRelease l ≡ refuse n frame → n ≡ 12
-  rule-twelve n frame e = steps-twelve (rule-exact (refuse n frame) .0 e)
+  pub rule-twelve : (n pair : ℕ) → latestRelease l ≡ refuse n pair → n ≡ 12
+  rule-twelve n pair e = steps-twelve (rule-exact (refuse n pair) .0 e)

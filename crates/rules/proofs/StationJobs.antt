@@ -9,17 +9,17 @@ use Prim.Native.Nat.{ℕ, zero, suc, _+_}
 use Rattle.laws.specs.Res.{Res, ok, refuse}
 use Rattle.laws.specs.Lists.{all, tab}
 use Rattle.rules.specs.Records.{Rec}
-use Rattle.rules.specs.Checker.{sameControl, samePair}
+use Rattle.rules.specs.Checker.{nameOf, sameControl, sameName}
 use Rattle.rules.specs.Jobs.{isRefused, rec, file}
 use Rattle.rules.specs.Playing.{Input, isRun, periodAmong, periodIn}
-use Rattle.rules.specs.Station.{Kept, State, Started, control, message, nothing, Ticked, Begun, keptOf, stateAtStart}
-use Rattle.rules.specs.Station.{homeNode, runPeriod, taskAge, runAge, isRunning, isAwaited, resultAwaited, resultFits}
-use Rattle.rules.specs.Station.{isLastChance, resultInTime, isModeOf, maySwitch, changeAllowed, judgedTick, outAfter}
-use Rattle.rules.specs.Station.{hasTime, rowWith, landsOn, landedAfter, isByteOf, heldAfter, endsNow, hasMessage, ownShows}
-use Rattle.rules.specs.Station.{otherShows, shownAfter, modeAfter, oneOn, ageAfter, givenAfter, startingControl}
-use Rattle.rules.specs.Station.{startingData, modeByteAfter, fullAfter, loadAfter, tick, keptControl, keptData, started}
-use Rattle.rules.specs.Station.{step, startsWell, begin}
-use Rattle.rules.specs.StationRange.{isBetween, countsInRange, moduleInRange, modeInRange, taskInRange, runInRange, runsInRange, controlInRange, dataInRange, keptInRange, playInRange, isValue, boxInRange, placeInRange, byteInRange, nodeInRange, stateInRange, inRange, ticked}
+use Rattle.rules.specs.Station.{Kept, State, Started, control, message, nothing, Ticked, Begun, passedPair, passedRow, keptOf}
+use Rattle.rules.specs.Station.{stateAtStart, homeNode, runPeriod, taskAge, runAge, isRunning, isAwaited, resultAwaited}
+use Rattle.rules.specs.Station.{resultFits, isLastChance, resultInTime, isModeOf, maySwitch, changeAllowed, judgedTick}
+use Rattle.rules.specs.Station.{outAfter, hasTime, rowWith, isAt, someAt, isSentAt, someSentAt, landsOn, landedAfter}
+use Rattle.rules.specs.Station.{isByteOf, heldAfter, endsNow, hasMessage, ownShows, otherShows, shownAfter, modeAfter}
+use Rattle.rules.specs.Station.{oneOn, ageAfter, givenAfter, startingControl, startingPair, modeByteAfter, startsNow, isTaken}
+use Rattle.rules.specs.Station.{fullAfter, loadAfter, tick, keptControl, keptData, started, step, startsWell, begin}
+use Rattle.rules.specs.StationRange.{isBetween, countsInRange, moduleInRange, modeInRange, taskInRange, runInRange, runsInRange, controlInRange, pairInRange, keptInRange, playInRange, isValue, boxInRange, placeInRange, byteInRange, nodeInRange, stateInRange, inRange, ticked}
 use Rattle.rules.specs.OneBoard.{modeNow, sinceMode, periodNow, runEnds, resultWithin, value}
 use Rattle.rules.proofs.Jobs.{everything}
 
@@ -85,6 +85,10 @@ module _ {A : Type 0} where
   boards [] go = go []
   boards (x ∷ xs) go = numbers x λ y. boards xs λ ys. go (y ∷ ys)
 
+  sheets : List (List Bool) → (List (List Bool) → A) → A
+  sheets [] go = go []
+  sheets (x ∷ xs) go = truths x λ y. sheets xs λ ys. go (y ∷ ys)
+
 at : List ℕ → ℕ → ℕ
 at xs k = getD xs k 0
 
@@ -114,8 +118,8 @@ module _ {A : Type 0} where
       boards (laid (s .landed)) λ landed.
       boards (laid (s .shown)) λ shown.
       boards (laid (s .held)) λ held.
-      truth (s .full) λ full.
-      number (s .load) λ load.
+      truths (listed (s .full)) λ full.
+      numbers (listed (s .load)) λ load.
       numbers (listed (s .modeByte)) λ modeByte.
       go
       (record {
@@ -127,12 +131,12 @@ module _ {A : Type 0} where
         landed = grid landed;
         shown = grid shown;
         held = grid held;
-        full = full;
-        load = load;
+        full = λ t. getD full t false;
+        load = at load;
         modeByte = at modeByte;
       })
 
-  -- what is kept, with so many rows
+  -- what is kept, with so many rows and pairs
   frozenKept : Kept → (Kept → A) → A
   frozenKept k go =
       number (k .modules) λ modules.
@@ -147,17 +151,17 @@ module _ {A : Type 0} where
       numbers (listed (k .taskHome)) λ taskHome.
       numbers (listed (k .taskSize)) λ taskSize.
       numbers (listed (k .taskWorst)) λ taskWorst.
-      truths (listed (k .isBus)) λ isBus.
       boards (laid (k .run)) λ run.
       number (k .controls) λ controls.
       numbers (tab (k .controlNode) 0 controls) λ controlNode.
       numbers (tab (k .controlStart) 0 controls) λ controlStart.
       numbers (tab (k .controlStop) 0 controls) λ controlStop.
-      number (k .datas) λ datas.
-      numbers (tab (k .dataTask) 0 datas) λ dataTask.
-      numbers (tab (k .dataDeadline) 0 datas) λ dataDeadline.
-      numbers (tab (k .dataStart) 0 datas) λ dataStart.
-      numbers (tab (k .dataStop) 0 datas) λ dataStop.
+      number (k .pairs) λ pairs.
+      numbers (tab (k .pairTask) 0 pairs) λ pairTask.
+      numbers (tab (k .pairDeadline) 0 pairs) λ pairDeadline.
+      numbers (tab (k .pairStart) 0 pairs) λ pairStart.
+      numbers (tab (k .pairStop) 0 pairs) λ pairStop.
+      sheets (tab (λ q. listed (k .pairHas q)) 0 pairs) λ pairHas.
       go
       (record {
         modules = modules;
@@ -172,29 +176,29 @@ module _ {A : Type 0} where
         taskHome = at taskHome;
         taskSize = at taskSize;
         taskWorst = at taskWorst;
-        isBus = λ t. getD isBus t false;
         run = grid run;
         controls = controls;
         controlNode = at controlNode;
         controlStart = at controlStart;
         controlStop = at controlStop;
-        datas = datas;
-        dataTask = at dataTask;
-        dataDeadline = at dataDeadline;
-        dataStart = at dataStart;
-        dataStop = at dataStop;
+        pairs = pairs;
+        pairTask = at pairTask;
+        pairDeadline = at pairDeadline;
+        pairStart = at pairStart;
+        pairStop = at pairStop;
+        pairHas = λ q μ. getD (getD pairHas q []) μ false;
       })
 
 -- what places are given: each a place and a number
-data Pair : Type 0 where
-  _is_ : ℕ → ℕ → Pair
+data Filled : Type 0 where
+  _is_ : ℕ → ℕ → Filled
 
 infix 75 _is_
-givenAt : List Pair → ℕ → Option ℕ
+givenAt : List Filled → ℕ → Option ℕ
 givenAt [] k = none
 givenAt ((j is x) ∷ ps) k = cond (eqb j k) (some x) (givenAt ps k)
 
-inputOf : List Pair → List Pair → Input
+inputOf : List Filled → List Filled → Input
 inputOf results changes = record { result = givenAt results; change = givenAt changes }
 
 -- What is done and what is to be seen: n ticks at which nothing is given; a tick with results and changes, accepted; one that is
@@ -202,15 +206,15 @@ inputOf results changes = record { result = givenAt results; change = givenAt ch
 -- starts.
 data Act : Type 0 where
   quiet : ℕ → Act
-  given : List Pair → List Pair → Act
-  refuses : ℕ → ℕ → List Pair → List Pair → Act
+  given : List Filled → List Filled → Act
+  refuses : ℕ → ℕ → List Filled → List Filled → Act
   shows : ℕ → ℕ → ℕ → Act
   board : ℕ → ℕ → Act
   starts : Started → Act
 
 sameRow : Started → Started → Bool
 sameRow (control r) (control q) = sameControl r q
-sameRow (message r) (message q) = samePair r q && (eqb (r .start) (q .start) && eqb (r .stop) (q .stop))
+sameRow (message r) (message q) = sameName (nameOf r) (nameOf q) && (eqb (r .start) (q .start) && eqb (r .stop) (q .stop))
 sameRow nothing nothing = true
 sameRow (control r) (message q) = false
 sameRow (control r) nothing = false
@@ -349,17 +353,17 @@ zeroKept =
       taskHome = λ t. 0;
       taskSize = λ t. 0;
       taskWorst = λ t. 0;
-      isBus = λ t. false;
       run = λ μ t. 0;
       controls = 0;
       controlNode = λ r. 0;
       controlStart = λ r. 0;
       controlStop = λ r. 0;
-      datas = 0;
-      dataTask = λ r. 0;
-      dataDeadline = λ r. 0;
-      dataStart = λ r. 0;
-      dataStop = λ r. 0;
+      pairs = 0;
+      pairTask = λ q. 0;
+      pairDeadline = λ q. 0;
+      pairStart = λ q. 0;
+      pairStop = λ q. 0;
+      pairHas = λ q μ. false;
     }
 
 atTime : ℕ → State → State
@@ -400,15 +404,15 @@ pub isTrue : Bool → Bool
 isTrue b = b
 
 opened : Unit {0}
-unfolding everything plan row rows earlyTable numbers truths boards at grid places listed laid frozen frozenKept givenAt inputOf
-    accepted sameRow answersRow ticks quietly act acts playedFrom modeA jobK lateTable lateJob zeroKept atTime tickAt jobs isTrue
-    modeNow sinceMode periodNow runEnds resultWithin value isRun periodAmong periodIn keptOf stateAtStart homeNode runPeriod
-    taskAge runAge isRunning isAwaited resultAwaited resultFits isLastChance resultInTime isModeOf maySwitch changeAllowed
-    judgedTick outAfter hasTime rowWith landsOn landedAfter isByteOf heldAfter endsNow hasMessage ownShows otherShows shownAfter
-    modeAfter oneOn ageAfter givenAfter startingControl startingData modeByteAfter fullAfter loadAfter tick keptControl keptData
-    started step startsWell begin isBetween countsInRange moduleInRange modeInRange taskInRange runInRange runsInRange
-    controlInRange dataInRange keptInRange playInRange isValue boxInRange placeInRange byteInRange nodeInRange stateInRange
-    inRange ticked
+unfolding everything plan row rows earlyTable numbers truths boards sheets at grid places listed laid frozen frozenKept
+    givenAt inputOf accepted sameRow answersRow ticks quietly act acts playedFrom modeA jobK lateTable lateJob zeroKept atTime
+    tickAt jobs isTrue modeNow sinceMode periodNow runEnds resultWithin value isRun periodAmong periodIn passedPair passedRow
+    keptOf stateAtStart homeNode runPeriod taskAge runAge isRunning isAwaited resultAwaited resultFits isLastChance
+    resultInTime isModeOf maySwitch changeAllowed judgedTick outAfter hasTime rowWith isAt someAt isSentAt someSentAt landsOn
+    landedAfter isByteOf heldAfter endsNow hasMessage ownShows otherShows shownAfter modeAfter oneOn ageAfter givenAfter
+    startingControl startingPair modeByteAfter startsNow isTaken fullAfter loadAfter tick keptControl keptData started step
+    startsWell begin isBetween countsInRange moduleInRange modeInRange taskInRange runInRange runsInRange controlInRange
+    pairInRange keptInRange playInRange isValue boxInRange placeInRange byteInRange nodeInRange stateInRange inRange ticked
 opened = tt
 
 -- Every entry is answered as it says.

@@ -1,5 +1,5 @@
 -- Of what a station keeps, too, a tick looks at the station's own places alone: 8 nodes, 16 modules, 32 modes, 32 tasks, 8 control
--- rows, 256 data rows. Where two stations keep the same at these, their ticks answer the same, and each follows the other's history.
+-- rows, 256 pairs. Where two stations keep the same at these, their ticks answer the same, and each follows the other's history.
 use mathlib.Core.Path.{_≡_, refl, sym, ap, _∙_}
 use mathlib.Core.Bool.{Bool, true, false, not, _&&_}
 use mathlib.Core.List.{List}
@@ -9,8 +9,9 @@ use borrow.Author.Tests.{ltb-true}
 use lib.Dec.{eqb, ltb}
 use Prim.Native.Nat.{ℕ, _%_, _<_}
 use Rattle.laws.specs.Res.{Res, ok, refuse, _>>_, unless}
+use Rattle.laws.specs.Lists.{any, upTo}
 use Rattle.laws.proofs.Tests.{by-same}
-use Rattle.laws.proofs.Turns.{same-bad}
+use Rattle.laws.proofs.Turns.{same-bad, same-any}
 use Rattle.rules.specs.Limits.{mostFrames}
 use Rattle.rules.specs.Playing.{nodePlaces, modulePlaces, modePlaces, taskPlaces, Input}
 use Rattle.rules.specs.Station.{
@@ -33,8 +34,11 @@ use Rattle.rules.specs.Station.{
   judgedTick,
   outAfter,
   rowWith,
+  isAt,
+  someAt,
+  isSentAt,
+  someSentAt,
   landsOn,
-  landedBy,
   landedAfter,
   isByteOf,
   heldBy,
@@ -49,12 +53,12 @@ use Rattle.rules.specs.Station.{
   ageAfter,
   givenAfter,
   startingControl,
-  startingData,
+  startingPair,
   modeByteBy,
   modeByteAfter,
-  fullBy,
+  startsNow,
+  isTaken,
   fullAfter,
-  loadBy,
   loadAfter,
   tick,
   keptControl,
@@ -66,7 +70,7 @@ use Rattle.rules.specs.Station.{
 use Rattle.rules.specs.StationRange.{inRange, ticked}
 use Rattle.rules.specs.Obeys.{MayTick}
 use Rattle.rules.proofs.StationExact.{judged-exact}
-use Rattle.rules.proofs.StationRanges.{ModeIn, TaskIn, ControlIn, DataIn, KeptIn, PlayIn, StateIn, range-tests}
+use Rattle.rules.proofs.StationRanges.{ModeIn, TaskIn, ControlIn, PairIn, KeptIn, PlayIn, StateIn, range-tests}
 use Rattle.rules.proofs.StationStays.{state-stays}
 use Rattle.rules.proofs.StationPlaces.{Agree, agree-trans, SameAnswer, accepted, refused, answer-ok, Follows, begun, next}
 use Rattle.rules.proofs.TransparentTick.{row-is, row-by-other}
@@ -85,17 +89,17 @@ pub record SameKept (k k′ : Kept) : Type 0 where
   pub taskHome : (t : ℕ) → t < taskPlaces → k .taskHome t ≡ k′ .taskHome t
   pub taskSize : (t : ℕ) → t < taskPlaces → k .taskSize t ≡ k′ .taskSize t
   pub taskWorst : (t : ℕ) → t < taskPlaces → k .taskWorst t ≡ k′ .taskWorst t
-  pub isBus : (t : ℕ) → t < taskPlaces → k .isBus t ≡ k′ .isBus t
   pub run : (μ : ℕ) → μ < modePlaces → (t : ℕ) → t < taskPlaces → k .run μ t ≡ k′ .run μ t
   pub controls : k .controls ≡ k′ .controls
   pub controlNode : (r : ℕ) → r < nodePlaces → k .controlNode r ≡ k′ .controlNode r
   pub controlStart : (r : ℕ) → r < nodePlaces → k .controlStart r ≡ k′ .controlStart r
   pub controlStop : (r : ℕ) → r < nodePlaces → k .controlStop r ≡ k′ .controlStop r
-  pub datas : k .datas ≡ k′ .datas
-  pub dataTask : (r : ℕ) → r < mostFrames → k .dataTask r ≡ k′ .dataTask r
-  pub dataDeadline : (r : ℕ) → r < mostFrames → k .dataDeadline r ≡ k′ .dataDeadline r
-  pub dataStart : (r : ℕ) → r < mostFrames → k .dataStart r ≡ k′ .dataStart r
-  pub dataStop : (r : ℕ) → r < mostFrames → k .dataStop r ≡ k′ .dataStop r
+  pub pairs : k .pairs ≡ k′ .pairs
+  pub pairTask : (q : ℕ) → q < mostFrames → k .pairTask q ≡ k′ .pairTask q
+  pub pairDeadline : (q : ℕ) → q < mostFrames → k .pairDeadline q ≡ k′ .pairDeadline q
+  pub pairStart : (q : ℕ) → q < mostFrames → k .pairStart q ≡ k′ .pairStart q
+  pub pairStop : (q : ℕ) → q < mostFrames → k .pairStop q ≡ k′ .pairStop q
+  pub pairHas : (q : ℕ) → q < mostFrames → (μ : ℕ) → μ < modePlaces → k .pairHas q μ ≡ k′ .pairHas q μ
 
 pub same-kept-sym : {k k′ : Kept} → SameKept k k′ → SameKept k′ k
 same-kept-sym same =
@@ -112,17 +116,17 @@ same-kept-sym same =
       taskHome = λ t w. sym (same .taskHome t w);
       taskSize = λ t w. sym (same .taskSize t w);
       taskWorst = λ t w. sym (same .taskWorst t w);
-      isBus = λ t w. sym (same .isBus t w);
       run = λ μ v t w. sym (same .run μ v t w);
       controls = sym (same .controls);
       controlNode = λ r w. sym (same .controlNode r w);
       controlStart = λ r w. sym (same .controlStart r w);
       controlStop = λ r w. sym (same .controlStop r w);
-      datas = sym (same .datas);
-      dataTask = λ r w. sym (same .dataTask r w);
-      dataDeadline = λ r w. sym (same .dataDeadline r w);
-      dataStart = λ r w. sym (same .dataStart r w);
-      dataStop = λ r w. sym (same .dataStop r w);
+      pairs = sym (same .pairs);
+      pairTask = λ q w. sym (same .pairTask q w);
+      pairDeadline = λ q w. sym (same .pairDeadline q w);
+      pairStart = λ q w. sym (same .pairStart q w);
+      pairStop = λ q w. sym (same .pairStop q w);
+      pairHas = λ q w μ v. sym (same .pairHas q w μ v);
     }
 
 -- ---- refusal 40
@@ -154,13 +158,13 @@ module _ {k k′ : Kept} (same : SameKept k k′) where
         stop = rw (← same .controlStop r w, ← same .period) (h .stop);
       }
 
-  data-range : (r : ℕ) → r < mostFrames → DataIn k r → DataIn k′ r
-  data-range r w h =
+  pair-range : (q : ℕ) → q < mostFrames → PairIn k q → PairIn k′ q
+  pair-range q w h =
       record {
-        task = rw (← same .dataTask r w, ← same .tasks) (h .task);
-        deadline = rw (← same .dataDeadline r w, ← same .period) (h .deadline);
-        start = rw (← same .dataStart r w, ← same .period) (h .start);
-        stop = rw (← same .dataStop r w, ← same .period) (h .stop);
+        task = rw (← same .pairTask q w, ← same .tasks) (h .task);
+        deadline = rw (← same .pairDeadline q w, ← same .period) (h .deadline);
+        start = rw (← same .pairStart q w, ← same .period) (h .start);
+        stop = rw (← same .pairStop q w, ← same .period) (h .stop);
       }
 
   kept-range : KeptIn k → KeptIn k′
@@ -171,13 +175,13 @@ module _ {k k′ : Kept} (same : SameKept k k′) where
         taskCount = rw (← same .tasks) (h .taskCount);
         period = rw (← same .period) (h .period);
         controlCount = rw (← same .controls) (h .controlCount);
-        dataCount = rw (← same .datas) (h .dataCount);
+        pairCount = rw (← same .pairs) (h .pairCount);
         modules = λ m w. rw (← same .moduleNode m w) (h .modules m w);
         modes = λ μ w. mode-range μ w (h .modes μ w);
         tasks = λ t w. task-range t w (h .tasks t w);
         runs = λ μ v t w. rw (← same .run μ v t w, ← same .modePeriod μ v) (h .runs μ v t w);
         controls = λ r w. control-range r w (h .controls r w);
-        datas = λ r w. data-range r w (h .datas r w);
+        pairs = λ q w. pair-range q w (h .pairs q w);
       }
 
   play-range : {s : State} (m : ℕ) → s .mode m < modePlaces → PlayIn k s m → PlayIn k′ s m
@@ -193,9 +197,9 @@ module _ {k k′ : Kept} (same : SameKept k k′) where
   state-range kept h =
       record {
         clock = rw (← same .period) (h .clock);
-        load = h .load;
         plays = λ m w. play-range m (omega (arith, h .plays m w .mode, kept .modeCount .most)) (h .plays m w);
         boxes = h .boxes;
+        loads = h .loads;
         landed = h .landed;
         shown = h .shown;
         held = λ n v m w. rw (← same .modes) (h .held n v m w);
@@ -289,18 +293,13 @@ module _ {k k′ : Kept} (same : SameKept k k′) (s : State) (i : Input) (kept 
   control-few : (r : ℕ) → r < k .controls → r < nodePlaces
   control-few r w = omega (arith, kept .controlCount)
 
-  data-few : (r : ℕ) → r < k .datas → r < mostFrames
-  data-few r w = omega (arith, kept .dataCount)
+  pair-few : (q : ℕ) → q < k .pairs → q < mostFrames
+  pair-few q w = omega (arith, kept .pairCount)
 
   control-stops : rowWith (k .controlStop) (k .controls) (s .clock) ≡ rowWith (k′ .controlStop) (k′ .controls) (s .clock)
   control-stops =
       row-same (k .controlStop) (k′ .controlStop) (k .controls) (s .clock) (λ r w. same .controlStop r (control-few r w))
       ∙ ap (λ (n : ℕ). rowWith (k′ .controlStop) n (s .clock)) (same .controls)
-
-  data-stops : rowWith (k .dataStop) (k .datas) (s .clock) ≡ rowWith (k′ .dataStop) (k′ .datas) (s .clock)
-  data-stops =
-      row-same (k .dataStop) (k′ .dataStop) (k .datas) (s .clock) (λ r w. same .dataStop r (data-few r w))
-      ∙ ap (λ (n : ℕ). rowWith (k′ .dataStop) n (s .clock)) (same .datas)
 
   control-starts : startingControl k s ≡ startingControl k′ s
   unfolding startingControl
@@ -308,38 +307,60 @@ module _ {k k′ : Kept} (same : SameKept k k′) (s : State) (i : Input) (kept 
       row-same (k .controlStart) (k′ .controlStart) (k .controls) (s .clock % k .period) (λ r w. same .controlStart r (control-few r w))
       ∙ rw (same .controls, same .period)
 
-  data-starts : startingData k s ≡ startingData k′ s
-  unfolding startingData
-  data-starts =
-      row-same (k .dataStart) (k′ .dataStart) (k .datas) (s .clock % k .period) (λ r w. same .dataStart r (data-few r w))
-      ∙ rw (same .datas, same .period)
+  pair-starts : startingPair k s ≡ startingPair k′ s
+  unfolding startingPair
+  pair-starts =
+      row-same (k .pairStart) (k′ .pairStart) (k .pairs) (s .clock % k .period) (λ q w. same .pairStart q (pair-few q w))
+      ∙ rw (same .pairs, same .period)
 
   starting-few : (r : ℕ) → startingControl k s ≡ some r → r < nodePlaces
   unfolding startingControl
   starting-few r e = control-few r (row-is (k .controlStart) (k .controls) _ r e .there)
 
-  sending-few : (r : ℕ) → startingData k s ≡ some r → r < mostFrames
-  unfolding startingData
-  sending-few r e = data-few r (row-is (k .dataStart) (k .datas) _ r e .there)
+  sending-few : (q : ℕ) → startingPair k s ≡ some q → q < mostFrames
+  unfolding startingPair
+  sending-few q e = pair-few q (row-is (k .pairStart) (k .pairs) _ q e .there)
 
   started-same : started k s ≡ started k′ s
   unfolding started keptControl keptData
   started-same =
-      go (startingControl k s) (startingData k s) starting-few sending-few
-      ∙ rw (control-starts, data-starts)
+      go (startingControl k s) (startingPair k s) starting-few sending-few
+      ∙ rw (control-starts, pair-starts)
     where
       go : (c d : Option ℕ) → ((r : ℕ) → c ≡ some r → r < nodePlaces) → ((r : ℕ) → d ≡ some r → r < mostFrames)
           → startedBy k c d ≡ startedBy k′ c d
       go (some r) d few many =
           rw (same .controlNode r (few r refl), same .controlStart r (few r refl), same .controlStop r (few r refl))
-      go none (some r) few many =
+      go none (some q) few many =
           rw (
-            same .dataTask r (many r refl),
-            same .dataDeadline r (many r refl),
-            same .dataStart r (many r refl),
-            same .dataStop r (many r refl),
+            same .pairTask q (many q refl),
+            same .pairDeadline q (many q refl),
+            same .pairStart q (many q refl),
+            same .pairStop q (many q refl),
           )
       go none none few many = refl
+
+  -- ---- pairs of a task
+
+  some-same : (times times′ : ℕ → ℕ) → ((q : ℕ) → q < mostFrames → times q ≡ times′ q) → (t now : ℕ)
+      → someAt k times t now ≡ someAt k′ times′ t now
+  unfolding someAt isAt
+  some-same times times′ alike t now =
+      same-any (isAt k times t now) (isAt k′ times′ t now) (λ q. q) (k .pairs)
+      (λ q w. rw (same .pairTask q (pair-few q w), alike q (pair-few q w)))
+      ∙ ap (λ (n : ℕ). any (isAt k′ times′ t now) (upTo n)) (same .pairs)
+
+  sent-same : (times times′ : ℕ → ℕ) → ((q : ℕ) → q < mostFrames → times q ≡ times′ q) → (t now μ : ℕ) → μ < modePlaces
+      → someSentAt k times t now μ ≡ someSentAt k′ times′ t now μ
+  unfolding someSentAt isSentAt isAt
+  sent-same times times′ alike t now μ v =
+      same-any (isSentAt k times t now μ) (isSentAt k′ times′ t now μ) (λ q. q) (k .pairs)
+      (λ q w. rw (same .pairTask q (pair-few q w), alike q (pair-few q w), same .pairHas q (pair-few q w) μ v))
+      ∙ ap (λ (n : ℕ). any (isSentAt k′ times′ t now μ) (upTo n)) (same .pairs)
+
+  starts-same : (t : ℕ) → startsNow k s t ≡ startsNow k′ s t
+  unfolding startsNow
+  starts-same t = some-same (k .pairStart) (k′ .pairStart) (same .pairStart) t (s .clock % k .period) ∙ rw (same .period)
 
   -- ---- the six steps
 
@@ -349,13 +370,7 @@ module _ {k k′ : Kept} (same : SameKept k k′) (s : State) (i : Input) (kept 
 
   landed-same : (n t : ℕ) → t < taskPlaces → landedAfter k s n t ≡ landedAfter k′ s n t
   unfolding landedAfter landsOn
-  landed-same n t w =
-      go (rowWith (k .dataStop) (k .datas) (s .clock)) (λ r e. data-few r (row-is (k .dataStop) (k .datas) (s .clock) r e .there))
-      ∙ ap (landedBy k′ s n t) data-stops
-    where
-      go : (o : Option ℕ) → ((r : ℕ) → o ≡ some r → r < mostFrames) → landedBy k s n t o ≡ landedBy k′ s n t o
-      go none few = refl
-      go (some r) few = rw (home-node t w, same .dataTask r (few r refl))
+  landed-same n t w = rw (some-same (k .pairStop) (k′ .pairStop) (same .pairStop) t (s .clock), home-node t w)
 
   byte-of-same : (m r : ℕ) → m < modulePlaces → r < nodePlaces → isByteOf k m r ≡ isByteOf k′ m r
   unfolding isByteOf
@@ -391,17 +406,13 @@ module _ {k k′ : Kept} (same : SameKept k k′) (s : State) (i : Input) (kept 
       go none few = refl
       go (some r) few = rw (byte-of-same m r w (few r refl))
 
-  load-same : loadAfter k s i ≡ loadAfter k′ s i
+  load-same : (t : ℕ) → loadAfter k s i t ≡ loadAfter k′ s i t
   unfolding loadAfter
-  load-same = go (startingData k s) sending-few ∙ ap (loadBy k′ s i) data-starts
-    where
-      go : (o : Option ℕ) → ((r : ℕ) → o ≡ some r → r < mostFrames) → loadBy k s i o ≡ loadBy k′ s i o
-      go none few = refl
-      go (some r) few = ap (outAfter s i) (same .dataTask r (few r refl))
+  load-same t = rw (starts-same t)
 
-  message-same : (t μ deadline : ℕ) → t < taskPlaces → μ < modePlaces → hasMessage k t μ deadline ≡ hasMessage k′ t μ deadline
+  message-same : (t μ deadline : ℕ) → μ < modePlaces → hasMessage k t μ deadline ≡ hasMessage k′ t μ deadline
   unfolding hasMessage
-  message-same t μ deadline w v = rw (same .isBus t w, same .run μ v t w)
+  message-same t μ deadline v = sent-same (k .pairDeadline) (k′ .pairDeadline) (same .pairDeadline) t deadline μ v
 
   -- the modes behind an accepted tick, and the mode bytes held, are modes
   module _ (may : MayTick k s i) where
@@ -418,7 +429,7 @@ module _ {k k′ : Kept} (same : SameKept k k′) (s : State) (i : Input) (kept 
     shown-same n v t w =
         let home = home-there t w in
         rw (
-          message-same t (heldAfter k s n (k .taskHome t)) (s .clock) w (held-there n (k .taskHome t) v home),
+          message-same t (heldAfter k s n (k .taskHome t)) (s .clock) (held-there n (k .taskHome t) v home),
           held-same n (k .taskHome t) home,
           ends-same t w,
           home-node t w,
@@ -426,17 +437,16 @@ module _ {k k′ : Kept} (same : SameKept k k′) (s : State) (i : Input) (kept 
           same .taskHome t w,
         )
 
-    full-same : fullAfter k s i ≡ fullAfter k′ s i
+    taken-same : (t : ℕ) → t < taskPlaces → isTaken k s i t ≡ isTaken k′ s i t
+    unfolding isTaken
+    taken-same t w =
+        sent-same (k .pairStart) (k′ .pairStart) (same .pairStart) t (s .clock % k .period) (modeAfter s i (k .taskHome t))
+        (new-mode-there (k .taskHome t) (home-there t w))
+        ∙ rw (same .taskHome t w, same .period)
+
+    full-same : (t : ℕ) → t < taskPlaces → fullAfter k s i t ≡ fullAfter k′ s i t
     unfolding fullAfter
-    full-same = go (startingData k s) sending-few ∙ ap (fullBy k′ s i) data-starts
-      where
-        go : (o : Option ℕ) → ((r : ℕ) → o ≡ some r → r < mostFrames) → fullBy k s i o ≡ fullBy k′ s i o
-        go none few = refl
-        go (some r) few =
-            let task : k .dataTask r < taskPlaces = omega (arith, kept .datas r (few r refl) .task, kept .taskCount .most) in
-            let home = home-there (k .dataTask r) task in
-            message-same (k .dataTask r) (modeAfter s i (k .taskHome (k .dataTask r))) (k .dataDeadline r) task (new-mode-there (k .taskHome (k .dataTask r)) home)
-            ∙ rw (same .taskHome (k .dataTask r) task, same .dataTask r (few r refl), same .dataDeadline r (few r refl))
+    full-same t w = rw (starts-same t, taken-same t w)
 
     tick-same : Agree (tick k s i) (tick k′ s i)
     unfolding tick
@@ -451,7 +461,7 @@ module _ {k k′ : Kept} (same : SameKept k k′) (s : State) (i : Input) (kept 
           shown = shown-same;
           held = λ n v m w. held-same n m w;
           full = full-same;
-          load = load-same;
+          load = λ t w. load-same t;
           modeByte = byte-same;
         }
 

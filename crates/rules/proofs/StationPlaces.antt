@@ -11,20 +11,18 @@ use Rattle.laws.specs.Res.{Res, ok, refuse, _>>_, unless}
 use Rattle.laws.proofs.Res.{refuse≢ok, ok-injective, then-case, unless-ok}
 use Rattle.laws.proofs.Turns.{same-bad}
 use Rattle.rules.specs.Plan.{Plan, theTask, readPlan}
-use Rattle.rules.specs.Frames.{taskNode}
+use Rattle.rules.specs.Traffic.{taskNode}
 use Rattle.rules.specs.Playing.{nodePlaces, modulePlaces, taskPlaces, Input}
 use Rattle.rules.specs.Station.{Kept, State, runPeriod, taskAge, runAge, isRunning, isAwaited, resultAwaited, resultFits}
 use Rattle.rules.specs.Station.{isLastChance, resultInTime, maySwitch, mayTake, changeAllowed, judgedTick, outAfter}
-use Rattle.rules.specs.Station.{rowWith, landsOn, landedBy, landedAfter, heldBy, heldAfter, endsNow, ownShows, otherShows}
-use Rattle.rules.specs.Station.{shownAfter, modeAfter, ageAfter, givenAfter, startingControl, startingData, modeByteBy}
-use Rattle.rules.specs.Station.{modeByteAfter, fullBy, fullAfter, loadBy, loadAfter, tick, started, Ticked, step, Begun}
-use Rattle.rules.specs.Station.{begin}
+use Rattle.rules.specs.Station.{rowWith, landsOn, landedAfter, heldBy, heldAfter, endsNow, ownShows, otherShows, shownAfter}
+use Rattle.rules.specs.Station.{modeAfter, ageAfter, givenAfter, startingControl, startingPair, modeByteBy, modeByteAfter}
+use Rattle.rules.specs.Station.{startsNow, isTaken, fullAfter, loadAfter, tick, started, Ticked, step, Begun, begin}
 use Rattle.rules.specs.StationRange.{inRange, ticked}
 use Rattle.rules.specs.History.{played, boardValue, consumes}
 use Rattle.rules.proofs.PlanKept.{PlanKept, readable-kept}
 use Rattle.rules.proofs.StationRanges.{KeptIn, range-tests}
 use Rattle.rules.proofs.StationStays.{node-begins}
-use Rattle.rules.proofs.TransparentTick.{row-is}
 use Rattle.rules.proofs.Transparent.{consumed-on, consumed-there, transparent, transparent-own}
 
 -- Two states that agree at every place of a station.
@@ -37,8 +35,8 @@ pub record Agree (s s′ : State) : Type 0 where
   pub landed : (n : ℕ) → n < nodePlaces → (t : ℕ) → t < taskPlaces → s .landed n t ≡ s′ .landed n t
   pub shown : (n : ℕ) → n < nodePlaces → (t : ℕ) → t < taskPlaces → s .shown n t ≡ s′ .shown n t
   pub held : (n : ℕ) → n < nodePlaces → (m : ℕ) → m < modulePlaces → s .held n m ≡ s′ .held n m
-  pub full : s .full ≡ s′ .full
-  pub load : s .load ≡ s′ .load
+  pub full : (t : ℕ) → t < taskPlaces → s .full t ≡ s′ .full t
+  pub load : (t : ℕ) → t < taskPlaces → s .load t ≡ s′ .load t
   pub modeByte : (m : ℕ) → m < modulePlaces → s .modeByte m ≡ s′ .modeByte m
 
 pub agree-trans : {s s′ s″ : State} → Agree s s′ → Agree s′ s″ → Agree s s″
@@ -52,8 +50,8 @@ agree-trans a b =
       landed = λ n v t w. a .landed n v t w ∙ b .landed n v t w;
       shown = λ n v t w. a .shown n v t w ∙ b .shown n v t w;
       held = λ n v m w. a .held n v m w ∙ b .held n v m w;
-      full = a .full ∙ b .full;
-      load = a .load ∙ b .load;
+      full = λ t w. a .full t w ∙ b .full t w;
+      load = λ t w. a .load t w ∙ b .load t w;
       modeByte = λ m w. a .modeByte m w ∙ b .modeByte m w;
     }
 
@@ -125,12 +123,7 @@ module _ {k : Kept} {s s′ : State} {i i′ : Input} (kept : KeptIn k) (a : Agr
 
   landed-agree : (n : ℕ) → n < nodePlaces → (t : ℕ) → t < taskPlaces → landedAfter k s n t ≡ landedAfter k s′ n t
   unfolding landedAfter landsOn
-  landed-agree n v t w =
-      ap (λ (now : ℕ). landedBy k s n t (rowWith (k .dataStop) (k .datas) now)) (a .clock) ∙ go (rowWith (k .dataStop) (k .datas) (s′ .clock))
-    where
-      go : (o : Option ℕ) → landedBy k s n t o ≡ landedBy k s′ n t o
-      go none = a .landed n v t w
-      go (some r) = rw (a .full, a .load, a .landed n v t w)
+  landed-agree n v t w = rw (a .full t w, a .load t w, a .landed n v t w, a .clock)
 
   held-agree : (n : ℕ) → n < nodePlaces → (m : ℕ) → m < modulePlaces → heldAfter k s n m ≡ heldAfter k s′ n m
   unfolding heldAfter
@@ -174,9 +167,9 @@ module _ {k : Kept} {s s′ : State} {i i′ : Input} (kept : KeptIn k) (a : Agr
   unfolding startingControl
   control-agree = rw (a .clock)
 
-  data-agree : startingData k s ≡ startingData k s′
-  unfolding startingData
-  data-agree = rw (a .clock)
+  pair-agree : startingPair k s ≡ startingPair k s′
+  unfolding startingPair
+  pair-agree = rw (a .clock)
 
   byte-agree : (m : ℕ) → m < modulePlaces → modeByteAfter k s i m ≡ modeByteAfter k s′ i′ m
   unfolding modeByteAfter
@@ -186,28 +179,13 @@ module _ {k : Kept} {s s′ : State} {i i′ : Input} (kept : KeptIn k) (a : Agr
       go none = a .modeByte m w
       go (some r) = rw (mode-agree m w, a .modeByte m w)
 
-  -- a row that starts is a task's
-  task-there : (r : ℕ) → startingData k s′ ≡ some r → k .dataTask r < taskPlaces
-  unfolding startingData
-  task-there r e =
-      let few : r < k .datas = row-is (k .dataStart) (k .datas) _ r e .there in
-      omega (arith, kept .datas r (omega (arith, few, kept .dataCount)) .task, kept .taskCount .most)
+  full-agree : (t : ℕ) → t < taskPlaces → fullAfter k s i t ≡ fullAfter k s′ i′ t
+  unfolding fullAfter startsNow isTaken
+  full-agree t w = rw (mode-agree (k .taskHome t) (home-there t w), a .full t w, a .clock)
 
-  full-agree : fullAfter k s i ≡ fullAfter k s′ i′
-  unfolding fullAfter
-  full-agree = rw data-agree (go (startingData k s′) task-there)
-    where
-      go : (o : Option ℕ) → ((r : ℕ) → o ≡ some r → k .dataTask r < taskPlaces) → fullBy k s i o ≡ fullBy k s′ i′ o
-      go none h = a .full
-      go (some r) h = rw (mode-agree (k .taskHome (k .dataTask r)) (home-there (k .dataTask r) (h r refl)))
-
-  load-agree : loadAfter k s i ≡ loadAfter k s′ i′
-  unfolding loadAfter
-  load-agree = rw data-agree (go (startingData k s′) task-there)
-    where
-      go : (o : Option ℕ) → ((r : ℕ) → o ≡ some r → k .dataTask r < taskPlaces) → loadBy k s i o ≡ loadBy k s′ i′ o
-      go none h = a .load
-      go (some r) h = out-agree (k .dataTask r) (h r refl)
+  load-agree : (t : ℕ) → t < taskPlaces → loadAfter k s i t ≡ loadAfter k s′ i′ t
+  unfolding loadAfter startsNow
+  load-agree t w = rw (out-agree t w, a .load t w, a .clock)
 
   pub tick-agree : Agree (tick k s i) (tick k s′ i′)
   unfolding tick
@@ -228,7 +206,7 @@ module _ {k : Kept} {s s′ : State} {i i′ : Input} (kept : KeptIn k) (a : Agr
 
   pub started-agree : started k s ≡ started k s′
   unfolding started
-  started-agree = rw (control-agree, data-agree)
+  started-agree = rw (control-agree, pair-agree)
 
 -- ---- answers
 

@@ -14,7 +14,7 @@ use Rattle.rules.specs.StationRange.{
   runInRange,
   runsInRange,
   controlInRange,
-  dataInRange,
+  pairInRange,
   keptInRange,
   playInRange,
   isValue,
@@ -46,11 +46,11 @@ pub record ControlIn (k : Kept) (r : ℕ) : Type 0 where
   pub start : k .controlStart r ≤ k .period
   pub stop : k .controlStop r ≤ k .period
 
-pub record DataIn (k : Kept) (r : ℕ) : Type 0 where
-  pub task : k .dataTask r < k .tasks
-  pub deadline : k .dataDeadline r ≤ k .period
-  pub start : k .dataStart r ≤ k .period
-  pub stop : k .dataStop r ≤ k .period
+pub record PairIn (k : Kept) (q : ℕ) : Type 0 where
+  pub task : k .pairTask q < k .tasks
+  pub deadline : k .pairDeadline q ≤ k .period
+  pub start : k .pairStart q ≤ k .period
+  pub stop : k .pairStop q ≤ k .period
 
 pub record KeptIn (k : Kept) : Type 0 where
   pub moduleCount : Between 1 modulePlaces (k .modules)
@@ -58,13 +58,13 @@ pub record KeptIn (k : Kept) : Type 0 where
   pub taskCount : Between 1 taskPlaces (k .tasks)
   pub period : Between 1 longestTime (k .period)
   pub controlCount : k .controls ≤ nodePlaces
-  pub dataCount : k .datas ≤ mostFrames
+  pub pairCount : k .pairs ≤ mostFrames
   pub modules : (m : ℕ) → m < modulePlaces → k .moduleNode m < nodePlaces
   pub modes : (μ : ℕ) → μ < modePlaces → ModeIn k μ
   pub tasks : (t : ℕ) → t < taskPlaces → TaskIn k t
   pub runs : (μ : ℕ) → μ < modePlaces → (t : ℕ) → t < taskPlaces → k .run μ t ≤ k .modePeriod μ
   pub controls : (r : ℕ) → r < nodePlaces → ControlIn k r
-  pub datas : (r : ℕ) → r < mostFrames → DataIn k r
+  pub pairs : (q : ℕ) → q < mostFrames → PairIn k q
 
 abbrev pub IsValue : ℕ → Type 0
 IsValue v = v < 2 ^ 64
@@ -77,9 +77,9 @@ pub record PlayIn (k : Kept) (s : State) (m : ℕ) : Type 0 where
 
 pub record StateIn (k : Kept) (s : State) : Type 0 where
   pub clock : s .clock ≤ k .period
-  pub load : IsValue (s .load)
   pub plays : (m : ℕ) → m < modulePlaces → PlayIn k s m
   pub boxes : (t : ℕ) → t < taskPlaces → IsValue (s .out t)
+  pub loads : (t : ℕ) → t < taskPlaces → IsValue (s .load t)
   pub landed : (n : ℕ) → n < nodePlaces → (t : ℕ) → t < taskPlaces → IsValue (s .landed n t)
   pub shown : (n : ℕ) → n < nodePlaces → (t : ℕ) → t < taskPlaces → IsValue (s .shown n t)
   pub held : (n : ℕ) → n < nodePlaces → (m : ℕ) → m < modulePlaces → s .held n m < k .modes
@@ -131,12 +131,12 @@ module _ (k : Kept) where
       (λ h. record { node = h .0; start = h .1 .0; stop = h .1 .1 })
       (λ h. (h .node, (h .start, h .stop)))
 
-  data-tests : (r : ℕ) → Tests (dataInRange k r) (DataIn k r)
-  unfolding dataInRange
-  data-tests r =
+  pair-tests : (q : ℕ) → Tests (pairInRange k q) (PairIn k q)
+  unfolding pairInRange
+  pair-tests q =
       by-iff
-      (by-and (by-and (by-lt (k .dataTask r) (k .tasks)) (by-le (k .dataDeadline r) (k .period)))
-      (by-and (by-le (k .dataStart r) (k .period)) (by-le (k .dataStop r) (k .period))))
+      (by-and (by-and (by-lt (k .pairTask q) (k .tasks)) (by-le (k .pairDeadline q) (k .period)))
+      (by-and (by-le (k .pairStart q) (k .period)) (by-le (k .pairStop q) (k .period))))
       (λ h. record { task = h .0 .0; deadline = h .0 .1; start = h .1 .0; stop = h .1 .1 })
       (λ h. ((h .task, h .deadline), (h .start, h .stop)))
 
@@ -148,28 +148,28 @@ module _ (k : Kept) where
       (by-and
       (by-and
       (by-and (between-tests 1 modulePlaces (k .modules)) (by-and (between-tests 1 modePlaces (k .modes)) (between-tests 1 taskPlaces (k .tasks))))
-      (by-and (between-tests 1 longestTime (k .period)) (by-and (by-le (k .controls) nodePlaces) (by-le (k .datas) mostFrames))))
+      (by-and (between-tests 1 longestTime (k .period)) (by-and (by-le (k .controls) nodePlaces) (by-le (k .pairs) mostFrames))))
       (by-and (by-all-upTo (moduleInRange k) modulePlaces (λ m w. module-tests m)) (by-all-upTo (modeInRange k) modePlaces (λ μ w. mode-tests μ))))
       (by-and
       (by-and (by-all-upTo (taskInRange k) taskPlaces (λ t w. task-tests t)) (by-all-upTo (runsInRange k) modePlaces (λ μ w. runs-tests μ)))
-      (by-and (by-all-upTo (controlInRange k) nodePlaces (λ r w. control-tests r)) (by-all-upTo (dataInRange k) mostFrames (λ r w. data-tests r)))))
+      (by-and (by-all-upTo (controlInRange k) nodePlaces (λ r w. control-tests r)) (by-all-upTo (pairInRange k) mostFrames (λ q w. pair-tests q)))))
       (λ h. record {
         moduleCount = h .0 .0 .0 .0;
         modeCount = h .0 .0 .0 .1 .0;
         taskCount = h .0 .0 .0 .1 .1;
         period = h .0 .0 .1 .0;
         controlCount = h .0 .0 .1 .1 .0;
-        dataCount = h .0 .0 .1 .1 .1;
+        pairCount = h .0 .0 .1 .1 .1;
         modules = h .0 .1 .0;
         modes = h .0 .1 .1;
         tasks = h .1 .0 .0;
         runs = h .1 .0 .1;
         controls = h .1 .1 .0;
-        datas = h .1 .1 .1;
+        pairs = h .1 .1 .1;
       })
       (λ h. (
-        (((h .moduleCount, (h .modeCount, h .taskCount)), (h .period, (h .controlCount, h .dataCount))), (h .modules, h .modes)),
-        ((h .tasks, h .runs), (h .controls, h .datas)),
+        (((h .moduleCount, (h .modeCount, h .taskCount)), (h .period, (h .controlCount, h .pairCount))), (h .modules, h .modes)),
+        ((h .tasks, h .runs), (h .controls, h .pairs)),
       ))
 
   module _ (s : State) where
@@ -182,9 +182,9 @@ module _ (k : Kept) where
         (λ h. record { mode = h .0 .0; own = h .0 .1; age = h .1 .0; byte = h .1 .1 })
         (λ h. ((h .mode, h .own), (h .age, h .byte)))
 
-    box-tests : (t : ℕ) → Tests (boxInRange s t) (IsValue (s .out t))
+    box-tests : (t : ℕ) → Tests (boxInRange s t) (IsValue (s .out t) × IsValue (s .load t))
     unfolding boxInRange
-    box-tests t = value-tests (s .out t)
+    box-tests t = by-and (value-tests (s .out t)) (value-tests (s .load t))
 
     place-tests : (n t : ℕ) → Tests (placeInRange s n t) (IsValue (s .landed n t) × IsValue (s .shown n t))
     unfolding placeInRange
@@ -205,21 +205,21 @@ module _ (k : Kept) where
     unfolding stateInRange
     state-tests =
         by-iff
-        (by-and (by-and (by-le (s .clock) (k .period)) (value-tests (s .load)))
+        (by-and (by-le (s .clock) (k .period))
         (by-and (by-all-upTo (playInRange k s) modulePlaces (λ m w. play-tests m))
         (by-and (by-all-upTo (boxInRange s) taskPlaces (λ t w. box-tests t)) (by-all-upTo (nodeInRange k s) nodePlaces (λ n w. node-tests n)))))
         (λ h. record {
-          clock = h .0 .0;
-          load = h .0 .1;
+          clock = h .0;
           plays = h .1 .0;
-          boxes = h .1 .1 .0;
+          boxes = λ t w. h .1 .1 .0 t w .0;
+          loads = λ t w. h .1 .1 .0 t w .1;
           landed = λ n w t v. h .1 .1 .1 n w .0 t v .0;
           shown = λ n w t v. h .1 .1 .1 n w .0 t v .1;
           held = λ n w m v. h .1 .1 .1 n w .1 m v;
         })
         (λ h. (
-          (h .clock, h .load),
-          (h .plays, (h .boxes, λ n w. (λ t v. (h .landed n w t v, h .shown n w t v), λ m v. h .held n w m v))),
+          h .clock,
+          (h .plays, (λ t w. (h .boxes t w, h .loads t w), λ n w. (λ t v. (h .landed n w t v, h .shown n w t v), λ m v. h .held n w m v))),
         ))
 
     -- every number that a station holds is within its range

@@ -2,37 +2,51 @@
 -- tick stays within; a beginning is within.
 use mathlib.Core.Path.{_≡_, refl, sym, _∙_, subst}
 use mathlib.Core.Bool.{Bool, true, false, cond, not, _&&_}
-use mathlib.Core.List.{List, [], _∷_}
+use mathlib.Core.List.{List, [], _∷_, List·Memᴰ}
 use mathlib.Core.Logic.{_⊎_, inl, inr, _↔_}
 use mathlib.Core.Option.{Option, none, some, Option·getD}
 use native.Mathlib.Nat.{pow-le-pow-right, div-le-self}
 use native.Mathlib.Omega.{arith}
 use borrow.Author.Tests.{eqb-true}
 use lib.Dec.{eqb, ltb, lit<}
-use lib.ListN.{length, List·getD-eq-default}
+use lib.ListN.{length, getD, List·getD-eq-default}
 use Prim.Native.Nat.{ℕ, _+_, _≤_, _<_, _^_, zero-le}
 use Rattle.laws.specs.Res.{ok, refuse, unless}
-use Rattle.laws.proofs.Lists.{both-left}
+use Rattle.laws.proofs.Lists.{both-left, both-right}
 use Rattle.laws.proofs.Res.{ok-injective, bind-case, then-refused}
 use Rattle.laws.proofs.Tests.{Tests, by-lt}
 use Rattle.laws.proofs.Orders.{le-or-lt}
-use Rattle.laws.proofs.Members.{all-weaker, all-getD, all-getD-or}
+use Rattle.laws.proofs.Members.{All, empty, also, all-weaker, all-getD, all-getD-or, all-of-places, any-member}
 use Rattle.laws.proofs.Faults.{by-failed, by-fails, unless-refused}
 use Rattle.rules.specs.Plan.{Mode, Task, Invocation, Plan, noMode, noTask, theMode, theTask, periodOf}
-use Rattle.rules.specs.Frames.{moduleNode, busPeriod, ControlRow, noControlRow, controlRows, Layout, layoutOf}
-use Rattle.rules.specs.LatestRelease.{noFrame}
-use Rattle.rules.specs.Table.{DataRow}
-use Rattle.rules.specs.Checker.{TableRead, tableOf, controlAt, noDataRow, rowAt, Passed, checkFiles}
+use Rattle.rules.specs.Traffic.{moduleNode, busPeriod, basic}
+use Rattle.rules.specs.Frames.{Pair, pairs, ControlRow, noControlRow, controlRows, Layout, layoutOf}
+use Rattle.rules.specs.LatestRelease.{noPair}
+use Rattle.rules.specs.Checker.{
+  Named,
+  Row,
+  TableRead,
+  tableOf,
+  controlAt,
+  noRow,
+  rowAt,
+  isPairOf,
+  holdsPair,
+  rowHolding,
+  Passed,
+  checkFiles,
+}
 use Rattle.rules.specs.Playing.{nodePlaces, modulePlaces, taskPlaces, Input, isGiven, isRun, periodAmong, periodIn}
 use Rattle.rules.specs.Station.{
   Kept,
   keptOf,
   State,
+  passedPair,
+  passedRow,
   stateAtStart,
   outAfter,
   rowWith,
   landsOn,
-  landedBy,
   landedAfter,
   isByteOf,
   heldBy,
@@ -44,10 +58,9 @@ use Rattle.rules.specs.Station.{
   oneOn,
   ageAfter,
   startingControl,
-  startingData,
   modeByteBy,
   modeByteAfter,
-  loadBy,
+  startsNow,
   loadAfter,
   tick,
   Ticked,
@@ -57,12 +70,11 @@ use Rattle.rules.specs.Station.{
 }
 use Rattle.rules.specs.History.{played}
 use Rattle.rules.specs.StationRange.{inRange, ticked}
-use Rattle.rules.specs.Obeys.{frameAt, ObeysTable, MayTick, StartsRight}
-use Rattle.rules.proofs.TransparentTick.{row-is}
+use Rattle.rules.specs.Obeys.{ObeysTable, MayTick, StartsRight}
 use Rattle.rules.proofs.PlanKept.{PlanKept, readable-kept}
 use Rattle.rules.proofs.StationRanges.{IsValue}
 pub use Rattle.rules.proofs.StationRanges.{KeptIn, StateIn, range-tests}
-use Rattle.rules.proofs.LaidOut.{LaidOut, laid-out, period-kept, frames-kept, control-kept, control-count}
+use Rattle.rules.proofs.LaidOut.{LaidOut, laid-out, period-kept, PairKept, pairs-kept, control-kept, control-count}
 use Rattle.rules.proofs.CheckerExact.{passed-says, passed-passes}
 use Rattle.rules.proofs.StationExact.{step-accepted, numbers-of-ticks, begin-exact}
 
@@ -100,11 +112,7 @@ module _ {k : Kept} {s : State} {i : Input} (kept : KeptIn k) (state : StateIn k
 
   landed-stays : (n : ℕ) → n < nodePlaces → (t : ℕ) → t < taskPlaces → IsValue (landedAfter k s n t)
   unfolding landedAfter
-  landed-stays n v t w = go (rowWith (k .dataStop) (k .datas) (s .clock))
-    where
-      go : (o : Option ℕ) → IsValue (landedBy k s n t o)
-      go none = state .landed n v t w
-      go (some r) = cond-keeps IsValue (landsOn k s n t r) (state .load) (state .landed n v t w)
+  landed-stays n v t w = cond-keeps IsValue (landsOn k s n t) (state .loads t w) (state .landed n v t w)
 
   shown-stays : (n : ℕ) → n < nodePlaces → (t : ℕ) → t < taskPlaces → IsValue (shownAfter k s i n t)
   unfolding shownAfter
@@ -121,15 +129,9 @@ module _ {k : Kept} {s : State} {i : Input} (kept : KeptIn k) (state : StateIn k
       go (some r) =
           cond-keeps (λ μ. μ < k .modes) (isByteOf k m r && not (eqb (k .moduleNode m) n)) (state .plays m w .byte) (state .held n v m w)
 
-  load-stays : IsValue (loadAfter k s i)
-  unfolding loadAfter startingData
-  load-stays = go (startingData k s) (λ r e. row-is (k .dataStart) (k .datas) _ r e .there)
-    where
-      go : (o : Option ℕ) → ((r : ℕ) → o ≡ some r → r < k .datas) → IsValue (loadBy k s i o)
-      go none h = state .load
-      go (some r) h =
-          let there : k .dataTask r < k .tasks = kept .datas r (omega (arith, h r refl, kept .dataCount)) .task in
-          out-stays (k .dataTask r) (omega (arith, there, kept .taskCount .most))
+  load-stays : (t : ℕ) → t < taskPlaces → IsValue (loadAfter k s i t)
+  unfolding loadAfter
+  load-stays t w = cond-keeps IsValue (startsNow k s t) (out-stays t w) (state .loads t w)
 
   mode-stays : (m : ℕ) → m < modulePlaces → modeAfter s i m < k .modes
   unfolding modeAfter
@@ -164,9 +166,9 @@ module _ {k : Kept} {s : State} {i : Input} (kept : KeptIn k) (state : StateIn k
   state-stays =
       record {
         clock = one-on-within (s .clock) (k .period) (kept .period .least);
-        load = load-stays;
         plays = λ m w. record { mode = mode-stays m w; own = own-stays m w; age = age-stays m w; byte = byte-stays m w };
         boxes = out-stays;
+        loads = load-stays;
         landed = landed-stays;
         shown = shown-stays;
         held = held-stays;
@@ -237,17 +239,38 @@ run-begins p (i ∷ is) μ t = go (isRun μ t i) refl (run-begins p is μ t)
         rw same (div-le-self (theMode p μ .period) (i .rate))
     go false e rest = rest
 
--- a row of a table that passes lies within P and names what is there; behind the rows all is zero
+-- a control row of a table that passes lies within P and names a node; behind the rows all is zero
 record ControlWithin (p : Plan) (r : ControlRow) : Type 0 where
   node : r .node < nodePlaces
   start : r .start ≤ busPeriod p
   stop : r .stop ≤ busPeriod p
 
-record DataWithin (p : Plan) (r : DataRow) : Type 0 where
-  task : r .task < length (p .tasks)
-  deadline : r .deadline ≤ busPeriod p
-  start : r .start ≤ busPeriod p
-  stop : r .stop ≤ busPeriod p
+-- a data row of such a table starts before it stops, and stops by the deadline of each pair that it holds
+record RowWithin (r : Row) : Type 0 where
+  order : r .start ≤ r .stop
+  due : (n : Named) → List·Memᴰ n (r .holds) → r .stop ≤ n .deadline
+
+-- so the row that a pair rides in stops by the pair's deadline, and that of a pair in no row is zero
+record Rides (f : Pair) (r : Row) : Type 0 where
+  order : r .start ≤ r .stop
+  due : r .stop ≤ f .deadline
+
+module _ (f : Pair) where
+  rides : (r : Row) → RowWithin r → holdsPair f r ≡ true → Rides f r
+  unfolding holdsPair isPairOf
+  rides r h e =
+      let n = any-member (λ n. isPairOf n f) (r .holds) e in
+      let deadline = eqb-true (n .one .deadline) (f .deadline) (both-right (eqb (n .one .task) (f .task)) _ (n .passes)) in
+      record { order = h .order; due = omega (arith, deadline, h .due (n .one) (n .among)) }
+
+  holding-rides : {rows : List Row} → All RowWithin rows → Rides f (rowHolding rows f)
+  unfolding rowHolding
+  holding-rides empty = record { order = zero-le; due = zero-le }
+  holding-rides (also {x = r} {l = rows} h rest) = go (holdsPair f r) refl (holding-rides rest)
+    where
+      go : (b : Bool) → holdsPair f r ≡ b → Rides f (rowHolding rows f) → Rides f (cond b r (rowHolding rows f))
+      go true e q = rides r h e
+      go false e q = q
 
 module _ (p : Plan) (kept : PlanKept p) {l : Layout} (laid : LaidOut p l) (t : TableRead) (obeys : ObeysTable (layoutOf p) t) where
   control-row : (r : ℕ) → r < length (t .control) → ControlWithin p (controlAt (t .control) r)
@@ -270,28 +293,18 @@ module _ (p : Plan) (kept : PlanKept p) {l : Layout} (laid : LaidOut p l) (t : T
       go (inl h) = rw (List·getD-eq-default (t .control) noControlRow h) (record { node = lit< tt; start = zero-le; stop = zero-le })
       go (inr w) = control-row r w
 
-  data-row : (r : ℕ) → r < length (t .rows) → DataWithin p (rowAt t r)
-  unfolding layoutOf frameAt
-  data-row r w =
-      let n = obeys .names r w in
-      let f = all-getD noFrame (frames-kept p kept) (n .frame) (n .names .there) in
-      let task : rowAt t r .task < length (p .tasks) = omega (arith, n .names .task, f .task) in
-      let deadline : rowAt t r .deadline ≤ busPeriod p = omega (arith, n .names .deadline, f .deadline) in
-      let stop : rowAt t r .stop ≤ busPeriod p = omega (arith, obeys .inTime r w) in
-      record { task = task; deadline = deadline; start = omega (arith, obeys .time r w .stop (n .frame) (n .names)); stop = stop }
-
-  data-begins : (r : ℕ) → DataWithin p (rowAt t r)
+  rows-within : All RowWithin (t .rows)
   unfolding rowAt
-  data-begins r = go (le-or-lt (length (t .rows)) r)
-    where
-      go : (length (t .rows) ≤ r) ⊎ (r < length (t .rows)) → DataWithin p (rowAt t r)
-      go (inl h) =
-          rw (List·getD-eq-default (t .rows) noDataRow h)
-          (record { task = kept .taskCount .least; deadline = zero-le; start = zero-le; stop = zero-le })
-      go (inr w) = data-row r w
+  rows-within =
+      all-of-places (t .rows) noRow
+      (λ k w. record { order = omega (arith, obeys .time k w .stop (obeys .names k w .pairs) (obeys .names k w .names)); due = obeys .inTime k w })
 
-  kept-of-plan : KeptIn (keptOf (record { layout = layoutOf p; table = t }))
-  unfolding keptOf layoutOf periodIn
+  pair-begins : (q : ℕ) → PairKept p (getD (layoutOf p .pairs) q noPair)
+  unfolding layoutOf pairs
+  pair-begins = all-getD-or {P = PairKept p} noPair (pairs-kept p kept) (record { task = kept .taskCount .least; deadline = zero-le })
+
+  kept-of-plan : KeptIn (keptOf (record { plan = p; traffic = basic p; layout = layoutOf p; table = t }))
+  unfolding keptOf layoutOf basic pairs periodIn passedPair passedRow
   kept-of-plan =
       record {
         moduleCount = kept .moduleCount;
@@ -299,15 +312,21 @@ module _ (p : Plan) (kept : PlanKept p) {l : Layout} (laid : LaidOut p l) (t : T
         taskCount = kept .taskCount;
         period = period-kept p kept laid;
         controlCount = omega (arith, obeys .header .controlRows, control-count p, kept .nodeCount .most);
-        dataCount = omega (arith, obeys .header .dataRows, laid .few);
+        pairCount = laid .few;
         modules = λ m w. node-begins p kept m;
         modes = λ μ w. let h = mode-begins p kept μ in record { home = h .home; period = h .period; switch = h .switch; there = mode-there p kept μ };
         tasks = λ u w. let h = task-begins p kept u in record { home = h .home; size = h .size; worst = h .worst; there = task-there p kept u };
         runs = λ μ w u v. run-begins p (p .invocations) μ u;
         controls = λ r w. let h = control-begins r in record { node = h .node; start = h .start; stop = h .stop };
-        datas =
-            λ r w. let h = data-begins r in
-            record { task = h .task; deadline = h .deadline; start = h .start; stop = h .stop };
+        pairs =
+            λ q w. let h = pair-begins q in
+            let row = holding-rides (getD (layoutOf p .pairs) q noPair) rows-within in
+            record {
+              task = h .task;
+              deadline = h .deadline;
+              start = omega (arith, h .deadline, row .order, row .due);
+              stop = omega (arith, h .deadline, row .due);
+            };
       }
 
 -- what a station keeps of a table that passes
@@ -318,7 +337,7 @@ kept-begins plan table c e =
     let laid = laid-out (h .read) (h .laid) (h .isLaid) in
     let t = tableOf (h .rows) in
     subst (λ (c : Passed). KeptIn (keptOf c)) same
-    (subst (λ (l : Layout). ObeysTable l t → KeptIn (keptOf (record { layout = l; table = t }))) (laid .is)
+    (subst (λ (l : Layout). ObeysTable l t → KeptIn (keptOf (record { plan = h .read; traffic = basic (h .read); layout = l; table = t }))) (laid .is)
     (kept-of-plan (h .read) (readable-kept plan (h .read) (h .isRead)) laid t)
     (h .obeys))
 
@@ -342,9 +361,9 @@ module _ (k : Kept) (kept : KeptIn k) (starting : ℕ → Option ℕ) (starts : 
   state-begins =
       record {
         clock = zero-le;
-        load = lit< tt;
         plays = λ m w. record { mode = first-there m w; own = λ v. first-is m w v .1; age = zero-le; byte = kept .modeCount .least };
         boxes = λ t w. lit< tt;
+        loads = λ t w. lit< tt;
         landed = λ n v t w. lit< tt;
         shown = λ n v t w. lit< tt;
         held = λ n v m w. kept .modeCount .least;

@@ -17,11 +17,10 @@ use Rattle.laws.proofs.Lists.{keep-append}
 use Rattle.rules.specs.Records.{Field, width, fields, widths, bodyLength, kinds, known, Rec, decoded, recordOf, records, tableFollows}
 use Rattle.rules.specs.Plan.{isKind, numbersOf, things, only}
 use Rattle.rules.specs.Frames.{ControlRow, Layout}
-use Rattle.rules.specs.LatestRelease.{Placed}
 use Rattle.rules.proofs.RecordsExact.{records-exact}
 use Rattle.rules.specs.Obeys.{MayStand, AreRecords, theEnd, oneMore}
-use Rattle.rules.specs.Table.{encoded, recordBytes, DataRow, dataRow, headerBytes, controlBytes, dataBytes, tableBytes}
-use Rattle.rules.specs.Checker.{TableRead, tableOf, controlRowOf, dataRowOf}
+use Rattle.rules.specs.Table.{encoded, recordBytes, DataRow, PlacedRow, dataRow, headerBytes, controlBytes, dataBytes, tableBytes}
+use Rattle.rules.specs.Checker.{rowOf, TableRead, tableOf, controlRowOf, dataRowOf}
 
 -- every number fits its field
 pub data Fit : List Field → List ℕ → Type 0 where
@@ -98,7 +97,7 @@ pub record DataFits (r : DataRow) : Type 0 where
   pub stop : r .stop < 4294967296
 
 -- every number of the table fits its field
-pub record TableFits (l : Layout) (placed : List Placed) : Type 0 where
+pub record TableFits (l : Layout) (placed : List PlacedRow) : Type 0 where
   pub period : l .period < 4294967296
   pub controls : length (l .control) < 256
   pub datas : length placed < 65536
@@ -133,14 +132,14 @@ kept-18 c d =
     rw (append-nil (map dataRec d)) (keep-append (isKind 18) (map controlRec c) (map dataRec d)
     ∙ rw (keep-nothing (isKind 18) (all-rows 18 17 controlNumbers false refl c), keep-all (isKind 18) (all-rows 18 18 dataNumbers true refl d)))
 
-module _ (l : Layout) (placed : List Placed) where
+module _ (l : Layout) (rows : List PlacedRow) where
   abbrev headerNumbers : List ℕ
-  headerNumbers = l .period ∷ length (l .control) ∷ length placed ∷ []
+  headerNumbers = l .period ∷ length (l .control) ∷ length rows ∷ []
 
   -- the records of the table
   abbrev pub tableRecords : List Rec
   tableRecords =
-      record { kind = 16; numbers = headerNumbers } ∷ map controlRec (l .control) ++ (map dataRec (map (dataRow l) placed) ++ [])
+      record { kind = 16; numbers = headerNumbers } ∷ map controlRec (l .control) ++ (map dataRec (map (dataRow l) rows) ++ [])
 
   control-fit : (r : ControlRow) → ControlFits r → Fit (fields 17) (controlNumbers r)
   unfolding fields kinds
@@ -150,23 +149,23 @@ module _ (l : Layout) (placed : List Placed) where
   unfolding fields kinds
   data-fit r h = fit (h .task) (fit (h .deadline) (fit (h .start) (fit (h .stop) fit-none)))
 
-  header-fit : TableFits l placed → Fit (fields 16) headerNumbers
+  header-fit : TableFits l rows → Fit (fields 16) headerNumbers
   unfolding fields kinds
   header-fit h = fit (h .period) (fit (h .controls) (fit (h .datas) fit-none))
 
   stands : {previous kind : ℕ} → known kind ≡ true → tableFollows previous kind ≡ true → MayStand tableFollows previous kind
   stands k f = record { isKnown = k; isNext = f }
 
-  data-written : {previous : ℕ} → MayStand tableFollows previous 18 → MayStand tableFollows previous 0 → TableFits l placed
-      → AreRecords tableFollows previous (joined (map (bytesOf 18 dataNumbers) (map (dataRow l) placed)) ++ (0 ∷ []))
-      (map dataRec (map (dataRow l) placed) ++ [])
+  data-written : {previous : ℕ} → MayStand tableFollows previous 18 → MayStand tableFollows previous 0 → TableFits l rows
+      → AreRecords tableFollows previous (joined (map (bytesOf 18 dataNumbers) (map (dataRow l) rows)) ++ (0 ∷ []))
+      (map dataRec (map (dataRow l) rows) ++ [])
   unfolding known kinds tableFollows
   data-written s e t =
       rows-written tableFollows 18 dataNumbers (omega arith) (stands refl refl) s (all-weaker data-fit (t .rows)) (theEnd e refl)
       (theEnd (stands refl refl) refl)
 
   -- the table's bytes are its records
-  pub table-written : TableFits l placed → AreRecords tableFollows 0 (tableBytes l placed) tableRecords
+  pub table-written : TableFits l rows → AreRecords tableFollows 0 (tableBytes l rows) tableRecords
   unfolding tableBytes headerBytes controlBytes dataBytes known kinds tableFollows
   table-written t =
       written tableFollows (stands refl refl) (omega arith) (header-fit t)
@@ -176,8 +175,8 @@ module _ (l : Layout) (placed : List Placed) where
       (data-written (stands refl refl) (stands refl refl) t)
       (data-written (stands refl refl) (stands refl refl) t))
 
-  pub table-reads : TableFits l placed → records tableFollows 20 (tableBytes l placed) ≡ ok tableRecords
-  table-reads t = records-exact tableFollows 20 (tableBytes l placed) tableRecords .1 (table-written t)
+  pub table-reads : TableFits l rows → records tableFollows 20 (tableBytes l rows) ≡ ok tableRecords
+  table-reads t = records-exact tableFollows 20 (tableBytes l rows) tableRecords .1 (table-written t)
 
   -- the table as it is read back
   abbrev pub tableRead : TableRead
@@ -185,18 +184,18 @@ module _ (l : Layout) (placed : List Placed) where
       record {
         period = l .period;
         controls = length (l .control);
-        datas = length placed;
+        datas = length rows;
         control = l .control;
-        rows = map (dataRow l) placed;
+        rows = map rowOf (map (dataRow l) rows);
       }
 
   control-back : map controlRowOf (things 17 tableRecords) ≡ l .control
   unfolding things isKind
-  control-back = rw (kept-17 (l .control) (map (dataRow l) placed)) (controls-back (l .control))
+  control-back = rw (kept-17 (l .control) (map (dataRow l) rows)) (controls-back (l .control))
 
-  rows-back : map dataRowOf (things 18 tableRecords) ≡ map (dataRow l) placed
+  rows-back : map dataRowOf (things 18 tableRecords) ≡ map (dataRow l) rows
   unfolding things isKind
-  rows-back = rw (kept-18 (l .control) (map (dataRow l) placed)) (datas-back (map (dataRow l) placed))
+  rows-back = rw (kept-18 (l .control) (map (dataRow l) rows)) (datas-back (map (dataRow l) rows))
 
   pub table-read : tableOf tableRecords ≡ tableRead
   unfolding tableOf only things isKind

@@ -3,7 +3,7 @@
 -- contracts are equations with them; the last theorem of all, of the exported functions, is `olbiothar/Shown`.
 use mathlib.Core.Path.{_≡_}
 use mathlib.Core.Bool.{true}
-use mathlib.Core.List.{List}
+use mathlib.Core.List.{List, map}
 use mathlib.Core.Logic.{_↔_}
 use mathlib.Core.Option.{Option}
 use lib.ListN.{length, take}
@@ -12,7 +12,8 @@ use Rattle.laws.specs.Res.{Res, ok, refuse}
 use Rattle.laws.specs.Faults.{AllKept}
 use Rattle.rules.specs.Limits.{mostFrames}
 use Rattle.rules.specs.Plan.{Plan, readPlan}
-use Rattle.rules.specs.Frames.{Layout, busPeriod, switchGrid, busRuns, messages, frames, taskNode, layout, layoutOf}
+use Rattle.rules.specs.Traffic.{taskNode, busPeriod, switchGrid, basic}
+use Rattle.rules.specs.Frames.{pairOf, pairs, Layout, layoutOf, layout}
 use Rattle.rules.specs.LatestRelease.{Placed, latestRelease}
 use Rattle.rules.specs.RuleSteps.{RuleGives}
 use Rattle.rules.specs.Table.{FrameRow, make}
@@ -25,7 +26,7 @@ use Rattle.rules.specs.History.{played, consumes}
 use Rattle.rules.specs.Told.{Tells}
 use Rattle.rules.specs.Allowed.{Allowed}
 use Rattle.rules.proofs.Period.{IsBusPeriod, IsSwitchGrid, period, switch-grid}
-use Rattle.rules.proofs.FramesOf.{IsFramesOf, plan-frames}
+use Rattle.rules.proofs.PairsOf.{IsPairsOf, plan-pairs}
 use Rattle.rules.proofs.PlanExact.{read-exact, layout-exact}
 use Rattle.rules.proofs.RuleSteps as steps
 use Rattle.rules.proofs.CheckerExact.{checker-exact, rule-exact}
@@ -52,10 +53,10 @@ the-bus-period = period
 pub the-grid : (p : Plan) → IsSwitchGrid p (switchGrid p)
 the-grid = switch-grid
 
--- The frames are the distinct pairs of task and deadline among the messages, by deadline and then by task, each with the greatest
--- release of its messages.
-pub the-frames : (p : Plan) → IsFramesOf (messages (busPeriod p) (busRuns p)) (frames p)
-the-frames = plan-frames
+-- The pairs, which the base sends in a frame each, are the distinct pairs of task and deadline among the messages, by deadline and then
+-- by task, each with the greatest release of its messages.
+pub the-pairs : (p : Plan) → IsPairsOf (map pairOf (basic p .messages)) (pairs p)
+the-pairs = plan-pairs
 
 -- The latest-release rule comes to an outcome, the frames placed or a refusal at a frame, exactly when a run of its steps does; each
 -- step is the one that the rule's sentences describe.
@@ -78,8 +79,8 @@ pub it-makes-exactly : (plan : List ℕ) (rows : List FrameRow) (buffer : List �
 it-makes-exactly = make-exact
 
 -- It is refused for want of room exactly when the latest-release rule finds none.
-pub no-room-exactly : (plan : List ℕ) (rows : List FrameRow) (buffer : List ℕ) (frame : ℕ)
-    → (make plan rows buffer .answer ≡ refuse 12 frame) ↔ ((mostFrames ≤ length rows) × RuleRefuses plan frame)
+pub no-room-exactly : (plan : List ℕ) (rows : List FrameRow) (buffer : List ℕ) (pair : ℕ)
+    → (make plan rows buffer .answer ≡ refuse 12 pair) ↔ ((mostFrames ≤ length rows) × RuleRefuses plan pair)
 no-room-exactly = twelve-exact
 
 -- All that is made passes the checker.

@@ -17,22 +17,25 @@ use Rattle.laws.proofs.Loops.{firstBad-upTo-passes}
 use Rattle.laws.proofs.Members.{all-member, all-getD, any-member, any-among}
 use Rattle.laws.proofs.Res.{ok-injective, bind-case, then-case, at-ok}
 use Rattle.rules.specs.Plan.{Plan, Invocation, Connection, readPlan, noTask, theTask}
-use Rattle.rules.specs.Frames.{taskNode, invokes, leaves, isBusTask, Layout, layoutOf}
+use Rattle.rules.specs.Traffic.{taskNode, invokes, leaves, isBusTask, basic, has}
+use Rattle.rules.specs.Frames.{Layout, layoutOf}
 use Rattle.rules.specs.Checker.{TableRead, Passed, checkFiles, tableOf}
 use Rattle.rules.specs.Playing.{modulePlaces, Input, isRun, periodAmong, periodIn}
-use Rattle.rules.specs.Station.{Kept, State, Begun, keptOf, stateAtStart, homeNode, runPeriod, endsNow, isModeOf, holdsModeOf, startsWell, step, tick, begin}
-use Rattle.rules.specs.OneBoard.{value}
+use Rattle.rules.specs.Station.{Kept, State, Begun, keptOf, stateAtStart, homeNode, runPeriod, endsNow, isModeOf}
+use Rattle.rules.specs.Station.{holdsModeOf, startsWell, step, tick, begin}
+use Rattle.rules.specs.OneBoard.{modeNow, value}
 use Rattle.rules.specs.Obeys.{MayTick, ObeysTable, MayPass}
 use Rattle.rules.specs.History.{played, homeIn, firstIn, boardValue, brings, consumes}
+use Rattle.rules.specs.Heard.{busTime, isHeard, heard, heardValue}
 use Rattle.rules.proofs.CheckerExact.{passed-says, passed-passes}
 use Rattle.rules.proofs.PlanKept.{PlanKept, readable-kept}
 use Rattle.rules.proofs.LaidOut.{LaidOut, laid-out}
 use Rattle.rules.proofs.StationExact.{step-accepted}
 use Rattle.rules.proofs.TransparentTick.{ending-tests, shown-still, value-still}
-use Rattle.rules.proofs.TransparentModes.{ModeOf, FairModule, Timed, timed-tick, timed-start}
+use Rattle.rules.proofs.TransparentModes.{ModeOf, FairModule, Timed, timed-tick, timed-start, Beats, beats-tick, beats-start}
 use Rattle.rules.proofs.TransparentOwn.{FairTask, board, Own, ends-same, own-on, own-start}
-use Rattle.rules.proofs.TransparentBus.{FairBus, Sent, sent-on, sent-start}
-use Rattle.rules.proofs.TransparentPlan.{keptFor, fair-module, fair-task, fair-bus}
+use Rattle.rules.proofs.TransparentBus.{FairBus, EveryRunIsSent, sentIn, heardIn, Carried, carried-on, carried-start, Landed, landed-on, landed-start, heard-on}
+use Rattle.rules.proofs.TransparentPlan.{keptFor, fair-module, fair-task, fair-bus, sent-is, every-run}
 
 -- ---- what a beginning tells
 
@@ -49,11 +52,10 @@ pub record Beginning (plan table : List ℕ) (starting : ℕ → Option ℕ) (b 
 
 -- the checker's answer, with the plan's layout in its place
 passed-is : (plan table : List ℕ) (c : Passed) → checkFiles plan table ≡ ok c → (h : MayPass plan table)
-    → c ≡ record { layout = layoutOf (h .read); table = tableOf (h .rows) }
+    → c ≡ record { plan = h .read; traffic = basic (h .read); layout = layoutOf (h .read); table = tableOf (h .rows) }
 passed-is plan table c e h =
-    let same : record { layout = h .laid; table = tableOf (h .rows) } ≡ c = ok-injective (sym (passed-passes plan table h) ∙ e) in
-    sym same
-    ∙ ap (λ (l : Layout). record { layout = l; table = tableOf (h .rows) }) (sym (laid-out (h .read) (h .laid) (h .isLaid) .is))
+    let with : Layout → Passed = λ l. record { plan = h .read; traffic = basic (h .read); layout = l; table = tableOf (h .rows) } in
+    sym (ok-injective (sym (passed-passes plan table h) ∙ e)) ∙ ap with (sym (laid-out (h .read) (h .laid) (h .isLaid) .is))
 
 pub begun : (plan table : List ℕ) (starting : ℕ → Option ℕ) (b : Begun) → begin plan table starting ≡ ok b → Beginning plan table starting b
 unfolding begin
@@ -121,22 +123,58 @@ module _ (k : Kept) (starting : ℕ → Option ℕ) where
         along (Own k (firstIn starting) t) (own-start k starting t first)
         (λ s i past may h. own-on k (firstIn starting) t fair s i past may h)
 
+    -- a bus task, its module's bus time, and what the bus carries of it
+    pub record Sending (bus : FairBus k t) (s : State) (past : List Input) : Type 0 where
+      pub own : Own k (firstIn starting) t s past
+      pub beats : Beats k (k .taskHome t) s past
+      pub carried : Carried k t (bus .control) s
+
+    sending-start : (bus : FairBus k t) → Sending bus (stateAtStart starting) []
+    sending-start bus =
+        record {
+          own = own-start k starting t first;
+          beats = beats-start k starting (k .taskHome t);
+          carried = carried-start k starting t (bus .control);
+        }
+
+    sending-on : (bus : FairBus k t) (s : State) (i : Input) (past : List Input) → MayTick k s i → Sending bus s past
+        → Sending bus (tick k s i) (i ∷ past)
+    sending-on bus s i past may h =
+        record {
+          own = own-on k (firstIn starting) t fair s i past may (h .own);
+          beats =
+              beats-tick k (firstIn starting) (k .taskHome t) (fair .home) (bus .cycles) s i past may (h .own .timed) (h .beats);
+          carried = carried-on k (firstIn starting) t fair bus s i past may (h .own) (h .beats) (h .carried);
+        }
+
+    -- another node shows what it hears of
+    pub landed-along : (bus : FairBus k t) (n : ℕ) → (homeNode k t ≡ n → ⊥) → (history : List Input) (s : State)
+        → played k (stateAtStart starting) history ≡ ok s → s .shown n t ≡ heardIn k (firstIn starting) t history
+    landed-along bus n away history s e =
+        along (λ s past. Sending bus s past × Landed k (firstIn starting) t n (bus .control) s past)
+        (sending-start bus, landed-start k starting t n (bus .control))
+        (λ s i past may h. (
+          sending-on bus s i past may (h .0),
+          landed-on k (firstIn starting) t fair bus s i past may (h .0 .own) (h .0 .beats) (h .0 .carried) n away (h .1),
+        ))
+        history s e
+        .1 .shows
+
+    -- which is the one board's value, where every run has its message
+    pub heard-along : (bus : FairBus k t) → EveryRunIsSent k t → (history : List Input) (s : State)
+        → played k (stateAtStart starting) history ≡ ok s → heardIn k (firstIn starting) t history ≡ board k (firstIn starting) t history
+    unfolding heard value
+    heard-along bus every history s e =
+        along (λ s past. Sending bus s past × (heardIn k (firstIn starting) t past ≡ board k (firstIn starting) t past))
+        (sending-start bus, refl)
+        (λ s i past may h. (
+          sending-on bus s i past may (h .0),
+          heard-on k (firstIn starting) t fair bus every s i past (h .0 .own) (h .0 .beats) (h .1),
+        ))
+        history s e
+        .1
+
     module _ (n : ℕ) where
-      pub record Both (bus : FairBus k t) (s : State) (past : List Input) : Type 0 where
-        pub own : Own k (firstIn starting) t s past
-        pub sent : Sent k (firstIn starting) t n (bus .control) s past
-
-      pub sent-along : (bus : FairBus k t) → (homeNode k t ≡ n → ⊥) → (history : List Input) (s : State)
-          → played k (stateAtStart starting) history ≡ ok s → s .shown n t ≡ board k (firstIn starting) t history
-      sent-along bus away history s e =
-          along (Both bus) (record { own = own-start k starting t first; sent = sent-start k starting t n (bus .control) })
-          (λ s i past may h. record {
-            own = own-on k (firstIn starting) t fair s i past may (h .own);
-            sent = sent-on k (firstIn starting) t n fair bus away s i past may (h .own) (h .sent);
-          })
-          history s e
-          .sent .shows
-
       -- a task that no mode invokes is shown as zero, and the board has zero
       pub record Idle (s : State) (past : List Input) : Type 0 where
         pub own : Own k (firstIn starting) t s past
@@ -165,6 +203,16 @@ module _ (k : Kept) (starting : ℕ → Option ℕ) where
       unfolding stateAtStart value
       idle-along none-runs history s e =
           along Idle (record { own = own-start k starting t first; shows = refl }) (idle-on none-runs) history s e .shows
+
+-- ---- what is heard of hangs on the messages alone
+
+heard-same : (home : ℕ → ℕ) (run : ℕ → ℕ → ℕ) (first : ℕ → ℕ) (period : ℕ) (sent sent′ : ℕ → ℕ → ℕ → Bool) (t : ℕ)
+    → ((μ d : ℕ) → sent μ t d ≡ sent′ μ t d) → (history : List Input)
+    → heard home run first period sent t history ≡ heard home run first period sent′ t history
+unfolding heard isHeard
+heard-same home run first period sent sent′ t same [] = refl
+heard-same home run first period sent sent′ t same (i ∷ past) =
+    rw (same (modeNow home run first (home t) past) (busTime period past), heard-same home run first period sent sent′ t same past)
 
 -- ---- who consumes
 
@@ -260,12 +308,30 @@ module _ (plan table : List ℕ) (starting : ℕ → Option ℕ) (b : Begun) (be
     unfolding keptOf layoutOf homeNode taskNode boardValue homeIn
     shows-own = own-along (keptFor (facts .read) (facts .rows)) starting t fair first history s plays-on .shows
 
-    shows-bus : isBusTask (facts .read) t ≡ true → (n : ℕ) → (taskNode (facts .read) t ≡ n → ⊥)
-        → s .shown n t ≡ boardValue (facts .read) starting t history
-    unfolding keptOf layoutOf homeNode taskNode boardValue homeIn
-    shows-bus bus n away =
-        sent-along (keptFor (facts .read) (facts .rows)) starting t fair first n
-        (fair-bus (facts .read) (facts .kept) (facts .isLaid) (facts .rows) (facts .obeys) t w bus) away history s plays-on
+    module _ (bus : isBusTask (facts .read) t ≡ true) where
+      on-bus : FairBus (keptFor (facts .read) (facts .rows)) t
+      on-bus = fair-bus (facts .read) (facts .kept) (facts .isLaid) (facts .rows) (facts .obeys) t w bus
+
+      heard-is : heardIn (keptFor (facts .read) (facts .rows)) (firstIn starting) t history
+          ≡ heardValue (facts .read) (basic (facts .read)) starting t history
+      unfolding keptOf layoutOf heardValue homeIn
+      heard-is =
+          heard-same (homeIn (facts .read)) (periodIn (facts .read)) (firstIn starting) (basic (facts .read) .period)
+          (sentIn (keptFor (facts .read) (facts .rows))) (has (basic (facts .read) .messages)) t
+          (λ μ d. sent-is (facts .read) (facts .kept) (facts .rows) t μ d)
+          history
+
+      shows-heard : (n : ℕ) → (taskNode (facts .read) t ≡ n → ⊥) → s .shown n t ≡ heardValue (facts .read) (basic (facts .read)) starting t history
+      unfolding keptOf homeNode taskNode
+      shows-heard n away =
+          landed-along (keptFor (facts .read) (facts .rows)) starting t fair first on-bus n away history s plays-on ∙ heard-is
+
+      hears-board : heardValue (facts .read) (basic (facts .read)) starting t history ≡ boardValue (facts .read) starting t history
+      unfolding keptOf boardValue homeIn
+      hears-board =
+          sym heard-is
+          ∙ heard-along (keptFor (facts .read) (facts .rows)) starting t fair first on-bus
+          (every-run (facts .read) (facts .kept) (facts .rows) t bus) history s plays-on
 
     shows-idle : any (invokes t) (facts .read .invocations) ≡ false → (n : ℕ) → s .shown n t ≡ boardValue (facts .read) starting t history
     unfolding keptOf layoutOf boardValue homeIn periodIn
@@ -278,18 +344,28 @@ module _ (plan table : List ℕ) (starting : ℕ → Option ℕ) (b : Begun) (be
   transparent-own t =
       subst (λ (p : Plan). t < length (p .tasks) → s .shown (taskNode p t) t ≡ boardValue p starting t history) same-plan (shows-own t)
 
+  -- a bus task, on every other node: the result of the last ended run whose message is sent
+  pub transparent-heard : (n t : ℕ) → t < length (p .tasks) → isBusTask p t ≡ true → (taskNode p t ≡ n → ⊥)
+      → s .shown n t ≡ heardValue p (basic p) starting t history
+  transparent-heard n t =
+      subst (λ (p : Plan). t < length (p .tasks) → isBusTask p t ≡ true → (taskNode p t ≡ n → ⊥) → s .shown n t ≡ heardValue p (basic p) starting t history)
+      same-plan (λ w bus. shows-heard t w bus n)
+
+  -- every run of a bus task has its message, so this is the one board's value
+  pub heard-board : (t : ℕ) → t < length (p .tasks) → isBusTask p t ≡ true
+      → heardValue p (basic p) starting t history ≡ boardValue p starting t history
+  heard-board t =
+      subst (λ (p : Plan). t < length (p .tasks) → isBusTask p t ≡ true → heardValue p (basic p) starting t history ≡ boardValue p starting t history)
+      same-plan (hears-board t)
+
   -- a bus task, on every node
   pub transparent-bus : (n t : ℕ) → t < length (p .tasks) → isBusTask p t ≡ true → s .shown n t ≡ boardValue p starting t history
-  transparent-bus n t =
-      subst (λ (p : Plan). t < length (p .tasks) → isBusTask p t ≡ true → s .shown n t ≡ boardValue p starting t history) same-plan
-      (λ w bus. where-it-is w bus (tested (eqb (taskNode (facts .read) t) n)))
+  transparent-bus n t w bus = where-it-is (tested (eqb (taskNode p t) n))
     where
-      where-it-is : t < length (facts .read .tasks) → isBusTask (facts .read) t ≡ true
-          → (eqb (taskNode (facts .read) t) n ≡ true) ⊎ (eqb (taskNode (facts .read) t) n ≡ false)
-          → s .shown n t ≡ boardValue (facts .read) starting t history
-      where-it-is w bus (inl e) =
-          subst (λ (n : ℕ). s .shown n t ≡ boardValue (facts .read) starting t history) (eqb-true (taskNode (facts .read) t) n e) (shows-own t w)
-      where-it-is w bus (inr e) = shows-bus t w bus n (eqb-false (taskNode (facts .read) t) n e)
+      where-it-is : (eqb (taskNode p t) n ≡ true) ⊎ (eqb (taskNode p t) n ≡ false) → s .shown n t ≡ boardValue p starting t history
+      where-it-is (inl e) =
+          subst (λ (n : ℕ). s .shown n t ≡ boardValue p starting t history) (eqb-true (taskNode p t) n e) (transparent-own t w)
+      where-it-is (inr e) = transparent-heard n t w bus (eqb-false (taskNode p t) n e) ∙ heard-board t w bus
 
   -- on every node that consumes a task of another node
   pub transparent : (n t : ℕ) → consumes p n t ≡ true → s .shown n t ≡ boardValue p starting t history
@@ -301,6 +377,7 @@ module _ (plan table : List ℕ) (starting : ℕ → Option ℕ) (b : Begun) (be
           → (any (invokes t) (facts .read .invocations) ≡ true) ⊎ (any (invokes t) (facts .read .invocations) ≡ false)
           → s .shown n t ≡ boardValue (facts .read) starting t history
       invoked-or-not c (inl e) =
-          shows-bus t (consumed-there (facts .read) n t c (facts .kept)) (is-bus (facts .read) t e (consumed-leaves (facts .read) n t c)) n
-          (consumed-away (facts .read) n t c)
+          let there = consumed-there (facts .read) n t c (facts .kept) in
+          let bus = is-bus (facts .read) t e (consumed-leaves (facts .read) n t c) in
+          shows-heard t there bus n (consumed-away (facts .read) n t c) ∙ hears-board t there bus
       invoked-or-not c (inr e) = shows-idle t (consumed-there (facts .read) n t c (facts .kept)) e n

@@ -1,19 +1,22 @@
 -- Demand 3, the modes: for one module, with tasks or without, the mode is the one board's, and the age is the board's but for whole
--- periods of the mode.
-use mathlib.Core.Path.{_≡_, refl, sym, _∙_}
+-- periods of the mode. If it is sending, its modes begin only where a bus cycle does, and age and bus time differ by whole cycles.
+use mathlib.Core.Path.{_≡_, refl, sym, ap, _∙_}
 use mathlib.Core.List.{List, [], _∷_}
 use mathlib.Core.Logic.{_⊎_, inl, inr}
 use mathlib.Core.Option.{Option, none, some}
-use native.Mathlib.Nat.{dvd-refl, dvd-zero, dvd-add, eq-or-lt-of-le}
+use native.Mathlib.Nat.{dvd-refl, dvd-zero, dvd-add, dvd-trans, le-of-dvd, eq-or-lt-of-le, eq-zero-or-pos, mod-self, zero-mod}
 use native.Mathlib.Omega.{arith}
-use Prim.Native.Nat.{ℕ, _+_, _-_, _≤_, _<_, _∣_, zero-le}
+use Prim.Native.Nat.{ℕ, _+_, _-_, _%_, _≤_, _<_, _∣_, zero-le}
+use Rattle.laws.proofs.Runs.{same-multiple, multiple-same}
 use Rattle.rules.specs.Playing.{modulePlaces, Input}
 use Rattle.rules.specs.History.{firstIn}
+use Rattle.rules.specs.Heard.{busTime}
 use Rattle.rules.specs.Station.{Kept, State, stateAtStart, tick}
 use Rattle.rules.specs.OneBoard.{modeNow, sinceMode}
 use Rattle.rules.specs.Obeys.{MayTick}
 use Rattle.rules.proofs.StationExact.{given-case}
-use Rattle.rules.proofs.TransparentTick.{mode-kept, mode-new, age-new, age-on, age-turns, modeNow-kept, modeNow-new, since-on, since-new}
+use Rattle.rules.proofs.TransparentTick.{clock-on, clock-turns, clock-time, mode-kept, mode-new, age-new, age-on}
+use Rattle.rules.proofs.TransparentTick.{age-turns, modeNow-kept, modeNow-new, since-on, since-new}
 
 -- a mode of the module
 pub record ModeOf (k : Kept) (m μ : ℕ) : Type 0 where
@@ -116,3 +119,99 @@ timed-start k starting m known =
       unborn = λ z. refl;
       young = zero-le;
     }
+
+-- ---- bus time
+
+-- what a passed table keeps for a sending module: P divides what its modes are timed by
+pub record FairCycle (k : Kept) (m : ℕ) : Type 0 where
+  pub cycle : 0 < k .period
+  pub switches : (μ : ℕ) → ModeOf k m μ → k .period ∣ k .modeSwitch μ
+  pub modes : (μ : ℕ) → ModeOf k m μ → k .period ∣ k .modePeriod μ
+
+-- the invariant
+pub record Beats (k : Kept) (m : ℕ) (s : State) (past : List Input) : Type 0 where
+  pub time : s .clock ≡ busTime (k .period) past
+  pub inCycle : s .clock ≤ k .period
+  pub beat : s .clock ≤ s .age m
+  pub aligned : k .period ∣ s .age m - s .clock
+  pub unbegun : s .clock ≡ 0 → s .age m ≡ 0
+
+module _ (k : Kept) (first : ℕ → ℕ) (m : ℕ) where
+  module _ (fair : FairModule k m) (bus : FairCycle k m) (s : State) (i : Input) (past : List Input) (may : MayTick k s i)
+      (timed : Timed k first m s past) (h : Beats k m s past) where
+    -- the two ways on: within a cycle, or where one begins
+    pub cycle-case : {C : Type 0} → (0 < s .clock → s .clock < k .period → C)
+        → (s .clock % k .period ≡ 0 → tick k s i .clock ≡ 1 → k .period ∣ s .age m → C) → C
+    cycle-case {C} within anew = which (eq-zero-or-pos (s .clock)) (eq-or-lt-of-le (h .inCycle))
+      where
+        which : (s .clock ≡ 0) ⊎ (0 < s .clock) → (s .clock ≡ k .period) ⊎ (s .clock < k .period) → C
+        which (inl z) _ =
+            anew (rw z (zero-mod (k .period))) (clock-on k s i (rw z (bus .cycle)) ∙ ap (λ (x : ℕ). x + 1) z)
+            (rw (h .unbegun z) (dvd-zero (k .period)))
+        which (inr p) (inl e) =
+            anew (rw e (mod-self (k .period))) (clock-turns k s i (omega arith))
+            (multiple-same (k .period) (s .age m) (s .clock) (h .beat) (h .aligned) (rw e (dvd-refl (k .period))))
+        which (inr p) (inr l) = within p l
+
+    module _ (low : 0 < s .clock) (high : s .clock < k .period) where
+      not-whole : k .period ∣ s .age m → ⊥
+      not-whole d =
+          absurd (omega (arith, le-of-dvd low (same-multiple (k .period) (s .age m) (s .clock) (h .beat) (h .aligned) d)))
+
+      pub still : i .change m ≡ none
+      still =
+          given-case (i .change m) (λ e. e)
+          (λ μ e. absurd (not-whole
+          (dvd-trans (k .period) (bus .switches (s .mode m) (timed .known)) (may .allowed m μ (fair .place) e .instant))))
+
+      age-within : tick k s i .age m ≡ s .age m + 1
+      age-within = which (eq-or-lt-of-le (timed .young))
+        where
+          which : (s .age m ≡ k .modePeriod (s .mode m)) ⊎ (s .age m < k .modePeriod (s .mode m)) → tick k s i .age m ≡ s .age m + 1
+          which (inl e) = absurd (not-whole (rw e (bus .modes (s .mode m) (timed .known))))
+          which (inr l) = age-on k s i m still l
+
+      beats-within : Beats k m (tick k s i) (i ∷ past)
+      beats-within =
+          let c : tick k s i .clock ≡ s .clock + 1 = clock-on k s i high in
+          let d : s .age m + 1 - (s .clock + 1) ≡ s .age m - s .clock = omega arith in
+          record {
+            time = clock-time k s i past (h .time);
+            inCycle = omega arith;
+            beat = omega (arith, age-within, h .beat);
+            aligned = rw (age-within, c, d) (h .aligned);
+            unbegun = λ z. absurd (omega arith);
+          }
+
+    module _ (one : tick k s i .clock ≡ 1) (whole : k .period ∣ s .age m) where
+      born : 0 < tick k s i .age m
+      born =
+          on-case k first m fair s i past may timed
+          (λ μ e known. omega (arith, age-new k s i m e))
+          (λ e l. omega (arith, age-on k s i m e l))
+          (λ e q. omega (arith, age-turns k s i m e (omega arith)))
+
+      aligned-anew : k .period ∣ tick k s i .age m - tick k s i .clock
+      aligned-anew =
+          on-case k first m fair s i past may timed
+          (λ μ e known. rw (age-new k s i m e, one) (dvd-zero (k .period)))
+          (λ e l. let d : s .age m + 1 - 1 ≡ s .age m = omega arith in rw (age-on k s i m e l, one, d) whole)
+          (λ e q. rw (age-turns k s i m e (omega arith), one) (dvd-zero (k .period)))
+
+      beats-anew : Beats k m (tick k s i) (i ∷ past)
+      beats-anew =
+          record {
+            time = clock-time k s i past (h .time);
+            inCycle = omega (arith, one, bus .cycle);
+            beat = omega (arith, one, born);
+            aligned = aligned-anew;
+            unbegun = λ z. absurd (omega (arith, one));
+          }
+
+    pub beats-tick : Beats k m (tick k s i) (i ∷ past)
+    beats-tick = cycle-case beats-within (λ turn one whole. beats-anew one whole)
+
+pub beats-start : (k : Kept) (starting : ℕ → Option ℕ) (m : ℕ) → Beats k m (stateAtStart starting) []
+unfolding stateAtStart busTime
+beats-start k starting m =
+    record { time = refl; inCycle = zero-le; beat = zero-le; aligned = dvd-zero (k .period); unbegun = λ z. refl }

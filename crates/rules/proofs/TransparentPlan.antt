@@ -1,105 +1,47 @@
 -- Demand 3, the plan's part: what a plan and a passed table keep of each task is what the station's proof asks.
 use mathlib.Core.Path.{_≡_, refl, sym, ap, _∙_, subst}
-use mathlib.Core.Bool.{Bool, true, false, cond}
-use mathlib.Core.List.{List, [], _∷_, map, List·Memᴰ, List·Memᴰ·head, List·Memᴰ·tail}
-use mathlib.Core.Logic.{_⊎_, inl, inr}
-use native.Mathlib.Nat.{not-suc-le-zero, le-of-suc-le-suc, dvd-trans, div-mul-cancel, le-div-iff-mul-le, eq-or-lt-of-le, suc-mul, zero-mul, zero-lt-suc, le-max-left}
+use mathlib.Core.Bool.{true}
+use mathlib.Core.List.{List, [], _∷_, List·Memᴰ, List·Memᴰ·head, List·Memᴰ·tail}
+use native.Mathlib.Nat.{dvd-trans, zero-mul, zero-lt-suc, le-max-left}
 use native.Mathlib.Omega.{arith}
-use borrow.Author.Tests.{ltb-true, ltb-false, eqb-true, eq-eqb, lt-ltb}
-use lib.Dec.{eqb, ltb}
-use lib.ListN.{length, length-map}
+use borrow.Author.Tests.{ltb-true, eq-eqb, lt-ltb}
+use lib.ListN.{length}
 use lib.Seq.{ext-getD}
-use Prim.Native.Nat.{ℕ, zero, suc, _+_, _*_, _-_, _/_, max, _≤_, _<_, _∣_, zero-le, suc-le-suc}
+use Prim.Native.Nat.{ℕ, zero, suc, _+_, _*_, max, _≤_, _<_, _∣_, zero-le, suc-le-suc}
 use Rattle.laws.specs.Lists.{upTo}
 use Rattle.laws.specs.Numbers.{ceil}
-use Rattle.laws.proofs.Lists.{both, both-left, both-right, tested, length-upTo}
+use Rattle.laws.proofs.Lists.{both, true-false}
 use Rattle.laws.proofs.Divisors.{ceil-enough, up-enough}
-use Rattle.laws.proofs.Members.{All, empty, also, all-weaker, all-member, all-getD, all-of-places, Pairs, alone, before, pairs-getD, member-getD, member-map, member-tab, keep-member, keep-passes, source, pigeonhole, Differ, pairs-map, all-map, all-upTo}
-use Rattle.laws.proofs.Places.{member-place, member-some, member-joined, pairs-tab}
+use Rattle.laws.proofs.Members.{All, empty, also, all-weaker, all-member, all-getD, all-of-places, Pairs, alone, before as then}
+use Rattle.laws.proofs.Members.{pairs-getD, member-getD, member-tab, keep-member, keep-passes}
+use Rattle.laws.proofs.Orders.{compare-case}
+use Rattle.laws.proofs.Places.{member-place, member-some}
+use Rattle.laws.proofs.Tests.{by-same, by-itself}
 use Rattle.rules.specs.Plan.{Bus, Invocation, Plan, noMode, noTask, noInvocation, theMode, theTask, theInvocation, periodOf}
-use Rattle.rules.specs.Frames.{
-  moduleNode,
-  isBusTask,
-  isSending,
-  standsOn,
-  sendersOn,
-  controlPayload,
-  isSendingNode,
-  sendingNodes,
-  Run,
-  runOf,
-  ofBusTask,
-  busRuns,
-  busPeriod,
-  ofSender,
-  Frame,
-  message,
-  messagesOf,
-  messages,
-  frames,
-  payload,
-  ticksOfBits,
-  sendingTime,
-  gapTime,
-  ControlRow,
-  noControlRow,
-  controlFrom,
-  controlRows,
-  controlEnd,
-  Layout,
-  layoutOf,
-}
-use Rattle.rules.specs.LatestRelease.{noFrame, frameTime}
-use Rattle.rules.specs.Checker.{TableRead, controlAt, rowAt}
-use Rattle.rules.specs.Playing.{isRun, periodAmong, periodIn}
-use Rattle.rules.specs.Station.{Kept, keptOf, homeNode}
-use Rattle.rules.specs.Obeys.{frameAt, NamesFrame, ObeysTable}
+use Rattle.rules.specs.Traffic.{moduleNode, isBusTask, isSending, standsOn, sendersOn, controlPayload, isSendingNode}
+use Rattle.rules.specs.Traffic.{sendingNodes, ofBusTask, busPeriod, ofSender, basic, has}
+use Rattle.rules.specs.Frames.{Pair, pairs, hasOf, ticksOfBits, sendingTime, gapTime, ControlRow, noControlRow}
+use Rattle.rules.specs.Frames.{controlFrom, controlRows, controlEnd, isOne, Layout, layoutOf}
+use Rattle.rules.specs.LatestRelease.{noPair, timeAlone}
+use Rattle.rules.specs.Checker.{Named, TableRead, controlAt, rowAt}
+use Rattle.rules.specs.Playing.{periodAmong, periodIn}
+use Rattle.rules.specs.Station.{Kept, keptOf, passedPair, passedRow, homeNode, hasMessage}
+use Rattle.rules.specs.Obeys.{pairAt, NamesAll, noName, oneName, ObeysTable}
 use Rattle.rules.proofs.Period.{period, switch-grid}
-use Rattle.rules.proofs.FramesOf.{release-greatest, plan-frames}
 use Rattle.rules.proofs.PlanKept.{PlanKept, BusKept, ModeKept, TaskKept}
-use Rattle.rules.proofs.LaidOut.{LaidOut, sender, period-kept, FrameKept, frames-kept, control-kept}
-use Rattle.rules.proofs.TransparentModes.{FairModule}
+use Rattle.rules.proofs.LaidOut.{LaidOut, sender, period-kept, pairs-kept, control-kept}
+use Rattle.rules.proofs.Sent.{RunAmong, run-in, has-means, sent-pair, pair-release}
+use Rattle.rules.proofs.Payload.{time-alone}
+use Rattle.rules.proofs.PairRows.{rows-apart, row-behind, RidesIn, rides, pair-row}
+use Rattle.rules.proofs.TransparentTick.{Messages, message-tests}
+use Rattle.rules.proofs.TransparentModes.{FairModule, FairCycle}
 use Rattle.rules.proofs.TransparentOwn.{FairTask}
-use Rattle.rules.proofs.TransparentBus.{RowOf, FairBus}
-
--- ---- the invocation behind a run
-
-pub record RunAmong (p : Plan) (is : List Invocation) (μ t : ℕ) : Type 0 where
-  pub one : Invocation
-  pub among : List·Memᴰ one is
-  pub mode : one .mode ≡ μ
-  pub task : one .task ≡ t
-  pub period : periodOf p one ≡ periodAmong p is μ t
-
-module _ (p : Plan) (μ t : ℕ) where
-  run-here : (b : Bool) (i : Invocation) (is : List Invocation) → isRun μ t i ≡ b → (0 < periodAmong p is μ t → RunAmong p is μ t)
-      → 0 < cond b (periodOf p i) (periodAmong p is μ t) → RunAmong p (i ∷ is) μ t
-  unfolding isRun periodAmong
-  run-here true i is e rest h =
-      record {
-        one = i;
-        among = List·Memᴰ·head refl;
-        mode = eqb-true (i .mode) μ (both-left (eqb (i .mode) μ) (eqb (i .task) t) e);
-        task = eqb-true (i .task) t (both-right (eqb (i .mode) μ) (eqb (i .task) t) e);
-        period = rw e;
-      }
-  run-here false i is e rest h =
-      let r = rest h in
-      record { one = r .one; among = List·Memᴰ·tail (r .among); mode = r .mode; task = r .task; period = rw e (r .period) }
-
-  run-among : (is : List Invocation) → 0 < periodAmong p is μ t → RunAmong p is μ t
-  unfolding periodAmong
-  run-among [] h = absurd (not-suc-le-zero h)
-  run-among (i ∷ is) h = run-here (isRun μ t i) i is refl (run-among is) h
-
-  pub run-in : 0 < periodIn p μ t → RunAmong p (p .invocations) μ t
-  unfolding periodIn
-  run-in h = run-among (p .invocations) h
+use Rattle.rules.proofs.TransparentBus.{NoOverlap, oneRow, before, behind, RunOfPair, FairBus, EveryRunIsSent}
 
 -- ---- what a plan keeps of each task
 
 abbrev pub keptFor : Plan → TableRead → Kept
-keptFor p tr = keptOf (record { layout = layoutOf p; table = tr })
+keptFor p tr = keptOf (record { plan = p; traffic = basic p; layout = layoutOf p; table = tr })
 
 module _ (p : Plan) (kept : PlanKept p) (tr : TableRead) where
   mode-of : (μ : ℕ) → μ < length (p .modes) → ModeKept p (theMode p μ)
@@ -184,7 +126,7 @@ module _ (p : Plan) where
   control-apart start [] = alone
   control-apart start (n ∷ ns) =
       let stop = start + sendingTime (p .bus) (controlPayload p n) in
-      before (control-later stop (stop + gapTime (p .bus)) ns (omega arith)) (control-apart (stop + gapTime (p .bus)) ns)
+      then (control-later stop (stop + gapTime (p .bus)) ns (omega arith)) (control-apart (stop + gapTime (p .bus)) ns)
 
   control-lasts : BusKept (p .bus) → (start : ℕ) {ns : List ℕ} → All (λ n. 0 < controlPayload p n) ns → All Lasts (controlFrom p start ns)
   unfolding controlFrom
@@ -222,151 +164,27 @@ module _ (p : Plan) (kept : PlanKept p) (tr : TableRead) (obeys : ObeysTable (la
   unfolding layoutOf controlAt
   control-same = ext-getD noControlRow (tr .control) (controlRows p) (obeys .header .controlRows) (obeys .control)
 
-  -- the first data row starts behind the control rows
-  behind-control : 0 < length (tr .rows) → controlEnd p ≤ rowAt tr 0 .start
-  unfolding controlEnd layoutOf
-  behind-control w = rw (← control-same) (obeys .spaced 0 w)
+  -- a row of one pair takes the sending time of a message
+  pair-takes : (f : ℕ) → f < length (layoutOf p .pairs) → 0 < timeAlone (layoutOf p) (pairAt (layoutOf p) f)
+  unfolding pairAt layoutOf pairs
+  pair-takes f w =
+      let among = member-getD (pairs p) noPair f w in
+      let there = all-member (pairs-kept p kept) among .task in
+      rw (time-alone p kept (pairAt (layoutOf p) f) among)
+      (sending-pos (p .bus) (kept .bus) (theTask p (pairAt (layoutOf p) f .task) .size)
+      (task-of p kept tr (pairAt (layoutOf p) f .task) there .size .least))
 
-  frame-in : (r : ℕ) → (w : r < length (tr .rows)) → List·Memᴰ (frameAt (layoutOf p) (obeys .names r w .frame)) (frames p)
-  unfolding layoutOf frameAt
-  frame-in r w = member-getD (frames p) noFrame (obeys .names r w .frame) (obeys .names r w .names .there)
-
-  frame-kept : (r : ℕ) → (w : r < length (tr .rows)) → FrameKept p (frameAt (layoutOf p) (obeys .names r w .frame))
-  frame-kept r w = all-member (frames-kept p kept) (frame-in r w)
-
-  frame-takes : (f : Frame) → f .task < length (p .tasks) → 0 < frameTime (layoutOf p) f
-  unfolding frameTime payload layoutOf
-  frame-takes f w = sending-pos (p .bus) (kept .bus) (theTask p (f .task) .size) (task-of p kept tr (f .task) w .size .least)
+  row-takes : {ns : List Named} {fs : List Pair} → NamesAll (layoutOf p) ns fs → isOne fs ≡ true → 0 < layoutOf p .time fs
+  unfolding timeAlone
+  row-takes noName e = true-false (sym e)
+  row-takes (oneName {f} h noName) e = pair-takes f (h .there)
+  row-takes (oneName h (oneName h₁ rest)) e = true-false (sym e)
 
   pub row-lasts : (r : ℕ) → r < length (tr .rows) → rowAt tr r .start < rowAt tr r .stop
-  row-lasts r w =
-      let f = frameAt (layoutOf p) (obeys .names r w .frame) in
-      omega (arith, obeys .time r w .stop (obeys .names r w .frame) (obeys .names r w .names), frame-takes f (frame-kept r w .task))
-
-  pub rows-apart : (j r : ℕ) → j < r → r < length (tr .rows) → rowAt tr j .stop ≤ rowAt tr r .start
-  rows-apart j zero l w = absurd (not-suc-le-zero l)
-  rows-apart j (suc r) l w =
-      let next : rowAt tr r .stop ≤ rowAt tr (suc r) .start = omega (arith, obeys .spaced (suc r) w) in
-      which next (rows-apart j r) (eq-or-lt-of-le (le-of-suc-le-suc l))
-    where
-      which : rowAt tr r .stop ≤ rowAt tr (suc r) .start → (j < r → r < length (tr .rows) → rowAt tr j .stop ≤ rowAt tr r .start)
-          → (j ≡ r) ⊎ (j < r) → rowAt tr j .stop ≤ rowAt tr (suc r) .start
-      which next rest (inl e) = rw e next
-      which next rest (inr h) =
-          let here : r < length (tr .rows) = omega arith in
-          omega (arith, rest h here, row-lasts r here)
-
-  pub row-behind : (r : ℕ) → r < length (tr .rows) → controlEnd p ≤ rowAt tr r .start
-  row-behind zero w = behind-control w
-  row-behind (suc r) w =
-      let first : 0 < length (tr .rows) = omega arith in
-      omega (arith, behind-control first, row-lasts 0 first, rows-apart 0 (suc r) (zero-lt-suc r) w)
-
-  row-due : (r : ℕ) → r < length (tr .rows) → 0 < rowAt tr r .deadline
-  row-due r w = omega (arith, row-lasts r w, obeys .inTime r w)
-
-  row-in-cycle : (r : ℕ) → r < length (tr .rows) → rowAt tr r .deadline ≤ busPeriod p
-  row-in-cycle r w = rw (obeys .names r w .names .deadline) (frame-kept r w .deadline)
-
--- ---- the message of a run with a deadline
-
-pub record MessageOf (p : Plan) (t T deadline : ℕ) : Type 0 where
-  pub one : Frame
-  pub among : List·Memᴰ one (messages (busPeriod p) (busRuns p))
-  pub task : one .task ≡ t
-  pub due : one .deadline ≡ deadline
-  pub release : deadline + theTask p t .worst ≡ one .release + T
-
-module _ (p : Plan) where
-  -- of a run: the i-th message, where i is the deadline's place
-  message-in : (r : Run) (d : ℕ) → List·Memᴰ r (busRuns p) → 0 < r .period → r .period ∣ d → 0 < d → d ≤ busPeriod p
-      → List·Memᴰ (message r (d / r .period)) (messages (busPeriod p) (busRuns p))
-  unfolding messages messagesOf
-  message-in r d i pos div low high =
-      let q = d / r .period in
-      let e : q * r .period ≡ d = div-mul-cancel (r .period) div in
-      let first : 0 < q = pos-of-mul-pos q (r .period) (omega arith) in
-      let last : q ≤ busPeriod p / r .period = le-div-iff-mul-le pos .1 (omega arith) in
-      member-joined (map (messagesOf (busPeriod p)) (busRuns p))
-      (member-tab (message r) 1 (busPeriod p / r .period) q first (omega arith))
-      (member-map (messagesOf (busPeriod p)) i)
-
-  message-due : (r : Run) (d : ℕ) → r .period ∣ d → message r (d / r .period) .deadline ≡ d
-  unfolding message
-  message-due r d div = div-mul-cancel (r .period) div
-
-  message-release : (r : Run) (d : ℕ) → r .period ∣ d → 0 < d → d + r .worst ≡ message r (d / r .period) .release + r .period
-  unfolding message
-  message-release r d div low =
-      let q = d / r .period in
-      let e : q * r .period ≡ d = div-mul-cancel (r .period) div in
-      let first : 0 < q = pos-of-mul-pos q (r .period) (omega arith) in
-      let next : suc (q - 1) ≡ q = omega arith in
-      let f : q * r .period ≡ (q - 1) * r .period + r .period = ap (λ (x : ℕ). x * r .period) (sym next) ∙ suc-mul (q - 1) (r .period) in
-      omega arith
-
-  run-member : (t μ : ℕ) → isBusTask p t ≡ true → (r : RunAmong p (p .invocations) μ t) → List·Memᴰ (runOf p (r .one)) (busRuns p)
-  unfolding busRuns ofBusTask
-  run-member t μ bus r =
-      member-map (runOf p) (keep-member (ofBusTask p) (rw (r .task) bus) (r .among))
-
-  pub message-of : (t μ d : ℕ) → isBusTask p t ≡ true → 0 < periodIn p μ t → periodIn p μ t ∣ d → 0 < d → d ≤ busPeriod p
-      → MessageOf p t (periodIn p μ t) d
-  unfolding periodIn runOf message
-  message-of t μ d bus pos div low high =
-      let r = run-in p μ t pos in
-      let run = runOf p (r .one) in
-      let same : run .period ≡ periodIn p μ t = r .period in
-      let div′ : run .period ∣ d = rw same div in
-      record {
-        one = message run (d / run .period);
-        among = message-in run d (run-member t μ bus r) (rw same pos) div′ low high;
-        task = r .task;
-        due = message-due run d div′;
-        release =
-            ap (λ (x : ℕ). d + theTask p x .worst) (sym (r .task)) ∙ message-release run d div′ low
-            ∙ ap (λ (x : ℕ). message run (d / run .period) .release + x) same;
-      }
-
--- ---- each frame has its row
-
-module _ (p : Plan) (kept : PlanKept p) (tr : TableRead) (obeys : ObeysTable (layoutOf p) tr) where
-  numbered : (r : ℕ) → (ltb r (length (tr .rows)) ≡ true) ⊎ (ltb r (length (tr .rows)) ≡ false) → ℕ
-  numbered r (inl e) = obeys .names r (ltb-true r (length (tr .rows)) e) .frame
-  numbered r (inr e) = 0
-
-  number : ℕ → ℕ
-  number r = numbered r (tested (ltb r (length (tr .rows))))
-
-  number-names : (r : ℕ) → r < length (tr .rows) → NamesFrame (layoutOf p) tr r (number r)
-  unfolding number numbered
-  number-names r w = go (tested (ltb r (length (tr .rows))))
-    where
-      go : (b : (ltb r (length (tr .rows)) ≡ true) ⊎ (ltb r (length (tr .rows)) ≡ false)) → NamesFrame (layoutOf p) tr r (numbered r b)
-      go (inl e) = obeys .names r (ltb-true r (length (tr .rows)) e) .names
-      go (inr e) = absurd (omega (arith, ltb-false r (length (tr .rows)) e))
-
-  numbers-differ : (j r : ℕ) → j < r → r < length (tr .rows) → Differ (number j) (number r)
-  numbers-differ j r l w e =
-      let a = number-names j (omega arith) in
-      let b = number-names r w in
-      obeys .names r w .new j l
-      (a .task ∙ ap (λ (f : ℕ). frameAt (layoutOf p) f .task) e ∙ sym (b .task))
-      (a .deadline ∙ ap (λ (f : ℕ). frameAt (layoutOf p) f .deadline) e ∙ sym (b .deadline))
-
-  pub frame-row : (f : ℕ) → f < length (frames p) → (r : ℕ) × (r < length (tr .rows)) × NamesFrame (layoutOf p) tr r f
   unfolding layoutOf
-  frame-row f w =
-      let count : length (tr .rows) ≡ length (frames p) = obeys .header .dataRows in
-      let rows = length (tr .rows) in
-      let s = source number (upTo rows)
-      (pigeonhole (length (frames p)) f
-      (pairs-map number {R = Differ} (pairs-tab (λ k. k) 0 rows (λ j k a b c. numbers-differ j k b (omega arith))))
-      (all-map number (all-weaker (λ r h. number-names r h .there) (all-upTo rows)))
-      (length-map (upTo rows) number ∙ length-upTo rows ∙ count)
-      w) in
-      let there : s .one < rows = all-member (all-upTo rows) (s .among) in
-      (s .one, there, subst (NamesFrame (layoutOf p) tr (s .one)) (s .gives) (number-names (s .one) there))
+  row-lasts r w =
+      let n = obeys .names r w in
+      omega (arith, obeys .time r w .stop (n .pairs) (n .names), row-takes (n .names) (n .together))
 
 -- ---- what a passed table keeps of each bus task
 
@@ -381,6 +199,15 @@ module _ (p : Plan) (kept : PlanKept p) {l : Layout} (laid : LaidOut p l) (tr : 
         dvd-trans (busPeriod p) (laid .divides) (switch-grid p .divisor .periods μ v sends),
       )
 
+  pub fair-cycle : (t : ℕ) → t < length (p .tasks) → isBusTask p t ≡ true → FairCycle (keptFor p tr) (theTask p t .home)
+  unfolding keptOf layoutOf basic
+  fair-cycle t w bus =
+      record {
+        cycle = period-kept p kept laid .least;
+        switches = λ μ h. mode-cycles t μ w bus (h .there) (h .own) .0;
+        modes = λ μ h. mode-cycles t μ w bus (h .there) (h .own) .1;
+      }
+
   run-cycles : (t μ : ℕ) → isBusTask p t ≡ true → 0 < periodIn p μ t → periodIn p μ t ∣ busPeriod p
   unfolding periodIn ofBusTask theInvocation
   run-cycles t μ bus pos =
@@ -388,34 +215,7 @@ module _ (p : Plan) (kept : PlanKept p) {l : Layout} (laid : LaidOut p l) (tr : 
       let multiples = all-of-places {P = λ (i : Invocation). ofBusTask p i ≡ true → periodOf p i ∣ busPeriod p} (p .invocations) noInvocation (period p .multiple) in
       rw (← r .period) (all-member multiples (r .among) (rw (r .task) bus))
 
-  -- the row of a message, and what it waits for
-  row-for : (t μ d : ℕ) → isBusTask p t ≡ true → 0 < periodIn p μ t → periodIn p μ t ∣ d → 0 < d → d ≤ busPeriod p
-      → RowOf (keptFor p tr) t d
-  unfolding keptOf layoutOf frameAt
-  row-for t μ d bus pos div low high =
-      let m = message-of p t μ d bus pos div low high in
-      let c = plan-frames p .covered (m .one) (m .among) in
-      let f = member-place noFrame (c .among) in
-      let r = frame-row p kept tr obeys (f .at) (f .within) in
-      record {
-        row = r .0;
-        there = r .1;
-        task = r .2 .task ∙ ap (λ (g : Frame). g .task) (f .is) ∙ c .covers .task ∙ m .task;
-        due = r .2 .deadline ∙ ap (λ (g : Frame). g .deadline) (f .is) ∙ c .covers .deadline ∙ m .due;
-      }
-
-  row-released : (t r μ : ℕ) → isBusTask p t ≡ true → r < length (tr .rows) → rowAt tr r .task ≡ t → 0 < periodIn p μ t
-      → periodIn p μ t ∣ rowAt tr r .deadline → rowAt tr r .deadline + theTask p t .worst ≤ rowAt tr r .start + periodIn p μ t
-  row-released t r μ bus w task pos div =
-      let d = rowAt tr r .deadline in
-      let n = obeys .names r w in
-      let m = message-of p t μ d bus pos div (row-due p kept tr obeys r w) (row-in-cycle p kept tr obeys r w) in
-      let f = frameAt (layoutOf p) (n .frame) in
-      let later : m .one .release ≤ f .release =
-      release-greatest (plan-frames p) f (m .one) (frame-in p kept tr obeys r w) (m .among) (sym (n .names .task) ∙ task ∙ sym (m .task))
-      (sym (n .names .deadline) ∙ sym (m .due)) in
-      let waits : f .release ≤ rowAt tr r .start = obeys .released r w (n .frame) (n .names) in
-      omega (arith, m .release)
+  -- ---- the control row of the task's node
 
   home-in : (t : ℕ) → t < length (p .tasks) → theTask p t .home < length (p .modules)
   home-in t w = task-of p kept tr t w .home
@@ -439,35 +239,106 @@ module _ (p : Plan) (kept : PlanKept p) {l : Layout} (laid : LaidOut p l) (tr : 
       let v : r < length (controlRows p) = rw rows at w in
       rw rows (pairs-getD noControlRow (control-apart p 0 (sendingNodes p)) j r h v)
 
-  control-row-early : (r : ℕ) → r < length (tr .control) → controlAt (tr .control) r .stop ≤ controlEnd p
-  unfolding controlAt
-  control-row-early r w =
+  -- it stops before any data row starts
+  control-row-early : (j r : ℕ) → j < length (tr .control) → r < length (tr .rows) → controlAt (tr .control) j .stop ≤ rowAt tr r .start
+  unfolding controlAt controlEnd layoutOf
+  control-row-early j r v w =
       let rows = control-same p kept tr obeys in
-      let v : r < length (controlRows p) = rw rows at w in
-      rw rows (all-getD noControlRow (control-kept p) r v .stop)
+      let u : j < length (controlRows p) = rw rows at v in
+      let early : controlAt (tr .control) j .stop ≤ controlEnd p = rw rows (all-getD noControlRow (control-kept p) j u .stop) in
+      let start : controlEnd p ≤ rowAt tr r .start = rw (← rows) (row-behind (layoutOf p) tr obeys (row-lasts p kept tr obeys) r w) in
+      omega arith
+
+  -- ---- the row of each pair
+
+  row-of : (q : ℕ) → q < length (layoutOf p .pairs) → (r : ℕ) × RidesIn (layoutOf p) tr q r
+  unfolding layoutOf
+  row-of q w =
+      let held = pair-row (layoutOf p) tr obeys refl q w in
+      rides (layoutOf p) tr q (held .0) (held .1)
+
+  pairs-apart : (q r : ℕ) → q < length (layoutOf p .pairs) → r < length (layoutOf p .pairs) → NoOverlap (keptFor p tr) q r
+  unfolding keptOf passedRow passedPair pairAt
+  pairs-apart q r v w =
+      let a = row-of q v in
+      let b = row-of r w in
+      let apart = rows-apart (layoutOf p) tr obeys (row-lasts p kept tr obeys) in
+      compare-case (a .0) (b .0)
+      (λ h e. before (rw (a .1 .is, b .1 .is) (apart (a .0) (b .0) h (b .1 .holds .there))))
+      (λ h e. oneRow (rw (a .1 .is, b .1 .is, h)) (rw (a .1 .is, b .1 .is, h)))
+      (λ h e. behind (rw (a .1 .is, b .1 .is) (apart (b .0) (a .0) h (a .1 .holds .there))))
+
+  pair-lasts : (q : ℕ) → q < length (layoutOf p .pairs) → keptFor p tr .pairStart q < keptFor p tr .pairStop q
+  unfolding keptOf passedRow passedPair pairAt
+  pair-lasts q w = let r = row-of q w in rw (r .1 .is) (row-lasts p kept tr obeys (r .0) (r .1 .holds .there))
+
+  pair-behind : (j q : ℕ) → j < length (tr .control) → q < length (layoutOf p .pairs)
+      → controlAt (tr .control) j .stop ≤ keptFor p tr .pairStart q
+  unfolding keptOf passedRow passedPair pairAt
+  pair-behind j q v w = let r = row-of q w in rw (r .1 .is) (control-row-early j (r .0) v (r .1 .holds .there))
+
+  pair-in-time : (q : ℕ) → q < length (layoutOf p .pairs) → keptFor p tr .pairStop q ≤ keptFor p tr .pairDeadline q
+  unfolding keptOf passedRow passedPair pairAt
+  pair-in-time q w =
+      let r = row-of q w in
+      let h = r .1 .holds in
+      rw (r .1 .is, ← h .names .deadline) (obeys .inTime (r .0) (h .there) (h .name) (h .holds))
+
+  pair-run : (q μ : ℕ) → q < length (layoutOf p .pairs) → keptFor p tr .pairHas q μ ≡ true
+      → RunOfPair (keptFor p tr) (keptFor p tr .pairTask q) q μ
+  unfolding keptOf passedRow passedPair pairAt hasOf layoutOf pairs
+  pair-run q μ w e =
+      let r = row-of q w in
+      let h = r .1 .holds in
+      let f = pairAt (layoutOf p) q in
+      let sent = has-means p kept μ (f .task) (f .deadline) .says e in
+      let later = pair-release p kept μ f (member-getD (pairs p) noPair q w) e in
+      let waits : f .release ≤ rowAt tr (r .0) .start = obeys .released (r .0) (h .there) (h .name) q (h .holds) (h .names) in
+      record { invoked = sent .runs; whole = sent .due; released = rw (r .1 .is) (omega arith) }
 
   pub fair-bus : (t : ℕ) → t < length (p .tasks) → isBusTask p t ≡ true → FairBus (keptFor p tr) t
-  unfolding keptOf layoutOf homeNode
+  unfolding keptOf layoutOf homeNode basic
   fair-bus t w bus =
       let node = home-row t w bus in
       let rows = control-same p kept tr obeys in
       let there : node .row < length (tr .control) = subst (λ (c : List ControlRow). node .row < length c) (sym rows) (node .there) in
       record {
-        cycle = period-kept p kept laid .least;
-        switches = λ μ h. mode-cycles t μ w bus (h .there) (h .own) .0;
-        modes = λ μ h. mode-cycles t μ w bus (h .there) (h .own) .1;
+        cycles = fair-cycle t w bus;
         runs = λ μ h pos. run-cycles t μ bus pos;
-        bus = bus;
         sends = sender p kept t w bus;
         control = node .row;
         controlThere = there;
         controlNode = sym (node .node) ∙ ap (λ (c : List ControlRow). controlAt c (node .row) .node) (sym rows);
         controlLasts = control-row-lasts;
         controlsApart = control-rows-apart;
-        lasts = row-lasts p kept tr obeys;
-        apart = rows-apart p kept tr obeys;
-        behind = λ r v. omega (arith, row-behind p kept tr obeys r v, control-row-early (node .row) there);
-        inTime = obeys .inTime;
-        released = λ r μ v task h pos div. row-released t r μ bus v task pos div;
-        rowFor = λ μ d h pos div low high. row-for t μ d bus pos div low high;
+        lasts = λ q h. pair-lasts q (h .there);
+        apart = λ q r g h. pairs-apart q r (g .there) (h .there);
+        behindControl = λ q h. pair-behind (node .row) q there (h .there);
+        inTime = λ q h. pair-in-time q (h .there);
+        ofRun = λ q μ h own e. subst (λ (x : ℕ). RunOfPair (keptFor p tr) x q μ) (h .task) (pair-run q μ (h .there) e);
       }
+
+-- ---- which messages the station knows of
+
+module _ (p : Plan) (kept : PlanKept p) (tr : TableRead) where
+  -- those that the plan sends
+  pub sent-is : (t μ d : ℕ) → hasMessage (keptFor p tr) t μ d ≡ has (basic p .messages) μ t d
+  unfolding keptOf passedPair layoutOf pairs
+  sent-is t μ d = by-same (message-tests (keptFor p tr) t μ d) (by-itself (has (basic p .messages) μ t d)) has-it in-pair
+    where
+      has-it : Messages (keptFor p tr) t μ d → has (basic p .messages) μ t d ≡ true
+      has-it x = rw (x .known .task, x .time) at (x .has)
+
+      in-pair : has (basic p .messages) μ t d ≡ true → Messages (keptFor p tr) t μ d
+      in-pair e =
+          let f = sent-pair p kept μ t d e in
+          let q = member-place noPair (f .1) in
+          let task : keptFor p tr .pairTask (q .at) ≡ t = rw (q .is) (f .2) in
+          let due : keptFor p tr .pairDeadline (q .at) ≡ d = rw (q .is) (f .3) in
+          record { pair = q .at; known = record { there = q .within; task = task }; time = due; has = rw (task, due) e }
+
+  -- every run of a bus task has its message
+  pub every-run : (t : ℕ) → isBusTask p t ≡ true → EveryRunIsSent (keptFor p tr) t
+  unfolding keptOf layoutOf basic
+  every-run t bus μ d own runs due low high =
+      sent-is t μ d ∙ has-means p kept μ t d .passes (record { bus = bus; runs = runs; due = due; low = low; high = high })

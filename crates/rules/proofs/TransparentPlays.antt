@@ -17,12 +17,13 @@ use Rattle.laws.proofs.Tests.{by-eq}
 use Rattle.rules.specs.Plan.{Plan, readPlan}
 use Rattle.rules.specs.Jobs.{rec, file}
 use Rattle.rules.specs.Playing.{Input, isRun, periodAmong, periodIn}
-use Rattle.rules.specs.Station.{Kept, State, Begun, keptOf, stateAtStart, homeNode, runPeriod, taskAge, runAge, isRunning}
-use Rattle.rules.specs.Station.{isAwaited, resultAwaited, resultFits, isLastChance, resultInTime, isModeOf, maySwitch}
-use Rattle.rules.specs.Station.{changeAllowed, judgedTick, outAfter, hasTime, rowWith, landsOn, landedAfter, isByteOf}
-use Rattle.rules.specs.Station.{heldAfter, endsNow, hasMessage, ownShows, otherShows, shownAfter, modeAfter, oneOn}
-use Rattle.rules.specs.Station.{ageAfter, givenAfter, startingControl, startingData, modeByteAfter, fullAfter, loadAfter}
-use Rattle.rules.specs.Station.{tick, keptControl, keptData, started, step, startsWell, begin}
+use Rattle.rules.specs.Station.{Kept, State, Begun, passedPair, passedRow, keptOf, stateAtStart, homeNode, runPeriod}
+use Rattle.rules.specs.Station.{taskAge, runAge, isRunning, isAwaited, resultAwaited, resultFits, isLastChance, resultInTime}
+use Rattle.rules.specs.Station.{isModeOf, maySwitch, changeAllowed, judgedTick, outAfter, hasTime, rowWith, isAt, someAt}
+use Rattle.rules.specs.Station.{isSentAt, someSentAt, landsOn, landedAfter, isByteOf, heldAfter, endsNow, hasMessage}
+use Rattle.rules.specs.Station.{ownShows, otherShows, shownAfter, modeAfter, oneOn, ageAfter, givenAfter, startingControl}
+use Rattle.rules.specs.Station.{startingPair, modeByteAfter, startsNow, isTaken, fullAfter, loadAfter, tick, keptControl}
+use Rattle.rules.specs.Station.{keptData, started, step, startsWell, begin}
 use Rattle.rules.specs.Obeys.{IsRunning, IsAwaited, MayTick}
 use Rattle.rules.specs.History.{played, brings, consumes}
 use Rattle.rules.proofs.Jobs.{everything}
@@ -184,10 +185,11 @@ changing =
 
 opened : Unit {0}
 unfolding everything tinyPlan tinyTable tinyStart quiet resultOf gives shownIs showsBehind consumedIn changing brings consumes
-    played keptOf stateAtStart homeNode runPeriod taskAge runAge isRunning isAwaited resultAwaited resultFits isLastChance
-    resultInTime isModeOf maySwitch changeAllowed judgedTick outAfter hasTime rowWith landsOn landedAfter isByteOf heldAfter
-    endsNow hasMessage ownShows otherShows shownAfter modeAfter oneOn ageAfter givenAfter startingControl startingData
-    modeByteAfter fullAfter loadAfter tick keptControl keptData started step startsWell begin isRun periodAmong periodIn
+    played passedPair passedRow keptOf stateAtStart homeNode runPeriod taskAge runAge isRunning isAwaited resultAwaited resultFits
+    isLastChance resultInTime isModeOf maySwitch changeAllowed judgedTick outAfter hasTime rowWith isAt someAt isSentAt someSentAt
+    landsOn landedAfter isByteOf heldAfter endsNow hasMessage ownShows otherShows shownAfter modeAfter oneOn ageAfter givenAfter
+    startingControl startingPair modeByteAfter startsNow isTaken fullAfter loadAfter tick keptControl keptData started step
+    startsWell begin isRun periodAmong periodIn
 opened = tt
 
 pub changes : T (all isTrue changing)

@@ -4,15 +4,19 @@ use mathlib.Core.Bool.{Bool, true, false, cond, not, _&&_, _||_}
 use mathlib.Core.List.{List, _∷_}
 use mathlib.Core.Option.{Option, none, some}
 use lib.Dec.{eqb}
-use borrow.Author.Tests.{eqb-true, not-false, lt-ltb, le-ltb, eq-eqb, ne-eqb}
+use borrow.Author.Tests.{eqb-true, not-true, not-false, lt-ltb, le-ltb, eq-eqb, ne-eqb}
 use Prim.Native.Nat.{ℕ, suc, _+_, _%_, _≤_, _<_, _∣_}
 use Rattle.laws.proofs.Lists.{both, both-left, both-right}
 use Rattle.laws.specs.Lists.{firstBad, upTo}
-use Rattle.laws.proofs.Loops.{firstBad-upTo-none, firstBad-upTo-some, firstBad-upTo-within, firstBad-upTo-fails, firstWith-bad}
+use Rattle.laws.proofs.Loops.{firstBad-upTo-some, firstBad-upTo-within, firstBad-upTo-fails, firstWith-bad}
 use Rattle.laws.proofs.Runs.{withinRun}
-use Rattle.laws.proofs.Tests.{Tests, by-iff, by-lt, by-divides, by-and}
+use Rattle.laws.proofs.Tests.{Tests, by-iff, by-itself, by-eq, by-lt, by-divides, by-and, by-not, by-any-upTo}
 use Rattle.rules.specs.Playing.{Input, isGiven}
-use Rattle.rules.specs.Station.{Kept, State, homeNode, runPeriod, taskAge, runAge, isRunning, outAfter, hasTime, rowWith, landsOn, landedAfter, isByteOf, heldAfter, endsNow, hasMessage, ownShows, otherShows, shownAfter, modeAfter, oneOn, ageAfter, givenAfter, startingControl, startingData, modeByteAfter, fullAfter, loadAfter, tick}
+use Rattle.rules.specs.Station.{Kept, State, homeNode, runPeriod, taskAge, runAge, isRunning, outAfter, hasTime, rowWith}
+use Rattle.rules.specs.Station.{isAt, someAt, isSentAt, someSentAt, landsOn, landedAfter, isByteOf, heldAfter, endsNow}
+use Rattle.rules.specs.Station.{hasMessage, ownShows, otherShows, shownAfter, modeAfter, oneOn, ageAfter, givenAfter}
+use Rattle.rules.specs.Station.{startingControl, modeByteAfter, startsNow, isTaken, fullAfter, loadAfter, tick}
+use Rattle.rules.specs.Heard.{busTime, isHeard, heard}
 use Rattle.rules.specs.OneBoard.{modeNow, sinceMode, periodNow, runEnds, resultWithin, value}
 
 -- a run ends at the tick to come
@@ -28,19 +32,48 @@ ending-tests k s t =
     (λ h. record { invoked = h .0 .0; released = h .0 .1; whole = h .1 })
     (λ h. ((h .invoked, h .released), h .whole))
 
+-- a pair of the task
+pub record PairOf (k : Kept) (t q : ℕ) : Type 0 where
+  pub there : q < k .pairs
+  pub task : k .pairTask q ≡ t
+
+-- one that has this time
+pub record PairAt (k : Kept) (times : ℕ → ℕ) (t now : ℕ) : Type 0 where
+  pub pair : ℕ
+  pub known : PairOf k t pair
+  pub time : times pair ≡ now
+
+pub at-tests : (k : Kept) (times : ℕ → ℕ) (t now : ℕ) → Tests (someAt k times t now) (PairAt k times t now)
+unfolding someAt isAt
+at-tests k times t now =
+    by-iff
+    (by-any-upTo (isAt k times t now) (k .pairs) (λ q w. by-and (by-eq (k .pairTask q) t) (by-eq (times q) now)))
+    (λ h. record { pair = h .0; known = record { there = h .1; task = h .2 .0 }; time = h .2 .1 })
+    (λ h. (h .pair, h .known .there, (h .known .task, h .time)))
+
+-- one of which the mode has a message, besides
+pub record SentAt (k : Kept) (times : ℕ → ℕ) (t now μ : ℕ) : Type 0 where
+  pub pair : ℕ
+  pub known : PairOf k t pair
+  pub time : times pair ≡ now
+  pub has : k .pairHas pair μ ≡ true
+
+pub sent-tests : (k : Kept) (times : ℕ → ℕ) (t now μ : ℕ) → Tests (someSentAt k times t now μ) (SentAt k times t now μ)
+unfolding someSentAt isSentAt isAt
+sent-tests k times t now μ =
+    by-iff
+    (by-any-upTo (isSentAt k times t now μ) (k .pairs)
+    (λ q w. by-and (by-and (by-eq (k .pairTask q) t) (by-eq (times q) now)) (by-itself (k .pairHas q μ))))
+    (λ h. record { pair = h .0; known = record { there = h .1; task = h .2 .0 .0 }; time = h .2 .0 .1; has = h .2 .1 })
+    (λ h. (h .pair, h .known .there, ((h .known .task, h .time), h .has)))
+
 -- a message of the task in the mode has the deadline
-pub record Messages (k : Kept) (t μ deadline : ℕ) : Type 0 where
-  pub bus : k .isBus t ≡ true
-  pub invoked : 0 < k .run μ t
-  pub whole : k .run μ t ∣ deadline
+abbrev pub Messages : Kept → ℕ → ℕ → ℕ → Type 0
+Messages k t μ deadline = SentAt k (k .pairDeadline) t deadline μ
 
 pub message-tests : (k : Kept) (t μ deadline : ℕ) → Tests (hasMessage k t μ deadline) (Messages k t μ deadline)
 unfolding hasMessage
-message-tests k t μ deadline =
-    by-iff
-    (by-and (record { says = λ e. e; passes = λ e. e }) (by-and (by-lt 0 (k .run μ t)) (by-divides (k .run μ t) deadline)))
-    (λ h. record { bus = h .0; invoked = h .1 .0; whole = h .1 .1 })
-    (λ h. (h .bus, (h .invoked, h .whole)))
+message-tests k t μ deadline = sent-tests k (k .pairDeadline) t deadline μ
 
 module _ (k : Kept) (s : State) (i : Input) where
   pub clock-on : s .clock < k .period → tick k s i .clock ≡ s .clock + 1
@@ -50,6 +83,11 @@ module _ (k : Kept) (s : State) (i : Input) where
   pub clock-turns : k .period ≤ s .clock → tick k s i .clock ≡ 1
   unfolding tick oneOn
   clock-turns h = rw (le-ltb (s .clock) (k .period) h)
+
+  -- the clock is the bus time of the history
+  pub clock-time : (past : List Input) → s .clock ≡ busTime (k .period) past → tick k s i .clock ≡ busTime (k .period) (i ∷ past)
+  unfolding tick busTime
+  clock-time past e = ap (λ (now : ℕ). oneOn now (k .period)) e
 
   module _ (m : ℕ) where
     pub mode-kept : i .change m ≡ none → tick k s i .mode m ≡ s .mode m
@@ -108,6 +146,15 @@ module _ (k : Kept) (s : State) (i : Input) where
       unfolding tick shownAfter ownShows otherShows
       shown-other e d q = rw (e, ne-eqb (homeNode k t) n d) (ap (λ (b : Bool). cond b (landedAfter k s n t) (s .shown n t)) q)
 
+      pub shown-unsent : (homeNode k t ≡ n → ⊥) → hasMessage k t (tick k s i .held n (k .taskHome t)) (s .clock) ≡ false
+          → tick k s i .shown n t ≡ s .shown n t
+      unfolding tick shownAfter ownShows otherShows
+      shown-unsent d q = rw (ne-eqb (homeNode k t) n d) (unsent (endsNow k s t) (hasMessage k t (heldAfter k s n (k .taskHome t)) (s .clock)) q)
+        where
+          unsent : (e b : Bool) → b ≡ false → cond (e && false) (outAfter s i t) (cond (e && b) (landedAfter k s n t) (s .shown n t)) ≡ s .shown n t
+          unsent true b q = rw q
+          unsent false b q = refl
+
       pub shown-still : endsNow k s t ≡ false → tick k s i .shown n t ≡ s .shown n t
       unfolding tick shownAfter ownShows otherShows
       shown-still e = rw e
@@ -135,9 +182,6 @@ module _ (times : ℕ → ℕ) (count now : ℕ) where
         there = firstBad-upTo-within hasOther count r bad;
         time = eqb-true (times r) now (not-false (eqb (times r) now) (firstBad-upTo-fails hasOther count r bad));
       }
-
-  pub row-none : ((r : ℕ) → r < count → times r ≡ now → ⊥) → rowWith times count now ≡ none
-  row-none h = row-by-other ∙ firstBad-upTo-none hasOther count (λ r w. rw (ne-eqb (times r) now (h r w)))
 
   pub row-found : (r : ℕ) → RowAt times count now r → ((j : ℕ) → j < r → times j ≡ now → ⊥) → rowWith times count now ≡ some r
   row-found r h other =
@@ -191,57 +235,55 @@ module _ (k : Kept) (s : State) (i : Input) where
 
   -- data frames
   module _ (n t : ℕ) where
-    pub landed-found : (r : ℕ) → rowWith (k .dataStop) (k .datas) (s .clock) ≡ some r → k .dataTask r ≡ t → s .full ≡ true
-        → (homeNode k t ≡ n → ⊥) → tick k s i .landed n t ≡ s .load
+    pub landed-found : PairAt k (k .pairStop) t (s .clock) → s .full t ≡ true → (homeNode k t ≡ n → ⊥) → tick k s i .landed n t ≡ s .load t
     unfolding tick landedAfter landsOn
-    landed-found r e q f d = rw (e, f, eq-eqb (k .dataTask r) t q, ne-eqb (homeNode k t) n d)
+    landed-found h f d = rw (at-tests k (k .pairStop) t (s .clock) .passes h, f, ne-eqb (homeNode k t) n d)
 
     pub landed-either : {C : Type 0} → (tick k s i .landed n t ≡ s .landed n t → C)
-        → ((r : ℕ) → RowAt (k .dataStop) (k .datas) (s .clock) r → k .dataTask r ≡ t → s .full ≡ true → tick k s i .landed n t ≡ s .load → C)
-        → C
+        → (PairAt k (k .pairStop) t (s .clock) → s .full t ≡ true → tick k s i .landed n t ≡ s .load t → C) → C
     unfolding tick landedAfter landsOn
-    landed-either {C} old new = go (rowWith (k .dataStop) (k .datas) (s .clock)) refl
+    landed-either {C} old new = pick (landsOn k s n t) refl refl
       where
-        pick : (r : ℕ) → rowWith (k .dataStop) (k .datas) (s .clock) ≡ some r → (b : Bool) → landsOn k s n t r ≡ b
-            → tick k s i .landed n t ≡ cond b (s .load) (s .landed n t) → C
-        pick r q true l e =
-            let rest = both-right (s .full) (eqb (k .dataTask r) t && not (eqb (homeNode k t) n)) l in
-            new r (row-is (k .dataStop) (k .datas) (s .clock) r q)
-            (eqb-true (k .dataTask r) t (both-left (eqb (k .dataTask r) t) (not (eqb (homeNode k t) n)) rest))
-            (both-left (s .full) (eqb (k .dataTask r) t && not (eqb (homeNode k t) n)) l)
+        pick : (b : Bool) → landsOn k s n t ≡ b → tick k s i .landed n t ≡ cond b (s .load t) (s .landed n t) → C
+        pick true l e =
+            let stops = someAt k (k .pairStop) t (s .clock) in
+            let rest = both-right stops (s .full t && not (eqb (homeNode k t) n)) l in
+            new (at-tests k (k .pairStop) t (s .clock) .says (both-left stops (s .full t && not (eqb (homeNode k t) n)) l))
+            (both-left (s .full t) (not (eqb (homeNode k t) n)) rest)
             e
-        pick r q false l e = old e
+        pick false l e = old e
 
-        go : (o : Option ℕ) → rowWith (k .dataStop) (k .datas) (s .clock) ≡ o → C
-        go none e = old (rw e)
-        go (some r) e = pick r e (landsOn k s n t r) refl (rw e)
+  module _ (t now : ℕ) (time : s .clock % k .period ≡ now) where
+    starts-now : PairAt k (k .pairStart) t now → startsNow k s t ≡ true
+    unfolding startsNow
+    starts-now h = rw time (at-tests k (k .pairStart) t now .passes h)
 
-  pub full-found : (r : ℕ) → startingData k s ≡ some r
-      → tick k s i .full ≡ hasMessage k (k .dataTask r) (tick k s i .mode (k .taskHome (k .dataTask r))) (k .dataDeadline r)
-  unfolding tick fullAfter
-  full-found r e = rw e
+    none-starts-now : (PairAt k (k .pairStart) t now → ⊥) → startsNow k s t ≡ false
+    unfolding startsNow
+    none-starts-now h = rw time (not-true (someAt k (k .pairStart) t now) (by-not (at-tests k (k .pairStart) t now) .passes h))
 
-  pub full-none : startingData k s ≡ none → tick k s i .full ≡ s .full
-  unfolding tick fullAfter
-  full-none e = rw e
+    pub full-found : PairAt k (k .pairStart) t now
+        → tick k s i .full t ≡ someSentAt k (k .pairStart) t now (tick k s i .mode (k .taskHome t))
+    unfolding tick fullAfter isTaken
+    full-found h = rw (starts-now h, time)
 
-  pub load-found : (r : ℕ) → startingData k s ≡ some r → tick k s i .load ≡ tick k s i .out (k .dataTask r)
-  unfolding tick loadAfter
-  load-found r e = rw e
+    pub full-none : (PairAt k (k .pairStart) t now → ⊥) → tick k s i .full t ≡ s .full t
+    unfolding tick fullAfter
+    full-none h = rw (none-starts-now h)
 
-  pub load-none : startingData k s ≡ none → tick k s i .load ≡ s .load
-  unfolding tick loadAfter
-  load-none e = rw e
+    pub load-found : PairAt k (k .pairStart) t now → tick k s i .load t ≡ tick k s i .out t
+    unfolding tick loadAfter
+    load-found h = rw (starts-now h)
+
+    pub load-none : (PairAt k (k .pairStart) t now → ⊥) → tick k s i .load t ≡ s .load t
+    unfolding tick loadAfter
+    load-none h = rw (none-starts-now h)
 
 -- P is time 0 of the next cycle
 pub starting-control : (k : Kept) (s : State) (now : ℕ) → s .clock % k .period ≡ now
     → startingControl k s ≡ rowWith (k .controlStart) (k .controls) now
 unfolding startingControl
 starting-control k s now e = rw e
-
-pub starting-data : (k : Kept) (s : State) (now : ℕ) → s .clock % k .period ≡ now → startingData k s ≡ rowWith (k .dataStart) (k .datas) now
-unfolding startingData
-starting-data k s now e = rw e
 
 -- ---- the task's period and age
 
@@ -305,3 +347,30 @@ module _ (home : ℕ → ℕ) (run : ℕ → ℕ → ℕ) (first : ℕ → ℕ) 
     pub value-still : runEnds home run first t past ≡ false → value home run first t (i ∷ past) ≡ value home run first t past
     unfolding value
     value-still e = rw e
+
+-- ---- what other nodes hear of
+
+module _ (home : ℕ → ℕ) (run : ℕ → ℕ → ℕ) (first : ℕ → ℕ) (period : ℕ) (sent : ℕ → ℕ → ℕ → Bool) (i : Input) (past : List Input) (t : ℕ) where
+  abbrev isSent : Bool
+  isSent = sent (modeNow home run first (home t) past) t (busTime period past)
+
+  pub heard-unsent : sent (modeNow home run first (home t) past) t (busTime period past) ≡ false
+      → heard home run first period sent t (i ∷ past) ≡ heard home run first period sent t past
+  unfolding heard isHeard
+  heard-unsent q = unsent (runEnds home run first t past) isSent q
+    where
+      unsent : (e b : Bool) → b ≡ false
+          → cond (e && b) (resultWithin home run first t (periodNow home run first t past) (i ∷ past)) (heard home run first period sent t past)
+          ≡ heard home run first period sent t past
+      unsent true b q = rw q
+      unsent false b q = refl
+
+  pub heard-ends : runEnds home run first t past ≡ true → sent (modeNow home run first (home t) past) t (busTime period past) ≡ true
+      → heard home run first period sent t (i ∷ past) ≡ resultWithin home run first t (periodNow home run first t past) (i ∷ past)
+  unfolding heard isHeard
+  heard-ends e q = rw (e, q)
+
+  pub heard-still : runEnds home run first t past ≡ false
+      → heard home run first period sent t (i ∷ past) ≡ heard home run first period sent t past
+  unfolding heard isHeard
+  heard-still e = rw e

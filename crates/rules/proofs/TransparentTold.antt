@@ -14,12 +14,14 @@ use Rattle.laws.proofs.Tests.{Tests, by-iff, by-lt, by-divides, by-and}
 use Rattle.laws.specs.Res.{ok}
 use Rattle.rules.specs.Playing.{Input, isGiven}
 use Rattle.rules.specs.Plan.{Plan, readPlan}
-use Rattle.rules.specs.Frames.{taskNode, layoutOf}
+use Rattle.rules.specs.Traffic.{taskNode}
+use Rattle.rules.specs.Frames.{layoutOf}
 use Rattle.rules.specs.Station.{Kept, State, Begun, keptOf, stateAtStart, runPeriod, taskAge, runAge, endsNow, tick, begin}
 use Rattle.rules.specs.Obeys.{MayTick}
 use Rattle.rules.specs.History.{played, homeIn, firstIn, boardValue, consumes}
 use Rattle.rules.specs.OneBoard.{modeNow, sinceMode, periodNow, runEnds, resultWithin, value}
-use Rattle.rules.specs.Told.{At, newest, older, Enters, fromStart, byChange, InMode, EndedRun, OneResult, ValueIs, ofNone, ofLast, Tells, ShowsTold}
+use Rattle.rules.specs.Told.{At, newest, older, Enters, fromStart, byChange, InMode, EndedRun, OneResult, ValueIs, ofNone}
+use Rattle.rules.specs.Told.{ofLast, Tells, ShowsTold}
 use Rattle.rules.proofs.PlanKept.{readable-kept}
 use Rattle.rules.proofs.StationExact.{none-some, some-same, given-case}
 use Rattle.rules.proofs.TransparentTick.{
@@ -42,7 +44,8 @@ use Rattle.rules.proofs.TransparentTick.{
 use Rattle.rules.proofs.TransparentModes.{ModeOf}
 use Rattle.rules.proofs.TransparentOwn.{FairTask, Own, own-on, own-start, goes-case, had-at-end, result-at-end, period-is, ends-same}
 use Rattle.rules.proofs.TransparentPlan.{keptFor}
-use Rattle.rules.proofs.Transparent.{Beginning, along, consumed-there, facts, same-plan, plays-on, fair, first, transparent, transparent-own}
+use Rattle.rules.proofs.Transparent.{Beginning, along, consumed-there, facts, same-plan, plays-on, fair, first}
+use Rattle.rules.proofs.Transparent.{transparent, transparent-own}
 
 -- ---- ticks by number
 

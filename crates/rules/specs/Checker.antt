@@ -5,14 +5,34 @@ use lib.Dec.{eqb, leb}
 use lib.ListN.{length, getD, take, replicate}
 use Prim.Native.Nat.{ℕ, zero, suc, _+_}
 use Rattle.laws.specs.Res.{Res, ok, refuse, _>>=_, _>>_, unless, at}
-use Rattle.laws.specs.Lists.{any, firstBad, lastD, upTo}
+use Rattle.laws.specs.Lists.{any, all, joined, firstBad, lastD, upTo}
 use Rattle.laws.specs.Numbers.{divides}
 use Rattle.rules.specs.Records.{Rec, records, tableFollows}
-use Rattle.rules.specs.Plan.{nth, things, only, readPlan}
+use Rattle.rules.specs.Plan.{Plan, nth, things, only, readPlan}
 use Rattle.rules.specs.Limits.{mostFrames}
-use Rattle.rules.specs.Frames.{Frame, ControlRow, noControlRow, Layout, layout, gapTime}
-use Rattle.rules.specs.LatestRelease.{noFrame, frameTime}
+use Rattle.rules.specs.Traffic.{Traffic, basic}
+use Rattle.rules.specs.Frames.{Pair, ControlRow, noControlRow, Layout, layout}
+use Rattle.rules.specs.LatestRelease.{noPair}
 use Rattle.rules.specs.Table.{DataRow, FrameRow, zeroRow, rowsThenZero}
+
+-- What a table calls a pair: its task and its deadline.
+pub record Named : Type 0 where
+  pub task : ℕ
+  pub deadline : ℕ
+
+-- A data row: the pair that opens it, all pairs that it holds, start and stop.
+pub record Row : Type 0 where
+  pub opens : Named
+  pub holds : List Named
+  pub start : ℕ
+  pub stop : ℕ
+
+-- the row of a record that stands for itself: it holds the pair that opens it, and no other
+unfoldable pub nameOf : DataRow → Named
+nameOf r = record { task = r .task; deadline = r .deadline }
+
+unfoldable pub rowOf : DataRow → Row
+rowOf r = record { opens = nameOf r; holds = nameOf r ∷ []; start = r .start; stop = r .stop }
 
 -- A table as it was read: what the head says, the control rows and the data rows in file order.
 pub record TableRead : Type 0 where
@@ -20,7 +40,7 @@ pub record TableRead : Type 0 where
   pub controls : ℕ
   pub datas : ℕ
   pub control : List ControlRow
-  pub rows : List DataRow
+  pub rows : List Row
 
 unfoldable pub controlRowOf : List ℕ → ControlRow
 controlRowOf b = record { node = nth b 0; start = nth b 1; stop = nth b 2 }
@@ -35,24 +55,24 @@ tableOf rs =
       controls = nth (only 16 rs) 1;
       datas = nth (only 16 rs) 2;
       control = map controlRowOf (things 17 rs);
-      rows = map dataRowOf (things 18 rs);
+      rows = map rowOf (map dataRowOf (things 18 rs));
     }
 
 -- Refusal 21 (rule 7.21): the head's period is P, and its counts and the rows present are as many as the plan gives (reading 18).
 unfoldable pub headerRight : Layout → TableRead → Bool
 headerRight l t =
     eqb (t .period) (l .period)
-    && ((eqb (t .controls) (length (l .control)) && eqb (t .datas) (length (l .frames)))
-    && (eqb (length (t .control)) (length (l .control)) && eqb (length (t .rows)) (length (l .frames))))
+    && ((eqb (t .controls) (length (l .control)) && eqb (t .datas) (length (l .pairs)))
+    && (eqb (length (t .control)) (length (l .control)) && eqb (length (t .rows)) (length (l .pairs))))
 
 unfoldable pub controlAt : List ControlRow → ℕ → ControlRow
 controlAt rows k = getD rows k noControlRow
 
-abbrev pub noDataRow : DataRow
-noDataRow = record { task = 0; deadline = 0; start = 0; stop = 0 }
+abbrev pub noRow : Row
+noRow = record { opens = record { task = 0; deadline = 0 }; holds = []; start = 0; stop = 0 }
 
-unfoldable pub rowAt : TableRead → ℕ → DataRow
-rowAt t k = getD (t .rows) k noDataRow
+unfoldable pub rowAt : TableRead → ℕ → Row
+rowAt t k = getD (t .rows) k noRow
 
 -- Refusal 22 (rule 7.22): a control row has node, start and stop of the one that the plan fixes.
 unfoldable pub sameControl : ControlRow → ControlRow → Bool
@@ -61,39 +81,52 @@ sameControl a b = eqb (a .node) (b .node) && (eqb (a .start) (b .start) && eqb (
 unfoldable pub controlKept : Layout → TableRead → ℕ → Bool
 controlKept l t k = sameControl (controlAt (t .control) k) (controlAt (l .control) k)
 
--- Refusal 23 (rule 7.23): a data row has task and deadline of a frame, and no row before it has both; so the later row of two is at
--- fault (reading 19).
-unfoldable pub isFrameOf : DataRow → Frame → Bool
-isFrameOf r f = eqb (r .task) (f .task) && eqb (r .deadline) (f .deadline)
+-- Refusal 23 (rule 7.23): each pair that a data row holds is one of the plan's, and no row before holds it, so the later row of two is at
+-- fault (reading 19); and its pairs may be in one row.
+unfoldable pub isPairOf : Named → Pair → Bool
+isPairOf n f = eqb (n .task) (f .task) && eqb (n .deadline) (f .deadline)
 
-unfoldable pub samePair : DataRow → DataRow → Bool
-samePair r s = eqb (r .task) (s .task) && eqb (r .deadline) (s .deadline)
+unfoldable pub sameName : Named → Named → Bool
+sameName n m = eqb (n .task) (m .task) && eqb (n .deadline) (m .deadline)
 
-unfoldable pub namesNewFrame : Layout → TableRead → ℕ → Bool
-namesNewFrame l t k =
-    any (isFrameOf (rowAt t k)) (l .frames) && not (any (samePair (rowAt t k)) (take k (t .rows)))
+abbrev pub holdsOf : Row → List Named
+holdsOf r = r .holds
 
--- the frame that a data row names
-unfoldable pub namedIn : List Frame → DataRow → Frame
-namedIn [] r = noFrame
-namedIn (f ∷ fs) r = cond (isFrameOf r f) f (namedIn fs r)
+unfoldable pub heldBefore : TableRead → ℕ → List Named
+heldBefore t k = joined (map holdsOf (take k (t .rows)))
 
-unfoldable pub frameOfRow : Layout → TableRead → ℕ → Frame
-frameOfRow l t k = namedIn (l .frames) (rowAt t k)
+unfoldable pub isNew : Layout → TableRead → ℕ → Named → Bool
+isNew l t k n = any (isPairOf n) (l .pairs) && not (any (sameName n) (heldBefore t k))
 
--- Refusal 24 (rule 7.24): a data row stops its sending time behind its start, and starts on the resolution (reading 20).
+-- the pair that a name stands for, and the pairs that a row holds
+unfoldable pub namedIn : List Pair → Named → Pair
+namedIn [] n = noPair
+namedIn (f ∷ fs) n = cond (isPairOf n f) f (namedIn fs n)
+
+unfoldable pub pairsOfRow : Layout → TableRead → ℕ → List Pair
+pairsOfRow l t k = map (namedIn (l .pairs)) (rowAt t k .holds)
+
+unfoldable pub namesNew : Layout → TableRead → ℕ → Bool
+namesNew l t k = all (isNew l t k) (rowAt t k .holds) && l .together (pairsOfRow l t k)
+
+-- Refusal 24 (rule 7.24): a data row stops its sending time behind its start, and starts on the grid (reading 20).
 unfoldable pub timeKept : Layout → TableRead → ℕ → Bool
 timeKept l t k =
-    eqb (rowAt t k .stop) (rowAt t k .start + frameTime l (frameOfRow l t k))
-    && divides (l .plan .bus .resolution) (rowAt t k .start)
+    eqb (rowAt t k .stop) (rowAt t k .start + l .time (pairsOfRow l t k)) && divides (l .grid) (rowAt t k .start)
 
--- Refusal 25 (rule 7.25): a data row starts when its frame is released, or later.
+-- Refusal 25 (rule 7.25): a data row starts when each of its pairs is released, or later.
+unfoldable pub isReleasedBy : ℕ → Pair → Bool
+isReleasedBy start f = leb (f .release) start
+
 unfoldable pub releaseKept : Layout → TableRead → ℕ → Bool
-releaseKept l t k = leb (frameOfRow l t k .release) (rowAt t k .start)
+releaseKept l t k = all (isReleasedBy (rowAt t k .start)) (pairsOfRow l t k)
 
--- Refusal 26 (rule 7.26): a data row stops by its deadline.
+-- Refusal 26 (rule 7.26): a data row stops by the deadline of each of its pairs.
+unfoldable pub isDueFrom : ℕ → Named → Bool
+isDueFrom stop n = leb stop (n .deadline)
+
 unfoldable pub deadlineKept : TableRead → ℕ → Bool
-deadlineKept t k = leb (rowAt t k .stop) (rowAt t k .deadline)
+deadlineKept t k = all (isDueFrom (rowAt t k .stop)) (rowAt t k .holds)
 
 -- Refusal 27 (rule 7.27): a data row starts a gap or more behind the stop of the row before it in the file; before the first stands the
 -- last control row (reading 21).
@@ -102,7 +135,7 @@ stopBefore t zero = lastD (t .control) noControlRow .stop
 stopBefore t (suc k) = rowAt t k .stop
 
 unfoldable pub gapKept : Layout → TableRead → ℕ → Bool
-gapKept l t k = leb (stopBefore t k + gapTime (l .plan .bus)) (rowAt t k .start)
+gapKept l t k = leb (stopBefore t k + l .gap) (rowAt t k .start)
 
 -- the record of the first data row: the head is record 0, the control rows follow it (reading 6)
 unfoldable pub firstRow : TableRead → ℕ
@@ -112,19 +145,30 @@ firstRow t = 1 + length (t .control)
 unfoldable pub rowsKeep : ℕ → TableRead → (ℕ → Bool) → Res (Unit {0})
 rowsKeep n t test = at n (firstRow t) (firstBad test (upTo (length (t .rows))))
 
--- Refusals 21 to 27 by rule 7.2: each over all its rows before the next, and at the lowest record that breaks it.
-unfoldable pub judged : Layout → TableRead → Res (Unit {0})
-judged l t = do
+-- Refusals 21 to 27 by rule 7.2: each over all its rows before the next, and at the lowest record that breaks it. First the shape of the
+-- rows (21 to 24), then when they are sent (25 to 27).
+unfoldable pub shaped : Layout → TableRead → Res (Unit {0})
+shaped l t = do
   unless 21 0 (headerRight l t)
   at 22 1 (firstBad (controlKept l t) (upTo (length (t .control))))
-  rowsKeep 23 t (namesNewFrame l t)
+  rowsKeep 23 t (namesNew l t)
   rowsKeep 24 t (timeKept l t)
+
+unfoldable pub timed : Layout → TableRead → Res (Unit {0})
+timed l t = do
   rowsKeep 25 t (releaseKept l t)
   rowsKeep 26 t (deadlineKept t)
   rowsKeep 27 t (gapKept l t)
 
--- A passed table: what its plan asks, and the table as it was read.
+unfoldable pub judged : Layout → TableRead → Res (Unit {0})
+judged l t = do
+  shaped l t
+  timed l t
+
+-- A passed table: its plan, what the plan sends, what it asks of the bus, and the table as it was read.
 pub record Passed : Type 0 where
+  pub plan : Plan
+  pub traffic : Traffic
   pub layout : Layout
   pub table : TableRead
 
@@ -135,16 +179,19 @@ checkFiles plan table = do
   l ← layout p
   rs ← records tableFollows 20 table
   judged l (tableOf rs)
-  ok (record { layout = l; table = tableOf rs })
+  ok (record { plan = p; traffic = basic p; layout = l; table = tableOf rs })
 
--- the start that the table gives to a frame
-unfoldable pub startIn : List DataRow → Frame → ℕ
-startIn [] f = 0
-startIn (r ∷ rs) f = cond (isFrameOf r f) (r .start) (startIn rs f)
+-- the row that holds a pair
+unfoldable pub holdsPair : Pair → Row → Bool
+holdsPair f r = any (λ n. isPairOf n f) (r .holds)
 
-unfoldable pub checkedRow : TableRead → Frame → FrameRow
+unfoldable pub rowHolding : List Row → Pair → Row
+rowHolding [] f = noRow
+rowHolding (r ∷ rs) f = cond (holdsPair f r) r (rowHolding rs f)
+
+unfoldable pub checkedRow : TableRead → Pair → FrameRow
 checkedRow t f =
-    record { task = f .task; release = f .release; deadline = f .deadline; start = startIn (t .rows) f }
+    record { task = f .task; release = f .release; deadline = f .deadline; start = rowHolding (t .rows) f .start }
 
 -- What `check` leaves: its answer and the lent rows.
 pub record Checked : Type 0 where
@@ -154,7 +201,7 @@ pub record Checked : Type 0 where
 -- Rule 7.4: where the table passes the frames' rows have its starts, and zero rows follow; a refusal leaves zero rows.
 abbrev pub checkOutcome : Res Passed → List FrameRow → Checked
 checkOutcome (ok c) rows =
-    record { answer = ok tt; rows = rowsThenZero (map (checkedRow (c .table)) (c .layout .frames)) (length rows) }
+    record { answer = ok tt; rows = rowsThenZero (map (checkedRow (c .table)) (c .layout .pairs)) (length rows) }
 checkOutcome (refuse n p) rows = record { answer = refuse n p; rows = replicate (length rows) zeroRow }
 
 -- Refusal 19 before all (rule 7.1): the rows stay as they were.

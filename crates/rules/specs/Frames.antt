@@ -1,142 +1,87 @@
--- docs/RULES.md, section 4, and refusals 6 to 11 (rules 6.6 to 6.11).
-use mathlib.Core.Bool.{Bool, not, _&&_}
+-- docs/RULES.md, rules 4.7 to 4.14, and refusals 6 to 11 (rules 6.6 to 6.11): pairs of task and deadline, sending times, control rows,
+-- and what placing and checking need of a plan.
+use mathlib.Core.Bool.{Bool, true, false, _&&_}
 use mathlib.Core.List.{List, [], _∷_, map, foldr}
-use lib.Dec.{eqb, leb, ltb}
-use lib.ListN.{getD, length}
-use Prim.Native.Nat.{ℕ, _+_, _*_, _-_, _/_, max, compare, Ordering, Ordering·lt, Ordering·eq, Ordering·gt}
+use lib.Dec.{eqb, leb}
+use lib.ListN.{length}
+use Prim.Native.Nat.{ℕ, _+_, _*_, max, compare, Ordering, Ordering·lt, Ordering·eq, Ordering·gt}
 use Rattle.laws.specs.Res.{Res, ok, _>>_, unless}
-use Rattle.laws.specs.Lists.{keep, any, all, joined, lastD, tab, upTo}
-use Rattle.laws.specs.Numbers.{divides, gcd, lcm, ceil, up}
+use Rattle.laws.specs.Lists.{keep, any, all, lastD, upTo}
+use Rattle.laws.specs.Numbers.{divides, ceil, up, sum, greatest}
 use Rattle.rules.specs.Limits.{mostFrames}
-use Rattle.rules.specs.Plan.{Bus, Mode, Invocation, Connection, Plan, theTask, periodOf}
+use Rattle.rules.specs.Plan.{Bus, Plan, theMode, theTask}
+use Rattle.rules.specs.Traffic.{isBusTask, busTasks, controlPayload, sendingNodes, Message, Traffic, basic, has}
 
--- the node of a module, and of a task
-unfoldable pub moduleNode : Plan → ℕ → ℕ
-moduleNode p m = getD (p .modules) m 0
-
-unfoldable pub taskNode : Plan → ℕ → ℕ
-taskNode p t = moduleNode p (theTask p t .home)
-
--- Rule 4.2: a bus task is invoked, and a connection leads from it to a task on another node (reading 11).
-unfoldable pub invokes : ℕ → Invocation → Bool
-invokes t i = eqb (i .task) t
-
-unfoldable pub leaves : Plan → ℕ → Connection → Bool
-leaves p t c = eqb (c .producer) t && not (eqb (taskNode p (c .consumer)) (taskNode p t))
-
-unfoldable pub isBusTask : Plan → ℕ → Bool
-isBusTask p t = any (invokes t) (p .invocations) && any (leaves p t) (p .connections)
-
-unfoldable pub busTasks : Plan → List ℕ
-busTasks p = keep (isBusTask p) (upTo (length (p .tasks)))
-
--- Rule 4.3: a module with a bus task is sending, and so is its node.
-unfoldable pub livesIn : Plan → ℕ → ℕ → Bool
-livesIn p m t = eqb (theTask p t .home) m
-
-unfoldable pub isSending : Plan → ℕ → Bool
-isSending p m = any (livesIn p m) (busTasks p)
-
-unfoldable pub standsOn : Plan → ℕ → ℕ → Bool
-standsOn p n m = eqb (moduleNode p m) n && isSending p m
-
--- the sending modules of a node
-unfoldable pub sendersOn : Plan → ℕ → List ℕ
-sendersOn p n = keep (standsOn p n) (upTo (length (p .modules)))
-
--- Rule 4.12: a node's control frame has a byte for each of its sending modules, and a node without any has no control frame.
-unfoldable pub controlPayload : Plan → ℕ → ℕ
-controlPayload p n = length (sendersOn p n)
-
-unfoldable pub isSendingNode : Plan → ℕ → Bool
-isSendingNode p n = ltb 0 (controlPayload p n)
-
-unfoldable pub sendingNodes : Plan → List ℕ
-sendingNodes p = keep (isSendingNode p) (upTo (p .nodes))
-
--- An invocation of a bus task: the task, the invocation's period T, the task's worst time w.
-pub record Run : Type 0 where
-  pub task : ℕ
-  pub period : ℕ
-  pub worst : ℕ
-
-unfoldable pub runOf : Plan → Invocation → Run
-runOf p i = record { task = i .task; period = periodOf p i; worst = theTask p (i .task) .worst }
-
-unfoldable pub ofBusTask : Plan → Invocation → Bool
-ofBusTask p i = isBusTask p (i .task)
-
-unfoldable pub busRuns : Plan → List Run
-busRuns p = map (runOf p) (keep (ofBusTask p) (p .invocations))
-
--- Rule 4.4: the bus period P is the least common multiple of the bus runs' periods.
-unfoldable pub withRun : Run → ℕ → ℕ
-withRun r m = lcm (r .period) m
-
-unfoldable pub periodOfRuns : List Run → ℕ
-periodOfRuns rs = foldr withRun 1 rs
-
-unfoldable pub busPeriod : Plan → ℕ
-busPeriod p = periodOfRuns (busRuns p)
-
--- Rule 4.5: the grid G is the greatest common divisor of periods and switch periods, over the modes of sending modules (reading 11).
-unfoldable pub withMode : Mode → ℕ → ℕ
-withMode μ g = gcd (μ .period) (gcd (μ .switch) g)
-
-unfoldable pub ofSender : Plan → Mode → Bool
-ofSender p μ = isSending p (μ .home)
-
-unfoldable pub switchGrid : Plan → ℕ
-switchGrid p = foldr withMode 0 (keep (ofSender p) (p .modes))
-
--- A message, and a frame: task, release, deadline.
-pub record Frame : Type 0 where
+-- A pair of task and deadline with its release (rule 4.7): a frame, as long as no two share one.
+pub record Pair : Type 0 where
   pub task : ℕ
   pub release : ℕ
   pub deadline : ℕ
 
--- Rule 4.6: message i of a run, i from 1 on to the last of the bus period; released w behind the end of the one before, due at its own end.
-unfoldable pub message : Run → ℕ → Frame
-message r i = record { task = r .task; release = (i - 1) * r .period + r .worst; deadline = i * r .period }
+-- the pair that a message would be alone
+unfoldable pub pairOf : Message → Pair
+pairOf m = record { task = m .task; release = m .release; deadline = m .deadline }
 
-unfoldable pub messagesOf : ℕ → Run → List Frame
-messagesOf period r = tab (message r) 1 (period / r .period)
-
-unfoldable pub messages : ℕ → List Run → List Frame
-messages period rs = joined (map (messagesOf period) rs)
-
--- Rule 4.9: frames stand by deadline, and by task within a deadline.
+-- Rule 4.9: pairs stand by deadline, and by task within a deadline.
 abbrev pub thenBy : Ordering → Ordering → Ordering
 thenBy Ordering·lt o = Ordering·lt
 thenBy Ordering·eq o = o
 thenBy Ordering·gt o = Ordering·gt
 
-unfoldable pub frameOrder : Frame → Frame → Ordering
-frameOrder a b = thenBy (compare (a .deadline) (b .deadline)) (compare (a .task) (b .task))
+unfoldable pub pairOrder : Pair → Pair → Ordering
+pairOrder a b = thenBy (compare (a .deadline) (b .deadline)) (compare (a .task) (b .task))
 
--- Rule 4.7: a message goes into the frame of its task and deadline, which is released with the last of its messages.
-unfoldable pub merged : Frame → Frame → Frame
+-- Rule 4.7: a message goes into the pair of its task and deadline, which is released with the last of its messages.
+unfoldable pub merged : Pair → Pair → Pair
 merged m f = record { task = f .task; release = max (m .release) (f .release); deadline = f .deadline }
 
-abbrev pub byOrder : Ordering → Frame → Frame → List Frame → List Frame → List Frame
+abbrev pub byOrder : Ordering → Pair → Pair → List Pair → List Pair → List Pair
 byOrder Ordering·lt m f fs inRest = m ∷ f ∷ fs
 byOrder Ordering·eq m f fs inRest = merged m f ∷ fs
 byOrder Ordering·gt m f fs inRest = f ∷ inRest
 
--- Rule 4.7: as many frames as pairs of task and deadline.
-unfoldable pub withMessage : Frame → List Frame → List Frame
-withMessage m [] = m ∷ []
-withMessage m (f ∷ fs) = byOrder (frameOrder m f) m f fs (withMessage m fs)
+unfoldable pub withPair : Pair → List Pair → List Pair
+withPair m [] = m ∷ []
+withPair m (f ∷ fs) = byOrder (pairOrder m f) m f fs (withPair m fs)
 
-unfoldable pub framesOf : List Frame → List Frame
-framesOf ms = foldr withMessage [] ms
+-- Rule 4.7: each pair of task and deadline once, by number.
+unfoldable pub pairsOf : List Message → List Pair
+pairsOf ms = foldr withPair [] (map pairOf ms)
 
-unfoldable pub frames : Plan → List Frame
-frames p = framesOf (messages (busPeriod p) (busRuns p))
+-- the pairs of a plan
+unfoldable pub pairs : Plan → List Pair
+pairs p = pairsOf (basic p .messages)
 
--- Rule 4.8: a frame has the size of one message.
-unfoldable pub payload : Plan → Frame → ℕ
-payload p f = theTask p (f .task) .size
+-- the modes that have a message of the pair
+unfoldable pub isIn : Pair → Message → Bool
+isIn f m = eqb (m .task) (f .task) && eqb (m .deadline) (f .deadline)
+
+abbrev pub modeOfMessage : Message → ℕ
+modeOfMessage m = m .mode
+
+unfoldable pub modesOf : List Message → Pair → List ℕ
+modesOf ms f = map modeOfMessage (keep (isIn f) ms)
+
+-- Rule 4.8: a pair has the size of one message.
+unfoldable pub pairSize : Plan → Pair → ℕ
+pairSize p f = theTask p (f .task) .size
+
+-- What a frame with these pairs has to carry: in a mode the messages that the mode has of them; of a module as much as one of its modes
+-- needs at most; and that of all modules together. Of one pair it is the pair's size.
+unfoldable pub hasOf : List Message → ℕ → Pair → Bool
+hasOf ms μ f = has ms μ (f .task) (f .deadline)
+
+unfoldable pub bytesIn : Plan → List Message → List Pair → ℕ → ℕ
+bytesIn p ms fs μ = sum (map (pairSize p) (keep (hasOf ms μ) fs))
+
+unfoldable pub isModeIn : Plan → ℕ → ℕ → Bool
+isModeIn p m μ = eqb (theMode p μ .home) m
+
+unfoldable pub block : Plan → List Message → List Pair → ℕ → ℕ
+block p ms fs m = greatest (map (bytesIn p ms fs) (keep (isModeIn p m) (upTo (length (p .modes)))))
+
+unfoldable pub payload : Plan → List Message → List Pair → ℕ
+payload p ms fs = sum (map (block p ms fs) (upTo (length (p .modules))))
 
 -- Bits on the bus in ticks: bits × 1000 / kbit/s, rounded up twice, to a tick and to the resolution (reading 14).
 unfoldable pub ticksOfBits : Bus → ℕ → ℕ
@@ -187,26 +132,52 @@ controlFits p n = leb (controlPayload p n) (p .bus .most)
 unfoldable pub payloadsFit : Plan → Bool
 payloadsFit p = all (messageFits p) (busTasks p) && all (controlFits p) (sendingNodes p)
 
--- What a plan asks of the bus: the plan, P, the control rows, C, and the frames by number.
+-- What placing and checking need of a plan, and nothing else: P, the gap time, the grid of starts (the resolution), C, the end that no row
+-- may pass, the control rows, the pairs by number; how long a row takes that holds some pairs, and which pairs may be in one row.
 pub record Layout : Type 0 where
-  pub plan : Plan
   pub period : ℕ
+  pub gap : ℕ
+  pub grid : ℕ
+  pub floor : ℕ
+  pub end : ℕ
   pub control : List ControlRow
-  pub afterControl : ℕ
-  pub frames : List Frame
+  pub pairs : List Pair
+  pub time : List Pair → ℕ
+  pub together : List Pair → Bool
+
+-- Rule 4.10, of a row: the sending time of what its pairs carry.
+unfoldable pub rowTime : Plan → List Message → List Pair → ℕ
+rowTime p ms fs = sendingTime (p .bus) (payload p ms fs)
+
+-- a row holds one pair
+abbrev pub isOne : List Pair → Bool
+isOne [] = false
+isOne (f ∷ []) = true
+isOne (f ∷ g ∷ fs) = false
 
 unfoldable pub layoutOf : Plan → Layout
 layoutOf p =
-    record { plan = p; period = busPeriod p; control = controlRows p; afterControl = controlEnd p; frames = frames p }
+    let t = basic p in
+    record {
+      period = t .period;
+      gap = gapTime (p .bus);
+      grid = p .bus .resolution;
+      floor = controlEnd p;
+      end = t .period;
+      control = controlRows p;
+      pairs = pairsOf (t .messages);
+      time = rowTime p (t .messages);
+      together = isOne;
+    }
 
 -- Refusals 6 to 11, each at 0: there is a bus task; P divides G; the resolution divides P; not too many frames; no payload too
 -- large; the control rows with their gap end within P.
 unfoldable pub layout : Plan → Res Layout
 layout p = do
   unless 6 0 (someBusTask p)
-  unless 7 0 (divides (busPeriod p) (switchGrid p))
-  unless 8 0 (divides (p .bus .resolution) (busPeriod p))
-  unless 9 0 (leb (length (frames p)) mostFrames)
+  unless 7 0 (divides (basic p .period) (basic p .grid))
+  unless 8 0 (divides (p .bus .resolution) (basic p .period))
+  unless 9 0 (leb (length (pairs p)) mostFrames)
   unless 10 0 (payloadsFit p)
-  unless 11 0 (leb (controlEnd p) (busPeriod p))
+  unless 11 0 (leb (controlEnd p) (basic p .period))
   ok (layoutOf p)

@@ -8,7 +8,7 @@ use Prim.Native.Nat.{ℕ}
 use Rattle.laws.specs.Res.{Res, ok, _>>=_}
 use Rattle.laws.specs.Lists.{any}
 use Rattle.rules.specs.Plan.{Connection, Plan, theTask}
-use Rattle.rules.specs.Frames.{taskNode}
+use Rattle.rules.specs.Traffic.{taskNode}
 use Rattle.rules.specs.Playing.{Input, periodIn}
 use Rattle.rules.specs.Station.{Kept, State, step}
 use Rattle.rules.specs.OneBoard.{value}

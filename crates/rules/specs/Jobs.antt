@@ -9,7 +9,7 @@ use Rattle.laws.specs.Res.{Res, ok, refuse}
 use Rattle.laws.specs.Lists.{joined}
 use Rattle.rules.specs.Records.{Rec}
 use Rattle.rules.specs.Plan.{Plan, numbersAreWithin, readPlan}
-use Rattle.rules.specs.Frames.{busRuns, busPeriod, messages}
+use Rattle.rules.specs.Traffic.{basic}
 use Rattle.rules.specs.Table.{recordBytes, FrameRow, zeroRow, Made, make}
 use Rattle.rules.specs.Checker.{Checked, check}
 
@@ -71,7 +71,7 @@ abbrev pub checksTo : Checked → Res (Unit {0}) → List FrameRow → Bool
 checksTo c answer rows = sameAnswer anyValue (c .answer) answer && sameLists sameFrameRow (c .rows) rows
 
 abbrev pub countsMessages : Res Plan → ℕ → Bool
-countsMessages (ok p) n = eqb (length (messages (busPeriod p) (busRuns p))) n
+countsMessages (ok p) n = eqb (length (basic p .messages)) n
 countsMessages (refuse m q) n = false
 
 abbrev pub holds : Entry → Bool
@@ -492,7 +492,7 @@ ownEntries =
     ∷ notMade (planAWith 12 1 0) plenty 6 0  -- 6
     ∷ notMade (planAWith 5 2 20000) plenty 7 0  -- 7
     ∷ notMade (file (recordsMany 256)) plenty 9 0  -- 9
-    ∷ notMade (file (recordsMany 255)) plenty 12 254  -- 256 frames are allowed
+    ∷ notMade (file (recordsMany 255)) plenty 12 254  -- 256 pairs are allowed
     ∷ notMade (planAWith 0 3 3) plenty 10 0  -- 10: a message
     ∷ notMade (file (changed (recordsS 0 1 1 4) 0 3 1)) plenty 10 0  -- 10: a control payload, of two sending modules
     ∷ notMade (file (changed (recordsMany 5) 0 1 5)) plenty 11 0  -- 11
@@ -509,11 +509,11 @@ ownEntries =
     ∷ fails planA (tableAWith 0 (rec 16 (60000 ∷ 1 ∷ 5 ∷ []))) 21 0
     ∷ fails planA (file (rec 16 (60000 ∷ 1 ∷ 4 ∷ []) ∷ [])) 21 0  -- 21: a table without rows is well formed
     ∷ fails planA (tableAWith 1 (rec 17 (0 ∷ 0 ∷ 73 ∷ []))) 22 1  -- 22
-    ∷ fails planA (tableAWith 2 (rec 18 (0 ∷ 20001 ∷ 19904 ∷ 20000 ∷ []))) 23 2  -- 23: no frame
+    ∷ fails planA (tableAWith 2 (rec 18 (0 ∷ 20001 ∷ 19904 ∷ 20000 ∷ []))) 23 2  -- 23: no pair
     ∷ fails planA (tableAWith 3 (rec 18 (0 ∷ 20000 ∷ 29904 ∷ 30000 ∷ []))) 23 3  -- 23: one already named, the later row
     ∷ fails planA (tableAWith 2 (rec 18 (0 ∷ 20000 ∷ 19904 ∷ 19999 ∷ []))) 24 2  -- 24: sending time
     ∷ fails (file (recordsS 0 4 2 4)) tableOff 24 2  -- 24: resolution
-    ∷ fails planA (tableAWith 5 (rec 18 (0 ∷ 60000 ∷ 40999 ∷ 41095 ∷ []))) 25 5  -- 25: a frame shared by two modes has the greater release
+    ∷ fails planA (tableAWith 5 (rec 18 (0 ∷ 60000 ∷ 40999 ∷ 41095 ∷ []))) 25 5  -- 25: a pair shared by two modes has the greater release
     ∷ passes planA (tableAWith 5 (rec 18 (0 ∷ 60000 ∷ 41000 ∷ 41096 ∷ []))) (framesA 19904 29904 39904 41000)
     ∷ fails (file (changed (changed recordsA 9 2 3) 10 2 2)) (tableAWith 5 (rec 18 (0 ∷ 60000 ∷ 40999 ∷ 41095 ∷ []))) 25 5  -- the modes the other way round
     ∷ fails planA tableTwoFaults 25 5  -- a lower number goes before a lower record

@@ -7,45 +7,45 @@ use Prim.Native.Nat.{ℕ, zero, suc, _-_, min, max}
 use Rattle.laws.specs.Res.{Res, ok, refuse}
 use Rattle.laws.specs.Lists.{keep}
 use Rattle.laws.specs.Numbers.{down}
-use Rattle.rules.specs.Frames.{Frame, Layout, payload, sendingTime, gapTime}
+use Rattle.rules.specs.Frames.{Pair, Layout}
 
 -- A frame with its number.
 pub record Numbered : Type 0 where
   pub number : ℕ
-  pub frame : Frame
+  pub pair : Pair
 
-unfoldable pub numberedFrom : ℕ → List Frame → List Numbered
+unfoldable pub numberedFrom : ℕ → List Pair → List Numbered
 numberedFrom k [] = []
-numberedFrom k (f ∷ fs) = record { number = k; frame = f } ∷ numberedFrom (suc k) fs
+numberedFrom k (f ∷ fs) = record { number = k; pair = f } ∷ numberedFrom (suc k) fs
 
 -- A frame with its number and its start.
 pub record Placed : Type 0 where
   pub number : ℕ
-  pub frame : Frame
+  pub pair : Pair
   pub start : ℕ
 
-abbrev pub noFrame : Frame
-noFrame = record { task = 0; release = 0; deadline = 0 }
+abbrev pub noPair : Pair
+noPair = record { task = 0; release = 0; deadline = 0 }
 
 abbrev pub noNumbered : Numbered
-noNumbered = record { number = 0; frame = noFrame }
+noNumbered = record { number = 0; pair = noPair }
 
 -- the greatest deadline of the frames left (rule 5.2)
 unfoldable pub withDeadline : Numbered → ℕ → ℕ
-withDeadline x d = max (x .frame .deadline) d
+withDeadline x d = max (x .pair .deadline) d
 
 unfoldable pub greatestDeadline : List Numbered → ℕ
 greatestDeadline xs = foldr withDeadline 0 xs
 
 -- Rule 5.3: candidates are the frames left whose deadline is not below e.
 unfoldable pub isCandidate : ℕ → Numbered → Bool
-isCandidate e x = leb e (x .frame .deadline)
+isCandidate e x = leb e (x .pair .deadline)
 
 -- Rule 5.4: x is later than y: released later, or at the same time with a higher number.
 unfoldable pub isLater : Numbered → Numbered → Bool
 isLater x y =
-    ltb (y .frame .release) (x .frame .release)
-    || (eqb (y .frame .release) (x .frame .release) && ltb (y .number) (x .number))
+    ltb (y .pair .release) (x .pair .release)
+    || (eqb (y .pair .release) (x .pair .release) && ltb (y .number) (x .number))
 
 unfoldable pub latestOf : Numbered → List Numbered → Numbered
 latestOf x [] = x
@@ -58,7 +58,7 @@ latest (x ∷ xs) = latestOf x xs
 unfoldable pub isOther : ℕ → Numbered → Bool
 isOther k x = not (eqb (x .number) k)
 
-module _ (resolution gap floor : ℕ) (sending : Frame → ℕ) where
+module _ (resolution gap floor : ℕ) (sending : Pair → ℕ) where
   -- Rule 5.2: the end, lowered to the greatest deadline left.
   unfoldable pub lowered : ℕ → List Numbered → ℕ
   lowered e left = min e (greatestDeadline left)
@@ -68,11 +68,11 @@ module _ (resolution gap floor : ℕ) (sending : Frame → ℕ) where
   taken e left = latest (keep (isCandidate e) left)
 
   -- Rule 5.5: the highest start on the resolution from which the frame is sent by e.
-  unfoldable pub startOf : ℕ → Frame → ℕ
+  unfoldable pub startOf : ℕ → Pair → ℕ
   startOf e f = down resolution (e - sending f)
 
   -- Rule 5.6: there is such a start, and it lies neither before the release nor before C, which is `floor` here.
-  unfoldable pub fits : ℕ → Frame → Bool
+  unfoldable pub fits : ℕ → Pair → Bool
   fits e f = leb (sending f) e && (leb (f .release) (startOf e f) && leb floor (startOf e f))
 
   -- The rule over n frames left, from the end e down. `done` are the frames placed so far, the last placed in front, so they stand
@@ -82,22 +82,18 @@ module _ (resolution gap floor : ℕ) (sending : Frame → ℕ) where
   place (suc n) e left done =
       let end = lowered e left in
       let x = taken end left in
-      elim (fits end (x .frame)) [
-        | true ↦ place n (startOf end (x .frame) - gap) (keep (isOther (x .number)) left)
-            (record { number = x .number; frame = x .frame; start = startOf end (x .frame) } ∷ done)
+      elim (fits end (x .pair)) [
+        | true ↦ place n (startOf end (x .pair) - gap) (keep (isOther (x .number)) left)
+            (record { number = x .number; pair = x .pair; start = startOf end (x .pair) } ∷ done)
         | false ↦ refuse 12 (x .number)
       ]
 
--- Rule 5.1: the first end is P.
-unfoldable pub firstEnd : Layout → ℕ
-firstEnd l = l .period
+-- the sending time of a row that holds one pair
+unfoldable pub timeAlone : Layout → Pair → ℕ
+timeAlone l f = l .time (f ∷ [])
 
--- the sending time of a frame
-unfoldable pub frameTime : Layout → Frame → ℕ
-frameTime l f = sendingTime (l .plan .bus) (payload (l .plan) f)
-
--- The starts that the latest-release rule gives, by start; or refusal 12 at the number of the frame that it could not place.
+-- The starts that the latest-release rule gives, by start; or refusal 12 at the number of the pair that it could not place. Rule 5.1: the
+-- first end is that of the layout.
 unfoldable pub latestRelease : Layout → Res (List Placed)
 latestRelease l =
-    place (l .plan .bus .resolution) (gapTime (l .plan .bus)) (l .afterControl) (frameTime l)
-    (length (l .frames)) (firstEnd l) (numberedFrom 0 (l .frames)) []
+    place (l .grid) (l .gap) (l .floor) (timeAlone l) (length (l .pairs)) (l .end) (numberedFrom 0 (l .pairs)) []

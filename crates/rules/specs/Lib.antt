@@ -1,6 +1,7 @@
 pub mod Limits
 pub mod Records
 pub mod Plan
+pub mod Traffic
 pub mod Frames
 pub mod LatestRelease
 pub mod RuleSteps
@@ -14,5 +15,6 @@ pub mod OneBoard
 pub mod Obeys
 pub mod ObeysPlan
 pub mod History
+pub mod Heard
 pub mod Told
 pub mod Allowed

@@ -1,18 +1,19 @@
 -- What it means that the rules of docs/RULES.md are kept: records of propositions, one field for each rule.
 use mathlib.Core.Path.{_≡_}
 use mathlib.Core.Bool.{Bool, true, false}
-use mathlib.Core.List.{List, [], _∷_, _++_}
+use mathlib.Core.List.{List, [], _∷_, _++_, map, List·Memᴰ}
 use mathlib.Core.Option.{Option, none, some}
 use lib.ListN.{length, getD, take}
 use Prim.Native.Nat.{ℕ, suc, _+_, _^_, _≤_, _<_, _∣_}
 use Rattle.laws.specs.Res.{ok, refuse}
 use Rattle.laws.specs.Faults.{Rule, BreaksAt, AllKept, FirstFault}
+use Rattle.laws.specs.Lists.{joined}
 use Rattle.rules.specs.Records.{Rec, known, bodyLength, recordOf, tableFollows}
 use Rattle.rules.specs.Plan.{Plan, readPlan}
-use Rattle.rules.specs.Frames.{Frame, Layout, layout, gapTime}
-use Rattle.rules.specs.LatestRelease.{Placed, noFrame, frameTime, latestRelease}
-use Rattle.rules.specs.Table.{tableBytes}
-use Rattle.rules.specs.Checker.{TableRead, tableOf, controlAt, rowAt, stopBefore, firstRow, Passed, checkFiles}
+use Rattle.rules.specs.Frames.{Pair, Layout, layout}
+use Rattle.rules.specs.LatestRelease.{Numbered, Placed, noPair, latestRelease}
+use Rattle.rules.specs.Table.{PlacedRow, heldIn, pairsIn, alone, tableBytes}
+use Rattle.rules.specs.Checker.{Named, TableRead, tableOf, controlAt, rowAt, stopBefore, firstRow, Passed, checkFiles}
 use Rattle.rules.specs.Playing.{modulePlaces, taskPlaces, Input}
 use Rattle.rules.specs.Station.{Kept, keptOf, State, stateAtStart, runPeriod, taskAge, runAge, Begun}
 
@@ -52,50 +53,61 @@ pub data BreakRecords (follows : ℕ → ℕ → Bool) : ℕ → ℕ → List �
 
 -- ---- tables
 
--- the frame with this number
-unfoldable pub frameAt : Layout → ℕ → Frame
-frameAt l f = getD (l .frames) f noFrame
+-- the pair with this number
+unfoldable pub pairAt : Layout → ℕ → Pair
+pairAt l f = getD (l .pairs) f noPair
 
--- The k-th data row names frame f: it has its task and its deadline.
-pub record NamesFrame (l : Layout) (t : TableRead) (k f : ℕ) : Type 0 where
-  pub there : f < length (l .frames)
-  pub task : rowAt t k .task ≡ frameAt l f .task
-  pub deadline : rowAt t k .deadline ≡ frameAt l f .deadline
+-- A name stands for pair f: it has its task and its deadline.
+pub record Names (l : Layout) (n : Named) (f : ℕ) : Type 0 where
+  pub there : f < length (l .pairs)
+  pub task : n .task ≡ pairAt l f .task
+  pub deadline : n .deadline ≡ pairAt l f .deadline
+
+-- the k-th data row holds the pair of this name
+abbrev pub Holds : TableRead → ℕ → Named → Type 0
+Holds t k n = List·Memᴰ n (rowAt t k .holds)
+
+-- names that stand for these pairs, one after the other
+pub data NamesAll (l : Layout) : List Named → List Pair → Type 0 where
+  noName : NamesAll l [] []
+  oneName : {n : Named} {f : ℕ} {ns : List Named} {fs : List Pair} → Names l n f → NamesAll l ns fs → NamesAll l (n ∷ ns) (pairAt l f ∷ fs)
 
 -- 21: the head's period is P; its counts, and the rows present, are as many as the plan gives.
 pub record HeaderIsRight (l : Layout) (t : TableRead) : Type 0 where
   pub period : t .period ≡ l .period
   pub controls : t .controls ≡ length (l .control)
-  pub datas : t .datas ≡ length (l .frames)
+  pub datas : t .datas ≡ length (l .pairs)
   pub controlRows : length (t .control) ≡ length (l .control)
-  pub dataRows : length (t .rows) ≡ length (l .frames)
+  pub dataRows : length (t .rows) ≡ length (l .pairs)
 
 -- 22: the control row is the one that the plan fixes.
 abbrev pub IsFixed : Layout → TableRead → ℕ → Type 0
 IsFixed l t k = controlAt (t .control) k ≡ controlAt (l .control) k
 
--- 23: the data row names a frame, and none that a row before it names.
+-- 23: each name of the data row stands for a pair, and for none that a row before it holds; and its pairs may be in one row.
 pub record NamesNew (l : Layout) (t : TableRead) (k : ℕ) : Type 0 where
-  pub frame : ℕ
-  pub names : NamesFrame l t k frame
-  pub new : (j : ℕ) → j < k → rowAt t j .task ≡ rowAt t k .task → rowAt t j .deadline ≡ rowAt t k .deadline → ⊥
+  pub pairs : List Pair
+  pub names : NamesAll l (rowAt t k .holds) pairs
+  pub new :
+      (n m : Named) (j : ℕ) → Holds t k n → j < k → Holds t j m → m .task ≡ n .task → m .deadline ≡ n .deadline → ⊥
+  pub together : l .together pairs ≡ true
 
--- 24: stop is start plus sending time, and start is on the resolution.
+-- 24: stop is start plus the sending time of what the row holds, and start is on the grid.
 pub record TimeIsRight (l : Layout) (t : TableRead) (k : ℕ) : Type 0 where
-  pub stop : (f : ℕ) → NamesFrame l t k f → rowAt t k .stop ≡ rowAt t k .start + frameTime l (frameAt l f)
-  pub grid : l .plan .bus .resolution ∣ rowAt t k .start
+  pub stop : (fs : List Pair) → NamesAll l (rowAt t k .holds) fs → rowAt t k .stop ≡ rowAt t k .start + l .time fs
+  pub grid : l .grid ∣ rowAt t k .start
 
--- 25: start is not before release.
+-- 25: start is not before the release of a pair that the row holds.
 abbrev pub IsReleased : Layout → TableRead → ℕ → Type 0
-IsReleased l t k = (f : ℕ) → NamesFrame l t k f → frameAt l f .release ≤ rowAt t k .start
+IsReleased l t k = (n : Named) (f : ℕ) → Holds t k n → Names l n f → pairAt l f .release ≤ rowAt t k .start
 
--- 26: stop is not after deadline.
+-- 26: stop is not after the deadline of a pair that the row holds.
 abbrev pub IsInTime : TableRead → ℕ → Type 0
-IsInTime t k = rowAt t k .stop ≤ rowAt t k .deadline
+IsInTime t k = (n : Named) → Holds t k n → rowAt t k .stop ≤ n .deadline
 
 -- 27: the data row starts a gap or more behind the stop of the row before it; before the first stands the last control row.
 abbrev pub IsSpaced : Layout → TableRead → ℕ → Type 0
-IsSpaced l t k = stopBefore t k + gapTime (l .plan .bus) ≤ rowAt t k .start
+IsSpaced l t k = stopBefore t k + l .gap ≤ rowAt t k .start
 
 -- What a table must keep to pass: 21 to 27.
 pub record ObeysTable (l : Layout) (t : TableRead) : Type 0 where
@@ -170,6 +182,51 @@ pub record BrokenAt (plan table : List ℕ) (i p : ℕ) : Type 0 where
 
 -- ---- what is made
 
+-- a numbered pair is the layout's pair of that number
+pub record IsPair (l : Layout) (x : Numbered) : Type 0 where
+  pub there : x .number < length (l .pairs)
+  pub is : pairAt l (x .number) ≡ x .pair
+
+-- the row holds the pair
+abbrev pub Carries : PlacedRow → Numbered → Type 0
+Carries r x = List·Memᴰ x (heldIn r)
+
+-- where a placed row stops
+unfoldable pub stopOf : Layout → PlacedRow → ℕ
+stopOf l r = r .start + l .time (pairsIn r)
+
+-- What a placed row must keep: its pairs are the layout's and may be in one row; it starts on the grid, not before C nor before the release
+-- of one of its pairs, and stops by the deadline of each and by the end.
+pub record RowPlacedWell (l : Layout) (r : PlacedRow) : Type 0 where
+  pub known : (x : Numbered) → Carries r x → IsPair l x
+  pub together : l .together (pairsIn r) ≡ true
+  pub onGrid : l .grid ∣ r .start
+  pub behindControl : l .floor ≤ r .start
+  pub released : (x : Numbered) → Carries r x → x .pair .release ≤ r .start
+  pub inTime : (x : Numbered) → Carries r x → stopOf l r ≤ x .pair .deadline
+  pub byEnd : stopOf l r ≤ l .end
+
+-- each row starts a gap or more behind the stop of the one before it
+pub data Spaced (l : Layout) : List PlacedRow → Type 0 where
+  noRow : Spaced l []
+  oneRow : {r : PlacedRow} → Spaced l (r ∷ [])
+  nextRow : {r s : PlacedRow} {rs : List PlacedRow} → stopOf l r + l .gap ≤ s .start → Spaced l (s ∷ rs) → Spaced l (r ∷ s ∷ rs)
+
+-- the numbers of the pairs that the rows hold
+abbrev pub numberOfPair : Numbered → ℕ
+numberOfPair x = x .number
+
+unfoldable pub numbersIn : List PlacedRow → List ℕ
+numbersIn rows = map numberOfPair (joined (map heldIn rows))
+
+-- What a placing must keep so that its table passes, whatever rule gave it: every row is placed well, the rows are spaced, and each pair is
+-- in exactly one of them: in some, and together they hold no more than there are.
+pub record PlacedWell (l : Layout) (rows : List PlacedRow) : Type 0 where
+  pub rowsWell : (r : PlacedRow) → List·Memᴰ r rows → RowPlacedWell l r
+  pub spaced : Spaced l rows
+  pub some : (f : ℕ) → f < length (l .pairs) → List·Memᴰ f (numbersIn rows)
+  pub once : length (numbersIn rows) ≡ length (l .pairs)
+
 -- What `make` needs to give a table of n bytes: the plan passes 1 to 11, the latest-release rule places every frame, and the table fits.
 pub record MakesTable (plan : List ℕ) (room n : ℕ) : Type 0 where
   pub read : Plan
@@ -178,8 +235,8 @@ pub record MakesTable (plan : List ℕ) (room n : ℕ) : Type 0 where
   pub isLaid : layout read ≡ ok laid
   pub placed : List Placed
   pub rule : latestRelease laid ≡ ok placed
-  pub fits : length (tableBytes laid placed) ≤ room
-  pub long : length (tableBytes laid placed) ≡ n
+  pub fits : length (tableBytes laid (map alone placed)) ≤ room
+  pub long : length (tableBytes laid (map alone placed)) ≡ n
 
 -- Number n at p is the first fault: 1 to 5, 6 to 11, the rule's refusal (12), the room's (13).
 pub data MakeFault (plan : List ℕ) (room n p : ℕ) : Type 0 where
@@ -189,15 +246,15 @@ pub data MakeFault (plan : List ℕ) (room n p : ℕ) : Type 0 where
       {q : Plan} {l : Layout} → readPlan plan ≡ ok q → layout q ≡ ok l → latestRelease l ≡ refuse n p → MakeFault plan room n p
   inRoom :
       {q : Plan} {l : Layout} {placed : List Placed} → readPlan plan ≡ ok q → layout q ≡ ok l → latestRelease l ≡ ok placed →
-      room < length (tableBytes l placed) → n ≡ 13 → p ≡ length (tableBytes l placed) → MakeFault plan room n p
+      room < length (tableBytes l (map alone placed)) → n ≡ 13 → p ≡ length (tableBytes l (map alone placed)) → MakeFault plan room n p
 
 -- The plan passes 1 to 11, and the latest-release rule refuses at this frame.
-pub record RuleRefuses (plan : List ℕ) (frame : ℕ) : Type 0 where
+pub record RuleRefuses (plan : List ℕ) (pair : ℕ) : Type 0 where
   pub read : Plan
   pub isRead : readPlan plan ≡ ok read
   pub laid : Layout
   pub isLaid : layout read ≡ ok laid
-  pub rule : latestRelease laid ≡ refuse 12 frame
+  pub rule : latestRelease laid ≡ refuse 12 pair
 
 -- ---- ticks
 

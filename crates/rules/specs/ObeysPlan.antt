@@ -22,7 +22,8 @@ use Rattle.rules.specs.Plan.{
   firstMode,
   firstInvocation,
 }
-use Rattle.rules.specs.Frames.{taskNode, busPeriod, switchGrid, frames, controlPayload, controlEnd}
+use Rattle.rules.specs.Traffic.{taskNode, busPeriod, switchGrid, controlPayload}
+use Rattle.rules.specs.Frames.{pairs, controlEnd}
 use Rattle.rules.specs.Obeys.{AreRecords, BreakRecords}
 
 -- ---- reading a plan (2 to 5)
@@ -141,7 +142,7 @@ layoutRules p =
     once 6 0 (SomeBusTask p)
     ∷ once 7 0 (busPeriod p ∣ switchGrid p)
     ∷ once 8 0 (p .bus .resolution ∣ busPeriod p)
-    ∷ once 9 0 (length (frames p) ≤ mostFrames)
+    ∷ once 9 0 (length (pairs p) ≤ mostFrames)
     ∷ once 10 0 (PayloadsFit p)
     ∷ once 11 0 (controlEnd p ≤ busPeriod p)
     ∷ []

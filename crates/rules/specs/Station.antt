@@ -1,22 +1,25 @@
 -- docs/RULES.md, section 8: what a station keeps, its state, refusals 41 to 44, the six steps (a) to (f) of a tick, `begin` (readings
--- 22 to 34). All are numbers, or functions of the place of a node, module, mode, task or row; a period of 0 means none.
+-- 22 to 34). All are numbers, or functions of the place of a node, module, mode, task, row or pair; a period of 0 means none.
 use mathlib.Core.Bool.{Bool, true, false, cond, not, _&&_, _||_}
 use mathlib.Core.List.{List}
 use mathlib.Core.Option.{Option, none, some, Option·getD}
 use lib.Dec.{eqb, leb, ltb}
-use lib.ListN.{length}
+use lib.ListN.{length, getD}
 use Prim.Native.Nat.{ℕ, _+_, _-_, _%_, _^_}
 use Rattle.laws.specs.Res.{Res, ok, _>>=_, _>>_, at}
-use Rattle.laws.specs.Lists.{firstBad, firstWith, upTo}
+use Rattle.laws.specs.Lists.{any, firstBad, firstWith, upTo}
 use Rattle.laws.specs.Numbers.{divides}
 use Rattle.rules.specs.Plan.{theMode, theTask}
-use Rattle.rules.specs.Frames.{moduleNode, isBusTask, isSending, ControlRow}
+use Rattle.rules.specs.Traffic.{moduleNode, isSending, has}
+use Rattle.rules.specs.Frames.{Pair, ControlRow}
+use Rattle.rules.specs.LatestRelease.{noPair}
 use Rattle.rules.specs.Table.{DataRow}
-use Rattle.rules.specs.Checker.{controlAt, rowAt, Passed, checkFiles}
+use Rattle.rules.specs.Checker.{controlAt, Row, rowHolding, Passed, checkFiles}
 use Rattle.rules.specs.Playing.{modulePlaces, taskPlaces, Input, isGiven, periodIn}
 
--- Rule 8.2, what it copies: of the plan the modules, modes and tasks, the runs (`run mode task` is the invocation's period, or 0),
--- which tasks are bus tasks and which modules are sending; of the table P and the rows.
+-- Rule 8.2, what it copies: of the plan the modules, modes and tasks, the runs (`run mode task` is the invocation's period, or 0) and
+-- which modules are sending; of the table P, the control rows, and by number the pairs: each with start and stop of the row that it
+-- rides in, and with the modes that have its message (`pairHas pair mode`).
 pub record Kept : Type 0 where
   pub modules : ℕ
   pub modes : ℕ
@@ -30,22 +33,29 @@ pub record Kept : Type 0 where
   pub taskHome : ℕ → ℕ
   pub taskSize : ℕ → ℕ
   pub taskWorst : ℕ → ℕ
-  pub isBus : ℕ → Bool
   pub run : ℕ → ℕ → ℕ
   pub controls : ℕ
   pub controlNode : ℕ → ℕ
   pub controlStart : ℕ → ℕ
   pub controlStop : ℕ → ℕ
-  pub datas : ℕ
-  pub dataTask : ℕ → ℕ
-  pub dataDeadline : ℕ → ℕ
-  pub dataStart : ℕ → ℕ
-  pub dataStop : ℕ → ℕ
+  pub pairs : ℕ
+  pub pairTask : ℕ → ℕ
+  pub pairDeadline : ℕ → ℕ
+  pub pairStart : ℕ → ℕ
+  pub pairStop : ℕ → ℕ
+  pub pairHas : ℕ → ℕ → Bool
+
+-- the pair with this number, and the row that it rides in
+unfoldable pub passedPair : Passed → ℕ → Pair
+passedPair c q = getD (c .layout .pairs) q noPair
+
+unfoldable pub passedRow : Passed → ℕ → Row
+passedRow c q = rowHolding (c .table .rows) (passedPair c q)
 
 unfoldable pub keptOf : Passed → Kept
 keptOf c =
-    let p = c .layout .plan in
-    let rows = c .table in
+    let p = c .plan in
+    let control = c .table .control in
     record {
       modules = length (p .modules);
       modes = length (p .modes);
@@ -59,23 +69,23 @@ keptOf c =
       taskHome = λ t. theTask p t .home;
       taskSize = λ t. theTask p t .size;
       taskWorst = λ t. theTask p t .worst;
-      isBus = isBusTask p;
       run = periodIn p;
-      controls = length (rows .control);
-      controlNode = λ r. controlAt (rows .control) r .node;
-      controlStart = λ r. controlAt (rows .control) r .start;
-      controlStop = λ r. controlAt (rows .control) r .stop;
-      datas = length (rows .rows);
-      dataTask = λ r. rowAt rows r .task;
-      dataDeadline = λ r. rowAt rows r .deadline;
-      dataStart = λ r. rowAt rows r .start;
-      dataStop = λ r. rowAt rows r .stop;
+      controls = length control;
+      controlNode = λ r. controlAt control r .node;
+      controlStart = λ r. controlAt control r .start;
+      controlStop = λ r. controlAt control r .stop;
+      pairs = length (c .layout .pairs);
+      pairTask = λ q. passedPair c q .task;
+      pairDeadline = λ q. passedPair c q .deadline;
+      pairStart = λ q. passedRow c q .start;
+      pairStop = λ q. passedRow c q .stop;
+      pairHas = λ q μ. has (c .traffic .messages) μ (passedPair c q .task) (passedPair c q .deadline);
     }
 
 -- The state before a tick. Time by rule 8.6: `clock` is the bus time of the tick to come, 0 before the first and then 1 to P; `age`
 -- by module the time since its mode began, 0 at the first tick and then 1 to the mode's period. `given` by task: the run has had its
 -- result. `landed` and `shown` by node and task; `held` by node and module, the mode byte that the node holds. On the bus: `full` and
--- `load`, whether the data frame has a value and which; `modeByte`, the control frame's by module.
+-- `load` by task, whether the data frame has a value of the task and which; `modeByte`, the control frame's by module.
 pub record State : Type 0 where
   pub clock : ℕ
   pub mode : ℕ → ℕ
@@ -85,8 +95,8 @@ pub record State : Type 0 where
   pub landed : ℕ → ℕ → ℕ
   pub shown : ℕ → ℕ → ℕ
   pub held : ℕ → ℕ → ℕ
-  pub full : Bool
-  pub load : ℕ
+  pub full : ℕ → Bool
+  pub load : ℕ → ℕ
   pub modeByte : ℕ → ℕ
 
 -- Rule 8.4: before the first tick every place, out-box and mode byte is zero.
@@ -101,8 +111,8 @@ stateAtStart starting =
       landed = λ n t. 0;
       shown = λ n t. 0;
       held = λ n m. 0;
-      full = false;
-      load = 0;
+      full = λ t. false;
+      load = λ t. 0;
       modeByte = λ m. 0;
     }
 
@@ -183,16 +193,26 @@ hasTime times now r = eqb (times r) now
 unfoldable pub rowWith : (ℕ → ℕ) → ℕ → ℕ → Option ℕ
 rowWith times count now = firstWith (hasTime times now) (upTo count)
 
--- (b), rule 8.12, of a data frame: a value lands on every node but the sender's; an empty frame changes nothing.
-unfoldable pub landsOn : Kept → State → ℕ → ℕ → ℕ → Bool
-landsOn k s n t r = s .full && (eqb (k .dataTask r) t && not (eqb (homeNode k t) n))
+-- a pair of the task has this time; some pair of it has
+unfoldable pub isAt : Kept → (ℕ → ℕ) → ℕ → ℕ → ℕ → Bool
+isAt k times t now q = eqb (k .pairTask q) t && eqb (times q) now
 
-abbrev pub landedBy : Kept → State → ℕ → ℕ → Option ℕ → ℕ
-landedBy k s n t none = s .landed n t
-landedBy k s n t (some r) = cond (landsOn k s n t r) (s .load) (s .landed n t)
+unfoldable pub someAt : Kept → (ℕ → ℕ) → ℕ → ℕ → Bool
+someAt k times t now = any (isAt k times t now) (upTo (k .pairs))
+
+-- such a pair has a message in this mode
+unfoldable pub isSentAt : Kept → (ℕ → ℕ) → ℕ → ℕ → ℕ → ℕ → Bool
+isSentAt k times t now μ q = isAt k times t now q && k .pairHas q μ
+
+unfoldable pub someSentAt : Kept → (ℕ → ℕ) → ℕ → ℕ → ℕ → Bool
+someSentAt k times t now μ = any (isSentAt k times t now μ) (upTo (k .pairs))
+
+-- (b), rule 8.12, of a data frame: a value lands on every node but the sender's; an empty frame changes nothing.
+unfoldable pub landsOn : Kept → State → ℕ → ℕ → Bool
+landsOn k s n t = someAt k (k .pairStop) t (s .clock) && (s .full t && not (eqb (homeNode k t) n))
 
 unfoldable pub landedAfter : Kept → State → ℕ → ℕ → ℕ
-landedAfter k s n t = landedBy k s n t (rowWith (k .dataStop) (k .datas) (s .clock))
+landedAfter k s n t = cond (landsOn k s n t) (s .load t) (s .landed n t)
 
 -- (b), of a control frame: the bytes of its node's sending modules land on every other node.
 unfoldable pub isByteOf : Kept → ℕ → ℕ → Bool
@@ -209,9 +229,9 @@ heldAfter k s n m = heldBy k s n m (rowWith (k .controlStop) (k .controls) (s .c
 unfoldable pub endsNow : Kept → State → ℕ → Bool
 endsNow k s t = isRunning k s t && divides (runPeriod k s t) (taskAge k s t)
 
--- Rule 8.17: a message of the bus task in this mode has this deadline (reading 30).
+-- Rule 8.17: a message of the task in this mode has this deadline (reading 30).
 unfoldable pub hasMessage : Kept → ℕ → ℕ → ℕ → Bool
-hasMessage k t μ deadline = k .isBus t && (ltb 0 (k .run μ t) && divides (k .run μ t) deadline)
+hasMessage k t μ deadline = someSentAt k (k .pairDeadline) t deadline μ
 
 -- (c): where a run ends, the out-box is shown on the task's own node; elsewhere the landed value, if by the mode byte that the node holds
 -- there is a message with this deadline.
@@ -248,8 +268,8 @@ givenAfter k s i t =
 unfoldable pub startingControl : Kept → State → Option ℕ
 startingControl k s = rowWith (k .controlStart) (k .controls) (s .clock % k .period)
 
-unfoldable pub startingData : Kept → State → Option ℕ
-startingData k s = rowWith (k .dataStart) (k .datas) (s .clock % k .period)
+unfoldable pub startingPair : Kept → State → Option ℕ
+startingPair k s = rowWith (k .pairStart) (k .pairs) (s .clock % k .period)
 
 abbrev pub modeByteBy : Kept → State → Input → ℕ → Option ℕ → ℕ
 modeByteBy k s i m none = s .modeByte m
@@ -258,21 +278,19 @@ modeByteBy k s i m (some r) = cond (isByteOf k m r) (modeAfter s i m) (s .modeBy
 unfoldable pub modeByteAfter : Kept → State → Input → ℕ → ℕ
 modeByteAfter k s i m = modeByteBy k s i m (startingControl k s)
 
--- (f): a data frame takes the out-box if its sender's mode after (d) has the row's message; otherwise it is empty.
-abbrev pub fullBy : Kept → State → Input → Option ℕ → Bool
-fullBy k s i none = s .full
-fullBy k s i (some r) =
-    hasMessage k (k .dataTask r) (modeAfter s i (k .taskHome (k .dataTask r))) (k .dataDeadline r)
+-- (f): a data frame takes the out-box of a task if the task's mode after (d) has the message of a pair of it; otherwise it has no value
+-- of this task.
+unfoldable pub startsNow : Kept → State → ℕ → Bool
+startsNow k s t = someAt k (k .pairStart) t (s .clock % k .period)
 
-unfoldable pub fullAfter : Kept → State → Input → Bool
-fullAfter k s i = fullBy k s i (startingData k s)
+unfoldable pub isTaken : Kept → State → Input → ℕ → Bool
+isTaken k s i t = someSentAt k (k .pairStart) t (s .clock % k .period) (modeAfter s i (k .taskHome t))
 
-abbrev pub loadBy : Kept → State → Input → Option ℕ → ℕ
-loadBy k s i none = s .load
-loadBy k s i (some r) = outAfter s i (k .dataTask r)
+unfoldable pub fullAfter : Kept → State → Input → ℕ → Bool
+fullAfter k s i t = cond (startsNow k s t) (isTaken k s i t) (s .full t)
 
-unfoldable pub loadAfter : Kept → State → Input → ℕ
-loadAfter k s i = loadBy k s i (startingData k s)
+unfoldable pub loadAfter : Kept → State → Input → ℕ → ℕ
+loadAfter k s i t = cond (startsNow k s t) (outAfter s i t) (s .load t)
 
 -- The steps (a) to (f), at every tick, time 0 included.
 unfoldable pub tick : Kept → State → Input → State
@@ -301,16 +319,16 @@ unfoldable pub keptControl : Kept → ℕ → ControlRow
 keptControl k r = record { node = k .controlNode r; start = k .controlStart r; stop = k .controlStop r }
 
 unfoldable pub keptData : Kept → ℕ → DataRow
-keptData k r =
-    record { task = k .dataTask r; deadline = k .dataDeadline r; start = k .dataStart r; stop = k .dataStop r }
+keptData k q =
+    record { task = k .pairTask q; deadline = k .pairDeadline q; start = k .pairStart q; stop = k .pairStop q }
 
 abbrev pub startedBy : Kept → Option ℕ → Option ℕ → Started
 startedBy k (some r) d = control (keptControl k r)
-startedBy k none (some r) = message (keptData k r)
+startedBy k none (some q) = message (keptData k q)
 startedBy k none none = nothing
 
 unfoldable pub started : Kept → State → Started
-started k s = startedBy k (startingControl k s) (startingData k s)
+started k s = startedBy k (startingControl k s) (startingPair k s)
 
 pub record Ticked : Type 0 where
   pub row : Started

@@ -13,11 +13,11 @@ use Rattle.rules.specs.Station.{Kept, State, Ticked, step}
 unfoldable pub isBetween : ℕ → ℕ → ℕ → Bool
 isBetween low high x = leb low x && leb x high
 
--- counts as in a plan (rule 3.1); P as any period; a control row for each node at most, and as many data rows as frames
+-- counts as in a plan (rule 3.1); P as any period; a control row for each node at most, and as many pairs as frames
 unfoldable pub countsInRange : Kept → Bool
 countsInRange k =
     (isBetween 1 modulePlaces (k .modules) && (isBetween 1 modePlaces (k .modes) && isBetween 1 taskPlaces (k .tasks)))
-    && (isBetween 1 longestTime (k .period) && (leb (k .controls) nodePlaces && leb (k .datas) mostFrames))
+    && (isBetween 1 longestTime (k .period) && (leb (k .controls) nodePlaces && leb (k .pairs) mostFrames))
 
 unfoldable pub moduleInRange : Kept → ℕ → Bool
 moduleInRange k m = ltb (k .moduleNode m) nodePlaces
@@ -45,16 +45,16 @@ unfoldable pub controlInRange : Kept → ℕ → Bool
 controlInRange k r =
     ltb (k .controlNode r) nodePlaces && (leb (k .controlStart r) (k .period) && leb (k .controlStop r) (k .period))
 
-unfoldable pub dataInRange : Kept → ℕ → Bool
-dataInRange k r =
-    (ltb (k .dataTask r) (k .tasks) && leb (k .dataDeadline r) (k .period))
-    && (leb (k .dataStart r) (k .period) && leb (k .dataStop r) (k .period))
+unfoldable pub pairInRange : Kept → ℕ → Bool
+pairInRange k q =
+    (ltb (k .pairTask q) (k .tasks) && leb (k .pairDeadline q) (k .period))
+    && (leb (k .pairStart q) (k .period) && leb (k .pairStop q) (k .period))
 
 unfoldable pub keptInRange : Kept → Bool
 keptInRange k =
     (countsInRange k && (all (moduleInRange k) (upTo modulePlaces) && all (modeInRange k) (upTo modePlaces)))
     && ((all (taskInRange k) (upTo taskPlaces) && all (runsInRange k) (upTo modePlaces))
-    && (all (controlInRange k) (upTo nodePlaces) && all (dataInRange k) (upTo mostFrames)))
+    && (all (controlInRange k) (upTo nodePlaces) && all (pairInRange k) (upTo mostFrames)))
 
 -- the mode that runs is one of the module's own, and its age at most its period; a mode byte is a mode's
 unfoldable pub playInRange : Kept → State → ℕ → Bool
@@ -67,7 +67,7 @@ unfoldable pub isValue : ℕ → Bool
 isValue v = ltb v (2 ^ 64)
 
 unfoldable pub boxInRange : State → ℕ → Bool
-boxInRange s t = isValue (s .out t)
+boxInRange s t = isValue (s .out t) && isValue (s .load t)
 
 unfoldable pub placeInRange : State → ℕ → ℕ → Bool
 placeInRange s n t = isValue (s .landed n t) && isValue (s .shown n t)
@@ -80,7 +80,7 @@ nodeInRange k s n = all (placeInRange s n) (upTo taskPlaces) && all (byteInRange
 
 unfoldable pub stateInRange : Kept → State → Bool
 stateInRange k s =
-    (leb (s .clock) (k .period) && isValue (s .load))
+    leb (s .clock) (k .period)
     && (all (playInRange k s) (upTo modulePlaces)
     && (all (boxInRange s) (upTo taskPlaces) && all (nodeInRange k s) (upTo nodePlaces)))
 

@@ -1,17 +1,17 @@
 -- docs/RULES.md, section 6: the table's bytes, refusals 13 and 19, and `make` with what was lent, on every outcome (readings 16 and 17).
-use mathlib.Core.Bool.{true, false, cond}
+use mathlib.Core.Bool.{Bool, true, false, cond}
 use mathlib.Core.List.{List, [], _∷_, _++_, map}
 use lib.Dec.{eqb, leb}
 use lib.ListN.{length, drop, replicate}
 use Prim.Native.Nat.{ℕ, suc, _+_, _-_}
 use Rattle.laws.specs.Res.{Res, ok, refuse, _>>=_, _>>_, unless}
-use Rattle.laws.specs.Lists.{joined}
+use Rattle.laws.specs.Lists.{any, joined}
 use Rattle.laws.specs.Numbers.{bytes}
 use Rattle.rules.specs.Records.{Field, width, fields}
 use Rattle.rules.specs.Plan.{readPlan}
 use Rattle.rules.specs.Limits.{mostFrames}
-use Rattle.rules.specs.Frames.{Frame, ControlRow, Layout, layout}
-use Rattle.rules.specs.LatestRelease.{Placed, latestRelease, frameTime}
+use Rattle.rules.specs.Frames.{Pair, ControlRow, Layout, layout}
+use Rattle.rules.specs.LatestRelease.{Numbered, Placed, latestRelease}
 
 -- a body's numbers as bytes, by the kind's fields
 abbrev pub encoded : List Field → List ℕ → List ℕ
@@ -22,20 +22,39 @@ encoded (f ∷ fs) (x ∷ xs) = bytes (width f) x ++ encoded fs xs
 unfoldable pub recordBytes : ℕ → List ℕ → List ℕ
 recordBytes kind numbers = kind ∷ encoded (fields kind) numbers
 
--- A data row of a table.
+-- A data row as its record (kind 18) says it: task and deadline of the pair that opens it, start and stop.
 pub record DataRow : Type 0 where
   pub task : ℕ
   pub deadline : ℕ
   pub start : ℕ
   pub stop : ℕ
 
-unfoldable pub dataRow : Layout → Placed → DataRow
-dataRow l x =
+-- A placed row: the pairs that it holds, by number, the one that opens it in front; and its start.
+pub record PlacedRow : Type 0 where
+  pub opens : Numbered
+  pub others : List Numbered
+  pub start : ℕ
+
+abbrev pub pairOfNumbered : Numbered → Pair
+pairOfNumbered x = x .pair
+
+unfoldable pub heldIn : PlacedRow → List Numbered
+heldIn r = r .opens ∷ r .others
+
+unfoldable pub pairsIn : PlacedRow → List Pair
+pairsIn r = map pairOfNumbered (heldIn r)
+
+-- each pair in a row of its own: what the latest-release rule gives
+unfoldable pub alone : Placed → PlacedRow
+alone x = record { opens = record { number = x .number; pair = x .pair }; others = []; start = x .start }
+
+unfoldable pub dataRow : Layout → PlacedRow → DataRow
+dataRow l r =
     record {
-      task = x .frame .task;
-      deadline = x .frame .deadline;
-      start = x .start;
-      stop = x .start + frameTime l (x .frame);
+      task = r .opens .pair .task;
+      deadline = r .opens .pair .deadline;
+      start = r .start;
+      stop = r .start + l .time (pairsIn r);
     }
 
 unfoldable pub headerBytes : ℕ → ℕ → ℕ → List ℕ
@@ -48,10 +67,10 @@ unfoldable pub dataBytes : DataRow → List ℕ
 dataBytes r = recordBytes 18 (r .task ∷ r .deadline ∷ r .start ∷ r .stop ∷ [])
 
 -- Rules 2.6 and 6.34: the head with P and the numbers of rows, the control rows, the data rows by start, the end.
-unfoldable pub tableBytes : Layout → List Placed → List ℕ
-tableBytes l placed =
-    headerBytes (l .period) (length (l .control)) (length placed)
-    ++ (joined (map controlBytes (l .control)) ++ (joined (map dataBytes (map (dataRow l) placed)) ++ (0 ∷ [])))
+unfoldable pub tableBytes : Layout → List PlacedRow → List ℕ
+tableBytes l rows =
+    headerBytes (l .period) (length (l .control)) (length rows)
+    ++ (joined (map controlBytes (l .control)) ++ (joined (map dataBytes (map (dataRow l) rows)) ++ (0 ∷ [])))
 
 -- A frame row (rule 4.15): task, release, deadline, and the start that the table gives.
 pub record FrameRow : Type 0 where
@@ -63,16 +82,19 @@ pub record FrameRow : Type 0 where
 abbrev pub zeroRow : FrameRow
 zeroRow = record { task = 0; release = 0; deadline = 0; start = 0 }
 
--- the start of the frame with this number
-unfoldable pub startFor : List Placed → ℕ → ℕ
-startFor [] k = 0
-startFor (x ∷ xs) k = cond (eqb (x .number) k) (x .start) (startFor xs k)
+-- the start of the row that holds the pair of this number
+unfoldable pub isNumber : ℕ → Numbered → Bool
+isNumber k x = eqb (x .number) k
 
-unfoldable pub rowsFrom : List Placed → ℕ → List Frame → List FrameRow
-rowsFrom placed k [] = []
-rowsFrom placed k (f ∷ fs) =
-    record { task = f .task; release = f .release; deadline = f .deadline; start = startFor placed k }
-    ∷ rowsFrom placed (suc k) fs
+unfoldable pub startFor : List PlacedRow → ℕ → ℕ
+startFor [] k = 0
+startFor (r ∷ rs) k = cond (any (isNumber k) (heldIn r)) (r .start) (startFor rs k)
+
+unfoldable pub rowsFrom : List PlacedRow → ℕ → List Pair → List FrameRow
+rowsFrom rows k [] = []
+rowsFrom rows k (f ∷ fs) =
+    record { task = f .task; release = f .release; deadline = f .deadline; start = startFor rows k }
+    ∷ rowsFrom rows (suc k) fs
 
 -- Rule 4.15: the frames' rows by number, then zero rows to the end of what was lent.
 unfoldable pub rowsThenZero : List FrameRow → ℕ → List FrameRow
@@ -83,8 +105,8 @@ pub record MadeTable : Type 0 where
   pub table : List ℕ
   pub rows : List FrameRow
 
-unfoldable pub madeTable : Layout → List Placed → MadeTable
-madeTable l placed = record { table = tableBytes l placed; rows = rowsFrom placed 0 (l .frames) }
+unfoldable pub madeTable : Layout → List PlacedRow → MadeTable
+madeTable l rows = record { table = tableBytes l rows; rows = rowsFrom rows 0 (l .pairs) }
 
 -- Refusals 1 to 13 in order; 13 where the table is longer than the room, at the table's length (rule 6.13).
 unfoldable pub tableFor : List ℕ → ℕ → Res MadeTable
@@ -92,7 +114,7 @@ tableFor plan room = do
   p ← readPlan plan
   l ← layout p
   placed ← latestRelease l
-  let t = madeTable l placed
+  let t = madeTable l (map alone placed)
   unless 13 (length (t .table)) (leb (length (t .table)) room)
   ok t
 

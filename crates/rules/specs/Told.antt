@@ -7,7 +7,7 @@ use mathlib.Core.Option.{Option, none, some}
 use lib.ListN.{length}
 use Prim.Native.Nat.{ℕ, _+_, _-_, _≤_, _<_, _∣_}
 use Rattle.rules.specs.Plan.{Plan}
-use Rattle.rules.specs.Frames.{taskNode}
+use Rattle.rules.specs.Traffic.{taskNode}
 use Rattle.rules.specs.Playing.{Input, periodIn}
 use Rattle.rules.specs.History.{homeIn, firstIn, consumes}
 

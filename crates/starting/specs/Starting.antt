@@ -11,8 +11,8 @@ use Rattle.laws.specs.Res.{Res, ok}
 use Rattle.answers.specs.Refusals.{said}
 use Rattle.rules.specs.Limits.{mostModules}
 use Rattle.answers.specs.declared.Refusal.the-variants.{NotBegun}
-use Rattle.stationruns.specs.Inputs.{changeAt}
-use Rattle.stationruns.specs.declared.Change.{Change}
+use Rattle.stationruns.specs.Inputs.{startingAt}
+use Rattle.stationruns.specs.declared.Starting.{Starting}
 use Rattle.stationsteps.specs.Steps.{modeRule}
 use Rattle.station.specs.Memory.{notBegun}
 use Rattle.stationrefusals.specs.declared.Play.{Play}
@@ -23,16 +23,16 @@ use Rattle.starting.specs.declared.Begun.{Begun}
 
 -- Rule 8.40: a module's place holds a mode of its own, a place behind the modules nothing.
 abbrev pub holdsOwn : ℕ → ℕ → List ℕ → ℕ → Option ℕ → Bool
-holdsOwn modules modes homes m none = not (ltb m modules)
-holdsOwn modules modes homes m (some μ) = ltb m modules && (ltb μ modes && eqb (getD homes μ 0) m)
+holdsOwn moduleCount modeCount homes m none = not (ltb m moduleCount)
+holdsOwn moduleCount modeCount homes m (some μ) = ltb m moduleCount && (ltb μ modeCount && eqb (getD homes μ 0) m)
 
-unfoldable pub startTest : List Change → ℕ → ℕ → List ℕ → ℕ → Bool
-startTest starting modules modes homes m = holdsOwn modules modes homes m (changeAt starting m)
+unfoldable pub startTest : Starting → ℕ → ℕ → List ℕ → ℕ → Bool
+startTest starting moduleCount modeCount homes m = holdsOwn moduleCount modeCount homes m (startingAt starting m)
 
 -- the lowest starting place at fault
-unfoldable pub wrongStart : Station → List Change → Option ℕ
+unfoldable pub wrongStart : Station → Starting → Option ℕ
 wrongStart kept starting =
-    firstBad (startTest starting (kept .modules .count) (kept .modes .count) (kept .modes .homes)) (upTo mostModules)
+    firstBad (startTest starting (kept .fixed .modules .count) (kept .fixed .modes .count) (kept .fixed .modes .homes)) (upTo mostModules)
 
 -- the starting modes run
 abbrev pub playIn : Play → List ℕ → Play
@@ -46,35 +46,31 @@ playIn play running =
       out = play .out;
       held = play .held;
       full = play .full;
-      load = play .load;
+      loads = play .loads;
     }
 
 abbrev pub withPlay : Station → Play → Station
 withPlay st play =
     record {
-      modules = st .modules;
-      modes = st .modes;
-      tasks = st .tasks;
-      controls = st .controls;
-      period = st .period;
-      datas = st .datas;
+      fixed = st .fixed;
       runs = st .runs;
-      «row_tasks» = st .«row_tasks»;
-      «row_deadlines» = st .«row_deadlines»;
-      «row_starts» = st .«row_starts»;
-      «row_stops» = st .«row_stops»;
+      «pair_tasks» = st .«pair_tasks»;
+      «pair_deadlines» = st .«pair_deadlines»;
+      «pair_starts» = st .«pair_starts»;
+      «pair_stops» = st .«pair_stops»;
+      «pair_modes» = st .«pair_modes»;
       play = play;
       nodes = st .nodes;
     }
 
-unfoldable pub startedBy : Station → List Change → Station
+unfoldable pub startedBy : Station → Starting → Station
 startedBy kept starting =
-    withPlay kept (playIn (kept .play) (stores (kept .play .running) (modeRule starting (kept .play .running)) mostModules))
+    withPlay kept (playIn (kept .play) (stores (kept .play .running) (modeRule (starting .modes) (starting .given) (kept .play .running)) mostModules))
 
 -- what a station that keeps a passed plan and table begins as
-abbrev pub begunAt : Station → List Change → Option ℕ → Begun
+abbrev pub begunAt : Station → Starting → Option ℕ → Begun
 begunAt kept starting none = record { answer = Fine; station = startedBy kept starting }
 begunAt kept starting (some m) = record { answer = Refused (NotBegun (record { 0 = m })); station = notBegun }
 
-unfoldable pub begunBy : Station → List Change → Begun
+unfoldable pub begunBy : Station → Starting → Begun
 begunBy kept starting = begunAt kept starting (wrongStart kept starting)

@@ -2,7 +2,7 @@
 ghost use mathlib.Core.Path.{_≡_};
 ghost use Rattle.laws.specs.Lists.{firstBad, upTo};
 ghost use Rattle.rules.specs.Limits.{mostModules};
-ghost use Rattle.stationruns.specs.Inputs.{changeOf};
+ghost use Rattle.stationruns.specs.Inputs.{givenIf};
 ghost use Rattle.places.specs.Found.{placeIn};
 ghost use Rattle.station.specs.Memory.{notBegun};
 ghost use Rattle.starting.specs.Starting.{begunBy, holdsOwn, startTest, startedBy};
@@ -12,8 +12,9 @@ use answers::Verdict;
 use figures::both;
 use places::Found;
 use places::byte_at;
+use places::is_set;
 use station::Station;
-use stationruns::Change;
+use stationruns::Starting;
 use stationsteps::modes_after;
 use units::ModeNo;
 use units::ModuleNo;
@@ -35,36 +36,42 @@ pub fn refused(why: Refusal) -> Begun
 
 // Whether the starting place of a module holds a mode of its own; behind the last module it holds nothing.
 fn holds_own<'a>(
-    start: Change,
+    given: bool,
+    mode: ModeNo,
     m: usize,
-    modules: u8,
-    modes: u8,
+    module_count: u8,
+    mode_count: u8,
     homes: &'a [u8; ModeNo::MOST],
 ) -> bool
-    ensures { λ r. ⌜ r ≡ holdsOwn modules modes (now (homes .entry)) m (changeOf start) ⌝ }
+    ensures { λ r. ⌜ r ≡ holdsOwn «module_count» «mode_count» (now (homes .entry)) m (givenIf given (mode .0)) ⌝ }
 {
-    match start {
-        Change::Nothing => !(m < modules as usize),
-        Change::To(mode) => {
-            let own = both(mode.0 < modes, byte_at(homes, mode.place()) == m);
-            both(m < modules as usize, own)
-        }
+    if given {
+        let own = both(mode.0 < mode_count, byte_at(homes, mode.place()) == m);
+        both(m < module_count as usize, own)
+    } else {
+        !(m < module_count as usize)
     }
 }
 
 // 40: the first starting place at fault.
 fn wrong_start<'a>(
-    starting: [Change; ModuleNo::MOST],
-    modules: u8,
-    modes: u8,
+    starting: Starting,
+    module_count: u8,
+    mode_count: u8,
     homes: &'a [u8; ModeNo::MOST],
 ) -> Found
-    ensures { λ r. ⌜ placeIn r ≡ firstBad (startTest starting modules modes (now (homes .entry))) (upTo mostModules) ⌝ }
+    ensures { λ r. ⌜ placeIn r ≡ firstBad (startTest starting «module_count» «mode_count» (now (homes .entry))) (upTo mostModules) ⌝ }
 {
     let mut m = 0;
     while m < ModuleNo::MOST {
-        let start = starting[m];
-        if holds_own(start, m, modules, modes, homes) {
+        if holds_own(
+            is_set(starting.given[m]),
+            ModeNo(starting.modes[m]),
+            m,
+            module_count,
+            mode_count,
+            homes,
+        ) {
             m += 1;
         } else {
             return Found::At(m);
@@ -73,23 +80,28 @@ fn wrong_start<'a>(
     Found::Nothing
 }
 
-fn started(mut kept: Station, starting: [Change; ModuleNo::MOST]) -> Station
+fn started(mut kept: Station, starting: Starting) -> Station
     ensures { λ r. ⌜ r ≡ startedBy kept starting ⌝ }
 {
     let mut play = kept.play;
     let none = play.running;
-    let running = modes_after(starting, none);
+    let given = starting.given;
+    let running = modes_after(&starting.modes, given, none);
     play.running = running;
     kept.play = play;
     kept
 }
 
 // A station that keeps a passed plan and table, in its starting modes.
-pub fn begin_with(kept: Station, starting: [Change; ModuleNo::MOST]) -> Begun
+pub fn begin_with(kept: Station, starting: Starting) -> Begun
     ensures { λ r. ⌜ r ≡ begunBy kept starting ⌝ }
 {
-    let modes = kept.modes;
-    match wrong_start(starting, kept.modules.count, modes.count, &modes.homes) {
+    match wrong_start(
+        starting,
+        kept.fixed.modules.count,
+        kept.fixed.modes.count,
+        &kept.fixed.modes.homes,
+    ) {
         Found::At(m) => refused(Refusal::NotBegun(ModuleNo(m as u8))),
         Found::Nothing => Begun {
             answer: Verdict::Fine,

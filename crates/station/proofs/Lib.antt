@@ -1,3 +1,4 @@
+pub mod Pairs
 pub mod Ranges
 pub mod Steps
 pub mod Nodes

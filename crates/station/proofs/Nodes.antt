@@ -1,24 +1,24 @@
 -- Steps (b) and (c) on the station's nodes are the rules' own, where the station is within its ranges; and where nothing lands and no
 -- run ends, they change nothing.
-use mathlib.Core.Path.{_≡_, refl, sym, ap, _∙_}
+use mathlib.Core.Path.{_≡_, refl, sym, ap, ap₂, _∙_}
 use mathlib.Core.Bool.{Bool, true, false, cond, not, _&&_}
 use mathlib.Core.List.{List}
-use mathlib.Core.Option.{Option, none, some}
 use native.Mathlib.Omega.{arith}
-use borrow.Author.Tests.{eqb-true}
 use lib.Dec.{eqb}
-use lib.ListN.{getD}
+use lib.ListN.{getD, replicate, length-replicate}
 use Prim.Native.Nat.{ℕ, _+_, _*_, _/_, _%_, _≤_, _<_}
 use Rattle.laws.specs.Loops.{stores}
-use Rattle.laws.proofs.Stores.{stores-same, stores-idle}
-use Rattle.places.specs.Flags.{isSet}
+use Rattle.laws.proofs.Stores.{stores-same, stores-idle, stores-within}
+use Rattle.places.specs.Bits.{bitAt}
+use Rattle.places.specs.Flags.{flagAt}
 use Rattle.rules.specs.Station.{
   Kept,
   State,
   tick,
   rowWith,
+  isAt,
+  someAt,
   landsOn,
-  landedBy,
   landedAfter,
   heldAfter,
   homeNode,
@@ -33,38 +33,27 @@ use Rattle.rules.specs.StationRange.{inRange}
 use Rattle.rules.proofs.StationStays.{range-tests}
 use Rattle.rules.specs.Playing.{Input}
 use Rattle.stationruns.specs.Inputs.{inputOf}
-use Rattle.stationruns.specs.declared.Given.{Given}
-use Rattle.stationruns.specs.declared.Change.{Change}
-use Rattle.stationbus.specs.Bus.{numberAt}
-use Rattle.stationnodes.specs.Nodes.{noNode, landingOf, landedRule, shownRule, nodeAt, nodeRule}
+use Rattle.stationruns.specs.declared.Input as given
+use Rattle.stationbus.specs.Bus.{numberAt, somePairAt, modesAt}
+use Rattle.stationnodes.specs.Nodes.{noNode, landsRule, landedRule, shownRule, nodeAt, nodeRule}
 use Rattle.stationnodes.specs.declared.Node.{Node}
-use Rattle.stationnodes.specs.declared.Landing.{Landing}
-use Rattle.stationnodes.specs.declared.Landing.the-variants.{Nothing, Value}
-use Rattle.station.specs.Memory.{keptBy, keptOf, stateBy, stateOf, nodeLaid}
-use Rattle.station.specs.Parts.{nodesBy}
-use Rattle.stationmoves.specs.Moving.{Reads, landingBy}
+use Rattle.station.specs.Memory.{keptOf, stateOf, nodeLaid}
+use Rattle.station.specs.Parts.{dueBy, nodesBy}
+use Rattle.stationmoves.specs.Moving.{Reads}
 use Rattle.stationrefusals.specs.declared.Play.{Play}
 use Rattle.station.specs.declared.Station.{Station}
+use Rattle.station.proofs.Pairs.{sent-at}
 use Rattle.station.proofs.Steps.{held-rule, held-by}
 
 -- ---- over plain variables
 
--- the sender of what lands is the node of the task at whose place it lands
-module _ (sites homes landed : List ℕ) (task load n t : ℕ) where
-  abbrev site : ℕ → ℕ
-  site x = getD sites (getD homes x 0) 0
+grouped : (a b c : Bool) → ((a && b) && c) ≡ (a && (b && c))
+grouped true b c = refl
+grouped false b c = refl
 
-  lands-same : (full : Bool)
-      → landedRule (cond full (Value (record { 0 = task }) (record { 0 = site task }) load) Nothing) n landed t
-      ≡ cond (full && (eqb task t && not (eqb (site t) n))) load (getD landed t 0)
-  lands-same false = refl
-  lands-same true = by-task (eqb task t) refl
-    where
-      by-task : (b : Bool) → eqb task t ≡ b
-          → cond (eqb task t && not (eqb (site task) n)) load (getD landed t 0)
-          ≡ cond (eqb task t && not (eqb (site t) n)) load (getD landed t 0)
-      by-task true e = rw (eqb-true task t e)
-      by-task false e = rw e
+shown-made : {e e′ m m′ : Bool} {out out′ landed landed′ : ℕ} (own : Bool) (old : ℕ) → e ≡ e′ → out ≡ out′ → m ≡ m′ → landed ≡ landed′
+    → cond (e && own) out (cond (e && m) landed old) ≡ cond (e′ && own) out′ (cond (e′ && m′) landed′ old)
+shown-made own old p q f g = rw (p, q, f, g)
 
 node-made : {l l′ s s′ : List ℕ} → l ≡ l′ → s ≡ s′ → _≡_ {A = Node} (record { landed = l; shown = s }) (record { landed = l′; shown = s′ })
 node-made e h = rw (e, h)
@@ -90,85 +79,98 @@ home-within k s e t w =
     omega arith
 
 module _ (st : Station) where
-  -- (b)
-  landed-by : (n t : ℕ) (o : Option ℕ)
-      → landedRule (landingOf (st .«row_tasks») (st .tasks .homes) (st .modules .sites) (isSet (st .play .full)) (st .play .load) o) n
-      (getD (st .nodes) n noNode .landed) t
-      ≡ landedBy (keptOf st) (stateOf st) n t o
-  unfolding keptOf keptBy stateOf stateBy landsOn homeNode
-  landed-by n t none = refl
-  landed-by n t (some r) =
-      lands-same (st .modules .sites) (st .tasks .homes) (getD (st .nodes) n noNode .landed) (getD (st .«row_tasks») r 0) (st .play .load) n t
-      (isSet (st .play .full))
+  abbrev k : Kept
+  k = keptOf st
 
-  abbrev landing : Landing
-  landing = landingBy (st .modules) (st .tasks) (st .datas) (st .play) (st .«row_tasks») (st .«row_stops»)
+  abbrev s : State
+  s = stateOf st
 
-  shown-stood : (n t : ℕ) → stateOf st .shown n t ≡ getD (getD (st .nodes) n noNode .shown) t 0
-  unfolding stateOf stateBy
+  -- (b) a value of the task lands now
+  abbrev pub landsNow : ℕ → Bool
+  landsNow = landsRule (st .«pair_tasks») (st .«pair_stops») (st .fixed .pairs) (st .play .clock .0) (st .play .full)
+
+  landed-by : (n t : ℕ) (lands : Bool) → lands ≡ landsNow t
+      → cond (lands && not (eqb (homeNode k t) n)) (s .load t) (s .landed n t) ≡ landedAfter k s n t
+  unfolding landedAfter landsOn someAt isAt keptOf stateOf
+  landed-by n t lands e =
+      ap (λ (b : Bool). cond (b && not (eqb (homeNode k t) n)) (s .load t) (s .landed n t)) e
+      ∙ ap (λ (b : Bool). cond b (s .load t) (s .landed n t))
+      (grouped (somePairAt (st .«pair_tasks») (st .«pair_stops») (st .fixed .pairs) (st .play .clock .0) t) (flagAt (st .play .full) t) (not (eqb (homeNode k t) n)))
+
+  shown-stood : (n t : ℕ) → s .shown n t ≡ getD (getD (st .nodes) n noNode .shown) t 0
+  unfolding stateOf
   shown-stood n t = refl
 
-  landed-at : (n t : ℕ) → landedRule landing n (getD (st .nodes) n noNode .landed) t ≡ landedAfter (keptOf st) (stateOf st) n t
-  unfolding keptOf keptBy stateOf stateBy landedAfter
-  landed-at n t = landed-by n t (rowWith (numberAt (st .«row_stops»)) (st .datas) (st .play .clock .0))
-
-  module _ (results : List Given) (changes : List Change) where
-    abbrev k : Kept
-    k = keptOf st
-
-    abbrev s : State
-    s = stateOf st
-
+  module _ (input : given.Input) where
     abbrev i : Input
-    i = inputOf results changes
+    i = inputOf input
 
-    module _ (next : Play) (ends : List Bool) (reads : Reads results (st .modules) (st .controls) (st .play) next)
-        (ended : (t : ℕ) → t < 32 → getD ends t false ≡ endsNow k s t) (within : inRange k s ≡ true) where
+    module _ (next : Play) (ends : List Bool) {lands : List Bool} {due : List ℕ} (reads : Reads input (st .fixed) (st .play) next)
+        (landing : lands ≡ stores (replicate 32 false) landsNow 32)
+        (sent : due ≡ dueBy (st .«pair_tasks») (st .«pair_deadlines») (st .«pair_modes») (st .fixed .pairs) (st .play .clock .0))
+        (ended : (t : ℕ) → t < 32 → getD ends t false ≡ endsNow k s t) (within : inRange k s ≡ true)
+        (below : (n t : ℕ) → n < 8 → t < 32 → heldAfter k s n (k .taskHome t) < 32) where
+      abbrev lands-rule : ℕ → ℕ → ℕ
+      lands-rule n = landedRule lands (st .play .loads) (st .fixed .tasks .homes) (st .fixed .modules .sites) n (getD (st .nodes) n noNode .landed)
+
+      landed-at : (n t : ℕ) → t < 32 → lands-rule n t ≡ landedAfter k s n t
+      unfolding keptOf stateOf homeNode
+      landed-at n t w = landed-by n t (getD lands t false) (stores-within (replicate 32 false) landsNow 32 false (length-replicate 32 false) landing t w)
+
       held-at : (n m : ℕ) → n < 8 → m < 16 → getD (next .held) (n * 16 + m) 0 ≡ heldAfter k s n m
-      unfolding held-rule heldAfter keptOf keptBy stateOf stateBy
+      unfolding held-rule heldAfter keptOf stateOf
       held-at n m v w =
           reads .held (n * 16 + m) (place-within n m v w)
-          ∙ held-by st results changes (rowWith (numberAt (st .controls .stops)) (st .controls .count) (st .play .clock .0)) n m (n * 16 + m)
+          ∙ held-by st input (rowWith (numberAt (st .fixed .controls .stops)) (st .fixed .controls .count) (st .play .clock .0)) n m (n * 16 + m)
           (place-node n m w) (place-module n m w) refl
 
       out-at : (t : ℕ) → getD (next .out) t 0 ≡ outAfter s i t
-      unfolding outAfter stateOf stateBy inputOf
+      unfolding outAfter stateOf inputOf
       out-at t = reads .out t
+
+      -- the mode byte that the node holds has a message with this deadline
+      message-at : (n t : ℕ) → n < 8 → t < 32
+          → bitAt (getD due t 0) (getD (next .held) (n * 16 + getD (st .fixed .tasks .homes) t 0) 0) ≡ hasMessage k t (heldAfter k s n (k .taskHome t)) (s .clock)
+      unfolding hasMessage keptOf stateOf
+      message-at n t v w =
+          ap₂ bitAt
+          (stores-within (replicate 32 0) (modesAt (st .«pair_tasks») (st .«pair_deadlines») (st .«pair_modes») (st .fixed .pairs) (st .play .clock .0)) 32 0
+          (length-replicate {A = ℕ} 32 0) sent t w)
+          (held-at n (getD (st .fixed .tasks .homes) t 0) v (home-within k s within t w))
+          ∙ sent-at st (st .«pair_deadlines») t (st .play .clock .0) (heldAfter k s n (k .taskHome t)) (below n t v w)
 
       -- (c)
       abbrev shows : ℕ → ℕ → ℕ
       shows n =
-          shownRule ends (st .tasks .homes) (st .modules .sites) (next .out) (next .held) (st .tasks .bus) (st .runs) (st .play .clock .0) n
-          (landedRule landing n (getD (st .nodes) n noNode .landed)) (getD (st .nodes) n noNode .shown)
+          shownRule ends (st .fixed .tasks .homes) (st .fixed .modules .sites) (next .out) (next .held) due n (lands-rule n)
+          (getD (st .nodes) n noNode .shown)
 
       shown-at : (n t : ℕ) → n < 8 → t < 32 → shows n t ≡ shownAfter k s i n t
-      unfolding shownAfter ownShows otherShows hasMessage keptOf keptBy stateOf stateBy homeNode
+      unfolding shownAfter ownShows otherShows keptOf stateOf homeNode
       shown-at n t v w =
-          rw (ended t w, out-at t, landed-at n t, held-at n (getD (st .tasks .homes) t 0) v (home-within k s within t w))
+          shown-made (eqb (homeNode k t) n) (s .shown n t) (ended t w) (out-at t) (message-at n t v w) (landed-at n t w)
 
       node-same : (n : ℕ) → n < 8
-          → nodeRule ends (st .tasks .homes) (st .modules .sites) (next .out) (next .held) (st .tasks .bus) (st .runs) (st .play .clock .0)
-          landing (st .nodes) n
+          → nodeRule lands (st .play .loads) ends (st .fixed .tasks .homes) (st .fixed .modules .sites) (next .out) (next .held) due (st .nodes) n
           ≡ nodeLaid (st .nodes) (tick k s i) n
       unfolding nodeRule nodeAt nodeLaid tick
       node-same n v =
-          node-made
-          (stores-same (getD (st .nodes) n noNode .landed) (landedRule landing n (getD (st .nodes) n noNode .landed)) (landedAfter k s n) 32
-          (λ t w. landed-at n t))
+          node-made (stores-same (getD (st .nodes) n noNode .landed) (lands-rule n) (landedAfter k s n) 32 (λ t w. landed-at n t w))
           (stores-same (getD (st .nodes) n noNode .shown) (shows n) (shownAfter k s i n) 32 (λ t w. shown-at n t v w))
 
-      pub nodes-same : nodesBy (st .modules) (st .tasks) next (st .play .clock .0) landing ends (st .runs) (st .nodes)
+      pub nodes-same : (idle : Bool)
+          → nodesBy (st .fixed) (record { play = next; idle = idle; lands = lands; loads = st .play .loads; due = due; ends = ends }) (st .nodes)
           ≡ stores (st .nodes) (nodeLaid (st .nodes) (tick k s i)) 8
-      nodes-same =
+      nodes-same idle =
           stores-same (st .nodes)
-          (nodeRule ends (st .tasks .homes) (st .modules .sites) (next .out) (next .held) (st .tasks .bus) (st .runs) (st .play .clock .0)
-          landing (st .nodes))
+          (nodeRule lands (st .play .loads) ends (st .fixed .tasks .homes) (st .fixed .modules .sites) (next .out) (next .held) due (st .nodes))
           (nodeLaid (st .nodes) (tick k s i)) 8 node-same
 
     -- nothing lands, and no run ends
-    module _ (still : landing ≡ Nothing) (quiet : (t : ℕ) → t < 32 → endsNow k s t ≡ false) where
-      landed-stays : (n t : ℕ) → landedAfter k s n t ≡ getD (getD (st .nodes) n noNode .landed) t 0
-      landed-stays n t = sym (landed-at n t) ∙ ap (λ l. landedRule l n (getD (st .nodes) n noNode .landed) t) still
+    module _ (still : (t : ℕ) → t < 32 → landsNow t ≡ false) (quiet : (t : ℕ) → t < 32 → endsNow k s t ≡ false) where
+      landed-stays : (n t : ℕ) → t < 32 → landedAfter k s n t ≡ getD (getD (st .nodes) n noNode .landed) t 0
+      unfolding stateOf
+      landed-stays n t w = sym (landed-by n t false (sym (still t w)))
 
       shown-stays : (n t : ℕ) → t < 32 → shownAfter k s i n t ≡ getD (getD (st .nodes) n noNode .shown) t 0
       unfolding shownAfter ownShows otherShows
@@ -178,7 +180,7 @@ module _ (st : Station) where
       unfolding nodeLaid tick
       node-stays n =
           sym
-          (node-made (stores-idle (getD (st .nodes) n noNode .landed) (landedAfter k s n) 32 0 (λ t w. landed-stays n t))
+          (node-made (stores-idle (getD (st .nodes) n noNode .landed) (landedAfter k s n) 32 0 (λ t w. landed-stays n t w))
           (stores-idle (getD (st .nodes) n noNode .shown) (shownAfter k s i n) 32 0 (λ t w. shown-stays n t w)))
 
       pub nodes-stay : st .nodes ≡ stores (st .nodes) (nodeLaid (st .nodes) (tick k s i)) 8

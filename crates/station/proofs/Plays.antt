@@ -11,9 +11,8 @@ use Rattle.rules.specs.Station as rules
 use Rattle.rules.specs.StationRange.{ticked}
 use Rattle.rules.proofs.StationPlaces.{Follows, begun, next}
 use Rattle.stationruns.specs.Inputs.{inputOf}
-use Rattle.stationruns.specs.declared.Given.{Given}
-use Rattle.stationruns.specs.declared.Change.{Change}
-use Rattle.station.specs.Memory.{keptOf, stateOf, laid}
+use Rattle.stationruns.specs.declared.Input as given
+use Rattle.station.specs.Memory.{keptOf, stateOf, laid, ruled}
 use Rattle.station.specs.Answers.{Answers, outcome, isRefused, rowSaid, stationAfter}
 use Rattle.stationmoves.specs.declared.Said.{Said}
 use Rattle.stationmoves.specs.declared.Said.the-variants.{Control, Data, Quiet, Refused}
@@ -47,12 +46,12 @@ module _ (st : Station) (r : Ticked) where
 pub data Plays : Station → List Input → Station → Type 0 where
   start : {st : Station} → Plays st [] st
   accepted :
-      {st before : Station} {past : List Input} {r : Ticked} (results : List Given) (changes : List Change) → Plays st past before →
-      Answers before (ticked (keptOf before) (stateOf before) (inputOf results changes)) r → isRefused (r .said) ≡ false →
-      Plays st (inputOf results changes ∷ past) (r .station)
+      {st before : Station} {past : List Input} {r : Ticked} (input : given.Input) → Plays st past before →
+      Answers before (ruled before input) r → isRefused (r .said) ≡ false →
+      Plays st (inputOf input ∷ past) (r .station)
   refused :
-      {st before : Station} {past : List Input} {r : Ticked} (results : List Given) (changes : List Change) → Plays st past before →
-      Answers before (ticked (keptOf before) (stateOf before) (inputOf results changes)) r → isRefused (r .said) ≡ true →
+      {st before : Station} {past : List Input} {r : Ticked} (input : given.Input) → Plays st past before →
+      Answers before (ruled before input) r → isRefused (r .said) ≡ true →
       Plays st past (r .station)
 
 -- ---- a call by what the rules say of it
@@ -72,48 +71,37 @@ abbrev pub historyAfter : List Input → Input → Res rules.Ticked → List Inp
 historyAfter past i (ok t) = i ∷ past
 historyAfter past i (refuse n p) = past
 
-pub plays-on : {st before : Station} {past : List Input} (results : List Given) (changes : List Change) (rule : Res rules.Ticked)
-    → ticked (keptOf before) (stateOf before) (inputOf results changes) ≡ rule → Plays st past before
-    → Plays st (historyAfter past (inputOf results changes) rule) (stationAfter before rule)
-plays-on {before = before} results changes (ok t) e p =
-    accepted results changes p
+pub plays-on : {st before : Station} {past : List Input} (input : given.Input) (rule : Res rules.Ticked)
+    → ruled before input ≡ rule → Plays st past before
+    → Plays st (historyAfter past (inputOf input) rule) (stationAfter before rule)
+plays-on {before = before} input (ok t) e p =
+    accepted input p
     (subst (λ (x : Res rules.Ticked). Answers before x (record { said = rowSaid (t .row); station = laid before (t .state) })) (sym e) (answered before t))
     (said-taken (t .row) (record { said = rowSaid (t .row); station = laid before (t .state) }) .1)
-plays-on results changes (refuse n q) e p = p
+plays-on input (refuse n q) e p = p
 
 -- ---- any calls, the oldest first
 
--- what a call is given
-pub record Call : Type 0 where
-  pub results : List Given
-  pub changes : List Change
-
-abbrev pub inputTo : Call → Input
-inputTo c = inputOf (c .results) (c .changes)
-
-abbrev pub ruleOf : Station → Call → Res rules.Ticked
-ruleOf st c = ticked (keptOf st) (stateOf st) (inputTo c)
-
 -- the station after the calls
-unfoldable pub afterCalls : Station → List Call → Station
+unfoldable pub afterCalls : Station → List given.Input → Station
 afterCalls st [] = st
-afterCalls st (c ∷ calls) = afterCalls (stationAfter st (ruleOf st c)) calls
+afterCalls st (c ∷ calls) = afterCalls (stationAfter st (ruled st c)) calls
 
 -- the history of those that are accepted, in front of a past
-unfoldable pub acceptedOf : List Input → Station → List Call → List Input
+unfoldable pub acceptedOf : List Input → Station → List given.Input → List Input
 acceptedOf past st [] = past
-acceptedOf past st (c ∷ calls) = acceptedOf (historyAfter past (inputTo c) (ruleOf st c)) (stationAfter st (ruleOf st c)) calls
+acceptedOf past st (c ∷ calls) = acceptedOf (historyAfter past (inputOf c) (ruled st c)) (stationAfter st (ruled st c)) calls
 
-pub plays-calls : {st before : Station} {past : List Input} (calls : List Call) → Plays st past before
+pub plays-calls : {st before : Station} {past : List Input} (calls : List given.Input) → Plays st past before
     → Plays st (acceptedOf past before calls) (afterCalls before calls)
 unfolding afterCalls acceptedOf
 plays-calls [] p = p
-plays-calls {before = before} (c ∷ calls) p = plays-calls calls (plays-on (c .results) (c .changes) (ruleOf before c) refl p)
+plays-calls {before = before} (c ∷ calls) p = plays-calls calls (plays-on c (ruled before c) refl p)
 
-pub after-joined : (st : Station) (calls more : List Call) → afterCalls st (calls ++ more) ≡ afterCalls (afterCalls st calls) more
+pub after-joined : (st : Station) (calls more : List given.Input) → afterCalls st (calls ++ more) ≡ afterCalls (afterCalls st calls) more
 unfolding afterCalls
 after-joined st [] more = refl
-after-joined st (c ∷ calls) more = after-joined (stationAfter st (ruleOf st c)) calls more
+after-joined st (c ∷ calls) more = after-joined (stationAfter st (ruled st c)) calls more
 
 -- ---- the rules' play
 
@@ -139,16 +127,16 @@ kept-laid st s = refl
 
 pub plays-follows : {st after : Station} {history : List Input} → Sized st → Plays st history after → Behind st history after
 plays-follows z start = record { kept = refl; sized = z; follows = begun }
-plays-follows {st} z (accepted {before = before} {past = past} {r = r} results changes p a e) =
+plays-follows {st} z (accepted {before = before} {past = past} {r = r} input p a e) =
     let b = plays-follows z p in
-    let l = left before (ticked (keptOf before) (stateOf before) (inputOf results changes)) r a e in
+    let l = left before (ruled before input) r a e in
     let s = l .ticks .state in
-    let on : ticked (keptOf st) (stateOf before) (inputOf results changes) ≡ ok (l .ticks) = rw (← b .kept) (l .is) in
-    subst (λ (x : Station). Behind st (inputOf results changes ∷ past) x) (sym (l .station))
+    let on : ticked (keptOf st) (stateOf before) (inputOf input) ≡ ok (l .ticks) = rw (← b .kept) (l .is) in
+    subst (λ (x : Station). Behind st (inputOf input ∷ past) x) (sym (l .station))
     (record {
       kept = kept-laid before s ∙ b .kept;
       sized = sized-laid before (b .sized) s;
-      follows = next (inputOf results changes) (b .follows) on (laid-agrees before (b .sized) s);
+      follows = next (inputOf input) (b .follows) on (laid-agrees before (b .sized) s);
     })
-plays-follows {st} z (refused {past = past} results changes p a e) =
+plays-follows {st} z (refused {past = past} input p a e) =
     subst (λ (x : Station). Behind st past x) (sym (a .unchanged e)) (plays-follows z p)

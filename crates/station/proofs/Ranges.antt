@@ -6,6 +6,7 @@ use mathlib.Core.Bool.{Bool, true}
 use lib.ListN.{getD}
 use Prim.Native.Nat.{ℕ}
 use Rattle.laws.specs.Lists.{all, upTo}
+use Rattle.places.specs.Flags.{flagAt}
 use Rattle.laws.proofs.Lists.{all-each}
 use Rattle.laws.specs.Res.{_>>_, at}
 use Rattle.laws.proofs.Res.{then-assoc}
@@ -34,7 +35,7 @@ use Rattle.rules.specs.StationRange.{
   runInRange,
   runsInRange,
   controlInRange,
-  dataInRange,
+  pairInRange,
   keptInRange,
   playInRange,
   boxInRange,
@@ -46,11 +47,11 @@ use Rattle.rules.specs.StationRange.{
 use Rattle.stationrange.specs.Ranges.{runsTest}
 use Rattle.stationruns.specs.Inputs.{inputOf, changeAt}
 use Rattle.stationjudge.specs.Judging.{awaitedTest, fitsTest, inTimeTest, allows, allowedTest}
-use Rattle.stationruns.specs.declared.Given.{Given}
-use Rattle.stationruns.specs.declared.Change.{Change}
-use Rattle.station.specs.Memory.{keptBy, keptOf, stateBy, stateOf}
+use Rattle.stationruns.specs.declared.Input.{Input}
+use Rattle.stationruns.proofs.Given.{given-flag}
+use Rattle.station.specs.Memory.{keptOf, stateOf}
 use Rattle.stationrefusals.specs.Refusing.{keptTest, heldTest, stateTest, judgedBy}
-use Rattle.station.specs.Turns.{Valued}
+use Rattle.station.specs.Parts.{Valued}
 use Rattle.station.specs.declared.Station.{Station}
 
 -- the refusals one after the other, whichever two are taken together
@@ -62,79 +63,78 @@ joined {a} {b} {c} {d} e f g h =
     ∙ ap (_>>_ (at 41 0 a)) (then-assoc (at 42 0 b) (at 43 0 c) (at 44 0 d)) ∙ rw (e, f, g, h)
 
 module _ (st : Station) where
-  pub kept-range : keptTest (st .modules) (st .modes) (st .tasks) (st .controls) (st .datas) (st .period) (st .runs) (st .«row_tasks»)
-      (st .«row_deadlines») (st .«row_starts») (st .«row_stops») ≡ keptInRange (keptOf st)
-  unfolding keptTest keptInRange keptOf keptBy countsInRange moduleInRange modeInRange taskInRange runInRange runsInRange controlInRange dataInRange runsTest
+  pub kept-range : keptTest (st .fixed) (st .runs) (st .«pair_tasks») (st .«pair_deadlines») (st .«pair_starts») (st .«pair_stops») ≡ keptInRange (keptOf st)
+  unfolding keptTest keptInRange keptOf countsInRange moduleInRange modeInRange taskInRange runInRange runsInRange controlInRange pairInRange runsTest
   kept-range = refl
 
   -- a node whose places are in range is in range by the mode bytes that it holds
   module _ (valued : Valued (st .nodes)) where
     places-range : (n : ℕ) → all (placeInRange (stateOf st) n) (upTo 32) ≡ true
-    unfolding stateOf stateBy placeInRange
+    unfolding stateOf placeInRange
     places-range n = all-each (placeInRange (stateOf st) n) (upTo 32) 0 (λ i w. valued n (getD (upTo 32) i 0))
 
-    node-range : (n : ℕ) → heldTest (st .play .held) (st .modes .count) n ≡ nodeInRange (keptOf st) (stateOf st) n
-    unfolding nodeInRange byteInRange keptOf keptBy stateOf stateBy
+    node-range : (n : ℕ) → heldTest (st .play .held) (st .fixed .modes .count) n ≡ nodeInRange (keptOf st) (stateOf st) n
+    unfolding nodeInRange byteInRange keptOf stateOf
     node-range n = rw (places-range n)
 
     nodes-range : (l : List ℕ)
-        → all (heldTest (st .play .held) (st .modes .count)) l ≡ all (nodeInRange (keptOf st) (stateOf st)) l
+        → all (heldTest (st .play .held) (st .fixed .modes .count)) l ≡ all (nodeInRange (keptOf st) (stateOf st)) l
     nodes-range [] = refl
     nodes-range (n ∷ l) = rw (node-range n, nodes-range l)
 
-    pub state-range : stateTest (st .modules) (st .modes) (st .period) (st .play) ≡ stateInRange (keptOf st) (stateOf st)
-    unfolding stateTest stateInRange keptOf keptBy stateOf stateBy playInRange boxInRange
+    pub state-range : stateTest (st .fixed) (st .play) ≡ stateInRange (keptOf st) (stateOf st)
+    unfolding stateTest stateInRange keptOf stateOf playInRange boxInRange
     state-range = rw (nodes-range (upTo 8))
 
-  module _ (results : List Given) (changes : List Change) where
+  module _ (input : Input) where
     abbrev awaited : ℕ → Bool
     awaited =
-        awaitedTest results (st .tasks .count) (st .runs) (st .play .running) (st .play .ages) (st .tasks .homes) (st .play .givens)
-        (st .tasks .worsts)
+        awaitedTest (input .given) (st .fixed .tasks .count) (st .runs) (st .play .running) (st .play .ages) (st .fixed .tasks .homes) (st .play .givens)
+        (st .fixed .tasks .worsts)
 
     abbrev fits : ℕ → Bool
-    fits = fitsTest results (st .tasks .sizes)
+    fits = fitsTest (input .results) (input .given) (st .fixed .tasks .sizes)
 
     abbrev inTime : ℕ → Bool
     inTime =
-        inTimeTest results (st .tasks .count) (st .runs) (st .play .running) (st .play .ages) (st .tasks .homes) (st .play .givens)
-        (st .tasks .worsts)
+        inTimeTest (input .given) (st .fixed .tasks .count) (st .runs) (st .play .running) (st .play .ages) (st .fixed .tasks .homes) (st .play .givens)
+        (st .fixed .tasks .worsts)
 
     abbrev allowed : ℕ → Bool
     allowed =
-        allowedTest changes (st .modules .count) (st .modes .count) (st .modes .homes) (st .modes .switches) (st .play .running)
+        allowedTest (input .modes) (input .changed) (st .fixed .modules .count) (st .fixed .modes .count) (st .fixed .modes .homes) (st .fixed .modes .switches) (st .play .running)
         (st .play .ages)
 
-    awaited-at : (t : ℕ) → awaited t ≡ resultAwaited (keptOf st) (stateOf st) (inputOf results changes) t
-    unfolding keptOf keptBy stateOf stateBy inputOf resultAwaited isAwaited isRunning runPeriod taskAge runAge
-    awaited-at t = refl
+    awaited-at : (t : ℕ) → awaited t ≡ resultAwaited (keptOf st) (stateOf st) (inputOf input) t
+    unfolding keptOf stateOf inputOf resultAwaited isAwaited isRunning runPeriod taskAge runAge
+    awaited-at t = rw (given-flag (flagAt (input .given) t) (getD (input .results) t 0))
 
-    fits-at : (t : ℕ) → fits t ≡ resultFits (keptOf st) (inputOf results changes) t
-    unfolding keptOf keptBy inputOf resultFits
+    fits-at : (t : ℕ) → fits t ≡ resultFits (keptOf st) (inputOf input) t
+    unfolding keptOf inputOf resultFits
     fits-at t = refl
 
-    in-time-at : (t : ℕ) → inTime t ≡ resultInTime (keptOf st) (stateOf st) (inputOf results changes) t
-    unfolding keptOf keptBy stateOf stateBy inputOf resultInTime isLastChance isRunning runPeriod taskAge runAge
-    in-time-at t = refl
+    in-time-at : (t : ℕ) → inTime t ≡ resultInTime (keptOf st) (stateOf st) (inputOf input) t
+    unfolding keptOf stateOf inputOf resultInTime isLastChance isRunning runPeriod taskAge runAge
+    in-time-at t = rw (given-flag (flagAt (input .given) t) (getD (input .results) t 0))
 
     allowed-by : (m : ℕ) (o : Option ℕ)
-        → allows (st .modules .count) (st .modes .count) (st .modes .homes) (getD (st .modes .switches) (getD (st .play .running) m 0) 0)
+        → allows (st .fixed .modules .count) (st .fixed .modes .count) (st .fixed .modes .homes) (getD (st .fixed .modes .switches) (getD (st .play .running) m 0) 0)
         (getD (st .play .ages) m 0) m o
         ≡ mayTake (keptOf st) (stateOf st) m o
-    unfolding keptOf keptBy stateOf stateBy isModeOf maySwitch
+    unfolding keptOf stateOf isModeOf maySwitch
     allowed-by m none = refl
     allowed-by m (some μ) = refl
 
-    allowed-at : (m : ℕ) → allowed m ≡ changeAllowed (keptOf st) (stateOf st) (inputOf results changes) m
+    allowed-at : (m : ℕ) → allowed m ≡ changeAllowed (keptOf st) (stateOf st) (inputOf input) m
     unfolding inputOf changeAllowed
-    allowed-at m = allowed-by m (changeAt changes m)
+    allowed-at m = allowed-by m (changeAt input m)
 
-    pub judged-same : judgedBy results changes (st .modules) (st .modes) (st .tasks) (st .play) (st .runs)
-        ≡ judgedTick (keptOf st) (stateOf st) (inputOf results changes)
+    pub judged-same : judgedBy input (st .fixed) (st .play) (st .runs)
+        ≡ judgedTick (keptOf st) (stateOf st) (inputOf input)
     unfolding judgedBy judgedTick
     judged-same =
         let k = keptOf st in
         let s = stateOf st in
-        let i = inputOf results changes in
+        let i = inputOf input in
         joined (firstBad-same awaited (resultAwaited k s i) awaited-at (upTo 32)) (firstBad-same fits (resultFits k i) fits-at (upTo 32))
         (firstBad-same inTime (resultInTime k s i) in-time-at (upTo 32)) (firstBad-same allowed (changeAllowed k s i) allowed-at (upTo 16))

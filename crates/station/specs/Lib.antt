@@ -1,4 +1,3 @@
 pub mod Memory
-pub mod Parts
 pub mod Answers
-pub mod Turns
+pub mod Parts

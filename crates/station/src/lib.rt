@@ -1,32 +1,32 @@
 // The played station: its tick, total on any station value, and what a node shows.
 ghost use mathlib.Core.Path.{_≡_};
+ghost use mathlib.Core.Bool.{cond};
+ghost use lib.ListN.{replicate};
+ghost use Rattle.rules.specs.Limits.{mostTasks};
 ghost use Rattle.laws.specs.Res.{ok};
-ghost use Rattle.rules.specs.StationRange.{ticked};
 ghost use mathlib.Core.List.{List};
 ghost use Rattle.stationnodes.specs.declared.Node.{Node as AnyNode};
-ghost use Rattle.stationruns.specs.Inputs.{inputOf};
-ghost use Rattle.station.specs.Memory.{keptOf, notBegun, stateOf};
-ghost use Rattle.station.specs.Parts.{atRest, nodesBy};
+ghost use Rattle.station.specs.Memory.{notBegun, ruled, stateOf};
 ghost use Rattle.stationrefusals.specs.Refusing.{refusedBy};
 ghost use Rattle.station.specs.Answers.{Answers};
-ghost use Rattle.station.specs.Turns.{Turns, Valued, stationBy};
+ghost use Rattle.station.specs.Parts.{Completes, Valued, dueBy, leftAlone, nodesBy, stationBy};
 use answers::Verdict;
+use stationbus::modes_at;
 use stationmoves::Said;
-use stationmoves::moves;
-use stationmoves::what_lands;
-use stationnodes::Landing;
+use stationmoves::advance;
 use stationnodes::Node;
 use stationnodes::is_idle;
+use stationnodes::lands;
 use stationnodes::nodes_after;
 use stationnodes::shown_on;
 use stationrefusals::Controls;
+use stationrefusals::Fixed;
 use stationrefusals::Modes;
 use stationrefusals::Modules;
 use stationrefusals::Play;
 use stationrefusals::Tasks;
 use stationrefusals::refused;
-use stationruns::Change;
-use stationruns::Given;
+use stationruns::Input;
 use stationsteps::ends_now;
 use units::Frame;
 use units::ModeNo;
@@ -35,21 +35,18 @@ use units::NodeNo;
 use units::TaskNo;
 use units::Ticks;
 
-// `runs` has the period of each task in each mode, a place for each task, mode after mode; `row_tasks`, `row_deadlines`, `row_starts` and
-// `row_stops` are the data rows. The arrays of numbers are lent to the steps.
+// `runs` has the period of each task in each mode, a place for each task, mode after mode. By pair number: `pair_tasks` and `pair_deadlines`,
+// `pair_starts` and `pair_stops` of the row that the pair rides in, and `pair_modes`, whose bits are the modes that have its message. The
+// arrays of numbers are lent to the steps.
 #[repr(C)]
 pub struct Station {
-    pub modules: Modules,
-    pub modes: Modes,
-    pub tasks: Tasks,
-    pub controls: Controls,
-    pub period: Ticks,
-    pub datas: u16,
+    pub fixed: Fixed,
     pub runs: [u32; ModeNo::MOST * TaskNo::MOST],
-    pub row_tasks: [u8; Frame::MOST],
-    pub row_deadlines: [u32; Frame::MOST],
-    pub row_starts: [u32; Frame::MOST],
-    pub row_stops: [u32; Frame::MOST],
+    pub pair_tasks: [u8; Frame::MOST],
+    pub pair_deadlines: [u32; Frame::MOST],
+    pub pair_starts: [u32; Frame::MOST],
+    pub pair_stops: [u32; Frame::MOST],
+    pub pair_modes: [u32; Frame::MOST],
     pub play: Play,
     pub nodes: [Node; NodeNo::MOST],
 }
@@ -59,170 +56,169 @@ pub struct Ticked {
     pub station: Station,
 }
 
-// What a tick makes of all but the nodes. Where it is not `idle` the nodes change, by `clock`, the time before it, by what lands and
-// by the runs that end.
-pub struct Turn {
+// What a tick makes of all but the nodes. Where it is not `idle` the nodes change, by task: a value `lands`, which is that of `loads`, as
+// they were before the tick; `due` are the modes that have a message with this deadline; a run `ends`.
+pub struct BeforeNodes {
     pub play: Play,
     pub idle: bool,
-    pub clock: Ticks,
-    pub landing: Landing,
+    pub lands: [bool; TaskNo::MOST],
+    pub loads: [u64; TaskNo::MOST],
+    pub due: [u32; TaskNo::MOST],
     pub ends: [bool; TaskNo::MOST],
 }
 
-pub struct Turned {
+// What a tick says, and its part before the nodes.
+pub struct TickBeforeNodes {
     pub said: Said,
-    pub turn: Turn,
+    pub part: BeforeNodes,
 }
 
-// A turn that leaves all as it was.
-fn at_rest(play: Play) -> Turn
-    ensures { λ r. ⌜ r ≡ atRest play ⌝ }
+// The part of a refused tick: all is as it was.
+fn left_alone(play: Play) -> BeforeNodes
+    ensures { λ r. ⌜ r ≡ leftAlone play ⌝ }
 {
-    let clock = play.clock;
-    Turn {
+    let loads = play.loads;
+    BeforeNodes {
         play,
         idle: true,
-        clock,
-        landing: Landing::Nothing,
+        lands: [false; TaskNo::MOST],
+        loads,
+        due: [0; TaskNo::MOST],
         ends: [false; TaskNo::MOST],
+    }
+}
+
+// By task the modes that have a message with this deadline; an idle tick does not ask for them.
+fn due_now<'a>(
+    idle: bool,
+    pairs: usize,
+    clock: Ticks,
+    pair_tasks: &'a [u8; Frame::MOST],
+    pair_deadlines: &'a [u32; Frame::MOST],
+    pair_modes: &'a [u32; Frame::MOST],
+) -> [u32; TaskNo::MOST]
+    ensures { λ r. ⌜ r ≡ cond idle (replicate mostTasks 0) (dueBy (now («pair_tasks» .entry)) (now («pair_deadlines» .entry)) (now («pair_modes» .entry)) pairs (clock .0)) ⌝ }
+{
+    if idle {
+        [0; TaskNo::MOST]
+    } else {
+        modes_at(pair_tasks, pair_deadlines, pair_modes, pairs, clock)
     }
 }
 
 // A tick that is not refused, but for the nodes: (a) to (f).
 fn accepted<'a>(
-    results: [Given; TaskNo::MOST],
-    changes: [Change; ModuleNo::MOST],
-    modules: Modules,
-    modes: Modes,
-    tasks: Tasks,
-    controls: Controls,
-    datas: u16,
-    period: Ticks,
+    input: Input,
+    fixed: Fixed,
     play: Play,
     runs: &'a [u32; ModeNo::MOST * TaskNo::MOST],
-    row_tasks: &'a [u8; Frame::MOST],
-    row_deadlines: &'a [u32; Frame::MOST],
-    row_starts: &'a [u32; Frame::MOST],
-    row_stops: &'a [u32; Frame::MOST],
-) -> Turned
-    requires { ⌜ ok tt ≡ refusedBy results changes modules modes tasks controls datas period play (now runs) (now «row_tasks») (now «row_deadlines») (now «row_starts») (now «row_stops») ⌝ }
-    ensures { λ r. ⌜ ((nodes : List AnyNode) → Valued nodes → Turns (stationBy modules modes tasks controls datas period (now (runs .entry)) (now («row_tasks» .entry)) (now («row_deadlines» .entry)) (now («row_starts» .entry)) (now («row_stops» .entry)) play nodes) results changes (r .said) (r .turn)) ⌝ }
+    pair_tasks: &'a [u8; Frame::MOST],
+    pair_deadlines: &'a [u32; Frame::MOST],
+    pair_starts: &'a [u32; Frame::MOST],
+    pair_stops: &'a [u32; Frame::MOST],
+    pair_modes: &'a [u32; Frame::MOST],
+) -> TickBeforeNodes
+    requires { ⌜ ok tt ≡ refusedBy input fixed play (now runs) (now «pair_tasks») (now «pair_deadlines») (now «pair_starts») (now «pair_stops») ⌝ }
+    ensures { λ r. ⌜ ((nodes : List AnyNode) → Valued nodes → Completes (stationBy fixed (now (runs .entry)) (now («pair_tasks» .entry)) (now («pair_deadlines» .entry)) (now («pair_starts» .entry)) (now («pair_stops» .entry)) (now («pair_modes» .entry)) play nodes) input (r .said) (r .part)) ⌝ }
 {
-    let ends = ends_now(runs, &play.running, &play.ages, &tasks.homes);
-    let next = moves(
-        results,
-        changes,
-        modules,
-        modes,
-        tasks,
-        controls,
-        datas,
-        period,
+    let ends = ends_now(runs, &play.running, &play.ages, &fixed.tasks.homes);
+    let next = advance(
+        input,
+        fixed,
         play,
         &ends,
-        runs,
-        row_tasks,
-        row_deadlines,
-        row_starts,
-        row_stops,
+        pair_tasks,
+        pair_deadlines,
+        pair_starts,
+        pair_stops,
+        pair_modes,
     );
-    let landing = what_lands(modules, tasks, datas, play, row_tasks, row_stops);
-    let idle = is_idle(landing, &ends);
+    let pairs = fixed.pairs as usize;
+    let landing = lands(pair_tasks, pair_stops, pairs, play.clock, &play.full);
+    let idle = is_idle(&landing, &ends);
+    let due = due_now(
+        idle,
+        pairs,
+        play.clock,
+        pair_tasks,
+        pair_deadlines,
+        pair_modes,
+    );
     let said = next.said;
     let after = next.play;
-    Turned {
+    TickBeforeNodes {
         said,
-        turn: Turn {
+        part: BeforeNodes {
             play: after,
             idle,
-            clock: play.clock,
-            landing,
+            lands: landing,
+            loads: play.loads,
+            due,
             ends,
         },
     }
 }
 
 // A tick but for the nodes: a refusal, or (a) to (f). The station may hold any nodes.
-pub fn turned_by<'a>(
-    results: [Given; TaskNo::MOST],
-    changes: [Change; ModuleNo::MOST],
-    modules: Modules,
-    modes: Modes,
-    tasks: Tasks,
-    controls: Controls,
-    datas: u16,
-    period: Ticks,
+pub fn tick_before_nodes<'a>(
+    input: Input,
+    fixed: Fixed,
     play: Play,
     runs: &'a [u32; ModeNo::MOST * TaskNo::MOST],
-    row_tasks: &'a [u8; Frame::MOST],
-    row_deadlines: &'a [u32; Frame::MOST],
-    row_starts: &'a [u32; Frame::MOST],
-    row_stops: &'a [u32; Frame::MOST],
-) -> Turned
-    ensures { λ r. ⌜ ((nodes : List AnyNode) → Valued nodes → Turns (stationBy modules modes tasks controls datas period (now (runs .entry)) (now («row_tasks» .entry)) (now («row_deadlines» .entry)) (now («row_starts» .entry)) (now («row_stops» .entry)) play nodes) results changes (r .said) (r .turn)) ⌝ }
+    pair_tasks: &'a [u8; Frame::MOST],
+    pair_deadlines: &'a [u32; Frame::MOST],
+    pair_starts: &'a [u32; Frame::MOST],
+    pair_stops: &'a [u32; Frame::MOST],
+    pair_modes: &'a [u32; Frame::MOST],
+) -> TickBeforeNodes
+    ensures { λ r. ⌜ ((nodes : List AnyNode) → Valued nodes → Completes (stationBy fixed (now (runs .entry)) (now («pair_tasks» .entry)) (now («pair_deadlines» .entry)) (now («pair_starts» .entry)) (now («pair_stops» .entry)) (now («pair_modes» .entry)) play nodes) input (r .said) (r .part)) ⌝ }
 {
     match refused(
-        results,
-        changes,
-        modules,
-        modes,
-        tasks,
-        controls,
-        datas,
-        period,
+        input,
+        fixed,
         play,
         runs,
-        row_tasks,
-        row_deadlines,
-        row_starts,
-        row_stops,
+        pair_tasks,
+        pair_deadlines,
+        pair_starts,
+        pair_stops,
     ) {
-        Verdict::Refused(x) => Turned {
+        Verdict::Refused(x) => TickBeforeNodes {
             said: Said::Refused(x),
-            turn: at_rest(play),
+            part: left_alone(play),
         },
         Verdict::Fine => accepted(
-            results,
-            changes,
-            modules,
-            modes,
-            tasks,
-            controls,
-            datas,
-            period,
+            input,
+            fixed,
             play,
             runs,
-            row_tasks,
-            row_deadlines,
-            row_starts,
-            row_stops,
+            pair_tasks,
+            pair_deadlines,
+            pair_starts,
+            pair_stops,
+            pair_modes,
         ),
     }
 }
 
-// Steps (b) and (c) on the nodes, by what has moved already.
-pub fn nodes_turned<'a>(
+// Steps (b) and (c) on the nodes, behind the part of the tick before them.
+pub fn nodes_after_tick(
     nodes: [Node; NodeNo::MOST],
-    modules: Modules,
-    tasks: Tasks,
-    turn: Turn,
-    runs: &'a [u32; ModeNo::MOST * TaskNo::MOST],
+    fixed: Fixed,
+    part: BeforeNodes,
 ) -> [Node; NodeNo::MOST]
-    ensures { λ r. ⌜ r ≡ nodesBy modules tasks (turn .play) (turn .clock .0) (turn .landing) (turn .ends) (now (runs .entry)) nodes ⌝ }
+    ensures { λ r. ⌜ r ≡ nodesBy fixed part nodes ⌝ }
 {
-    let next = turn.play;
-    let landing = turn.landing;
     nodes_after(
         nodes,
-        landing,
-        &turn.ends,
-        &tasks.homes,
-        &modules.sites,
-        &next.out,
-        &next.held,
-        &tasks.bus,
-        runs,
-        turn.clock,
+        &part.lands,
+        &part.loads,
+        &part.ends,
+        &fixed.tasks.homes,
+        &fixed.modules.sites,
+        &part.play.out,
+        &part.play.held,
+        &part.due,
     )
 }
 
@@ -232,37 +228,39 @@ impl Station {
         ensures { λ r. ⌜ r ≡ notBegun ⌝ }
     {
         Station {
-            modules: Modules {
-                count: 0,
-                sites: [0; ModuleNo::MOST],
-                sending: [0; ModuleNo::MOST],
+            fixed: Fixed {
+                modules: Modules {
+                    count: 0,
+                    sites: [0; ModuleNo::MOST],
+                    sending: [0; ModuleNo::MOST],
+                },
+                modes: Modes {
+                    count: 0,
+                    homes: [0; ModeNo::MOST],
+                    periods: [0; ModeNo::MOST],
+                    switches: [0; ModeNo::MOST],
+                },
+                tasks: Tasks {
+                    count: 0,
+                    homes: [0; TaskNo::MOST],
+                    sizes: [0; TaskNo::MOST],
+                    worsts: [0; TaskNo::MOST],
+                },
+                controls: Controls {
+                    count: 0,
+                    nodes: [0; NodeNo::MOST],
+                    starts: [0; NodeNo::MOST],
+                    stops: [0; NodeNo::MOST],
+                },
+                period: Ticks(0),
+                pairs: 0,
             },
-            modes: Modes {
-                count: 0,
-                homes: [0; ModeNo::MOST],
-                periods: [0; ModeNo::MOST],
-                switches: [0; ModeNo::MOST],
-            },
-            tasks: Tasks {
-                count: 0,
-                homes: [0; TaskNo::MOST],
-                sizes: [0; TaskNo::MOST],
-                worsts: [0; TaskNo::MOST],
-                bus: [0; TaskNo::MOST],
-            },
-            controls: Controls {
-                count: 0,
-                nodes: [0; NodeNo::MOST],
-                starts: [0; NodeNo::MOST],
-                stops: [0; NodeNo::MOST],
-            },
-            period: Ticks(0),
-            datas: 0,
             runs: [0; ModeNo::MOST * TaskNo::MOST],
-            row_tasks: [0; Frame::MOST],
-            row_deadlines: [0; Frame::MOST],
-            row_starts: [0; Frame::MOST],
-            row_stops: [0; Frame::MOST],
+            pair_tasks: [0; Frame::MOST],
+            pair_deadlines: [0; Frame::MOST],
+            pair_starts: [0; Frame::MOST],
+            pair_stops: [0; Frame::MOST],
+            pair_modes: [0; Frame::MOST],
             play: Play {
                 clock: Ticks(0),
                 running: [0; ModuleNo::MOST],
@@ -271,51 +269,39 @@ impl Station {
                 givens: [0; TaskNo::MOST],
                 out: [0; TaskNo::MOST],
                 held: [0; NodeNo::MOST * ModuleNo::MOST],
-                full: 0,
-                load: 0,
+                full: [0; TaskNo::MOST],
+                loads: [0; TaskNo::MOST],
             },
             nodes: [Node::zero(); NodeNo::MOST],
         }
     }
 
     // A tick: (a) to (f), or a refusal that leaves the station as it was.
-    pub fn tick(
-        mut self,
-        results: [Given; TaskNo::MOST],
-        changes: [Change; ModuleNo::MOST],
-    ) -> Ticked
-        ensures { λ r. ⌜ Answers self (ticked (keptOf self) (stateOf self) (inputOf results changes)) r ⌝ }
+    pub fn tick(mut self, input: Input) -> Ticked
+        ensures { λ r. ⌜ Answers self (ruled self input) r ⌝ }
     {
-        let modules = self.modules;
-        let modes = self.modes;
-        let tasks = self.tasks;
-        let controls = self.controls;
+        let fixed = self.fixed;
         let play = self.play;
-        let turned = turned_by(
-            results,
-            changes,
-            modules,
-            modes,
-            tasks,
-            controls,
-            self.datas,
-            self.period,
+        let first = tick_before_nodes(
+            input,
+            fixed,
             play,
             &self.runs,
-            &self.row_tasks,
-            &self.row_deadlines,
-            &self.row_starts,
-            &self.row_stops,
+            &self.pair_tasks,
+            &self.pair_deadlines,
+            &self.pair_starts,
+            &self.pair_stops,
+            &self.pair_modes,
         );
-        let turn = turned.turn;
-        if turn.idle {} else {
+        let part = first.part;
+        if part.idle {} else {
             let nodes = self.nodes;
-            let shown = nodes_turned(nodes, modules, tasks, turn, &self.runs);
+            let shown = nodes_after_tick(nodes, fixed, part);
             self.nodes = shown;
         }
-        let after = turn.play;
+        let after = part.play;
         self.play = after;
-        let said = turned.said;
+        let said = first.said;
         Ticked {
             said,
             station: self,

@@ -1,18 +1,21 @@
--- The frames of a tick on arrays, steps (b) and (f): the mode bytes that land and that are sent, and the data frame that is sent. That
--- these are the rules of the played station is a law of the crate `station`.
-use mathlib.Core.Bool.{Bool, cond, not, _&&_}
+-- The frames of a tick on arrays, steps (b) and (f): the mode bytes that land and that are sent, the pairs that have a time, and what the
+-- data frames take. That these are the rules of the played station is a law of the crate `station`.
+use mathlib.Core.Bool.{Bool, false, cond, not, _&&_}
 use mathlib.Core.List.{List}
 use mathlib.Core.Option.{Option, none, some}
-use lib.Dec.{eqb, ltb}
+use lib.Dec.{eqb}
 use lib.ListN.{getD}
 use Prim.Native.Nat.{ℕ, _/_, _%_}
-use Rattle.laws.specs.Numbers.{divides}
-use Rattle.places.specs.Flags.{flagAt}
-use Rattle.rules.specs.Limits.{mostModules}
-use Rattle.stationruns.specs.Runs.{periodAt}
+use Rattle.laws.specs.Lists.{any, upTo}
+use Rattle.places.specs.Bits.{bitAt, bitsOf}
+use Rattle.places.specs.Flags.{isSet, flagAt, flagByte}
+use Rattle.rules.specs.Limits.{mostModules, mostModes}
 
 abbrev pub numberAt : List ℕ → ℕ → ℕ
 numberAt l k = getD l k 0
+
+abbrev pub truthAt : List Bool → ℕ → Bool
+truthAt l k = getD l k false
 
 -- a row has not this time
 abbrev pub hasOther : List ℕ → ℕ → ℕ → Bool
@@ -41,14 +44,42 @@ abbrev pub modeByteRule : List ℕ → List ℕ → (ℕ → ℕ) → List ℕ �
 modeByteRule sends nodes modes controlNodes bytes none m = getD bytes m 0
 modeByteRule sends nodes modes controlNodes bytes (some r) m = byteFromRule sends nodes modes (getD controlNodes r 0) bytes m
 
-abbrev pub messageIn : List ℕ → List ℕ → ℕ → ℕ → ℕ → Bool
-messageIn isBus runs μ t deadline = flagAt isBus t && (ltb 0 (periodAt runs μ t) && divides (periodAt runs μ t) deadline)
+-- a pair of the task has this time; some pair of it has
+abbrev pub isPairAt : List ℕ → List ℕ → ℕ → ℕ → ℕ → Bool
+isPairAt pairTasks times time t q = eqb (getD pairTasks q 0) t && eqb (getD times q 0) time
 
-abbrev pub fullRule : List ℕ → List ℕ → (ℕ → ℕ) → List ℕ → List ℕ → List ℕ → Bool → Option ℕ → Bool
-fullRule isBus runs modes homes rowTasks rowDeadlines full none = full
-fullRule isBus runs modes homes rowTasks rowDeadlines full (some r) =
-    messageIn isBus runs (modes (getD homes (getD rowTasks r 0) 0)) (getD rowTasks r 0) (getD rowDeadlines r 0)
+abbrev pub somePairAt : List ℕ → List ℕ → ℕ → ℕ → ℕ → Bool
+somePairAt pairTasks times pairs time t = any (isPairAt pairTasks times time t) (upTo pairs)
 
-abbrev pub loadRule : (ℕ → ℕ) → List ℕ → ℕ → Option ℕ → ℕ
-loadRule out rowTasks load none = load
-loadRule out rowTasks load (some r) = out (getD rowTasks r 0)
+-- such a pair has a message in this mode; the modes that have one, as the bits of a word
+abbrev pub isMessageAt : List ℕ → List ℕ → List ℕ → ℕ → ℕ → ℕ → ℕ → Bool
+isMessageAt pairTasks times pairModes time t μ q = isPairAt pairTasks times time t q && bitAt (getD pairModes q 0) μ
+
+abbrev pub someMessageAt : List ℕ → List ℕ → List ℕ → ℕ → ℕ → ℕ → ℕ → Bool
+someMessageAt pairTasks times pairModes pairs time t μ = any (isMessageAt pairTasks times pairModes time t μ) (upTo pairs)
+
+unfoldable pub modesAt : List ℕ → List ℕ → List ℕ → ℕ → ℕ → ℕ → ℕ
+modesAt pairTasks times pairModes pairs time t = bitsOf (someMessageAt pairTasks times pairModes pairs time t) mostModes
+
+-- (f) of the data frames: where a pair of the task starts, whether there is a value of it, by the modes and out-boxes after (d); where none
+-- starts it stays
+abbrev pub fullBy : ℕ → Bool → ℕ → ℕ → Bool
+fullBy full starts modes μ = cond starts (bitAt modes μ) (isSet full)
+
+abbrev pub fullStill : List ℕ → ℕ → ℕ
+fullStill full t = flagByte (flagAt full t)
+
+abbrev pub fullFrom : (ℕ → Bool) → (ℕ → ℕ) → List ℕ → (ℕ → ℕ) → List ℕ → ℕ → ℕ
+fullFrom starting sent homes modes full t = flagByte (fullBy (getD full t 0) (starting t) (sent t) (modes (getD homes t 0)))
+
+abbrev pub fullRule : List ℕ → List ℕ → List ℕ → ℕ → ℕ → List ℕ → (ℕ → ℕ) → List ℕ → Option ℕ → ℕ → ℕ
+fullRule pairTasks pairStarts pairModes pairs time homes modes full none t = fullStill full t
+fullRule pairTasks pairStarts pairModes pairs time homes modes full (some q) t =
+    fullFrom (somePairAt pairTasks pairStarts pairs time) (modesAt pairTasks pairStarts pairModes pairs time) homes modes full t
+
+abbrev pub loadFrom : (ℕ → Bool) → (ℕ → ℕ) → List ℕ → ℕ → ℕ
+loadFrom starting out loads t = cond (starting t) (out t) (getD loads t 0)
+
+abbrev pub loadRule : List ℕ → List ℕ → ℕ → ℕ → (ℕ → ℕ) → List ℕ → Option ℕ → ℕ → ℕ
+loadRule pairTasks pairStarts pairs time out loads none t = getD loads t 0
+loadRule pairTasks pairStarts pairs time out loads (some q) t = loadFrom (somePairAt pairTasks pairStarts pairs time) out loads t

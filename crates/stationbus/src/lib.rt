@@ -1,26 +1,27 @@
-// The frames of a tick: which row starts or stops now, (b) the mode bytes that land, (f) what is sent. Each step is on the array that it
-// changes; what it reads is lent.
+// The frames of a tick: which row starts or stops now, and which tasks have a pair in it; (b) the mode bytes that land, (f) what is sent.
+// Each step is on the array that it changes; what it reads is lent.
 ghost use mathlib.Core.Path.{_≡_};
-ghost use mathlib.Core.Bool.{cond, _&&_};
+ghost use mathlib.Core.Bool.{cond, false, _&&_};
+ghost use lib.Bits.{bitOr};
 ghost use lib.Dec.{leb};
-ghost use lib.ListN.{getD, length};
-ghost use Prim.Native.Nat.{ℕ, _*_, _<_};
+ghost use lib.ListN.{getD, length, replicate};
+ghost use Prim.Native.Nat.{ℕ, _*_, _^_, _<_};
 ghost use Rattle.laws.specs.Lists.{all, upTo};
 ghost use Rattle.laws.specs.Loops.{stores};
-ghost use Rattle.rules.specs.Limits.{mostModules, mostNodes};
+ghost use Rattle.rules.specs.Limits.{mostModules, mostNodes, mostTasks};
 ghost use Rattle.rules.specs.Station.{rowWith};
+ghost use Rattle.places.specs.Flags.{flagByte};
 ghost use Rattle.places.specs.Found.{placeIn};
-ghost use Rattle.stationbus.specs.Bus.{byteFromRule, fullRule, hasOther, heldAt, heldBy, heldRule, isByteAt, loadRule, messageIn, modeByteRule, numberAt};
+ghost use Rattle.stationbus.specs.Bus.{byteFromRule, fullBy, fullFrom, fullRule, fullStill, hasOther, heldAt, heldBy, heldRule, isByteAt, loadFrom, loadRule, modeByteRule, modesAt, numberAt, somePairAt, truthAt};
 use figures::both;
-use figures::divides;
 use places::Found;
 use places::byte_at;
 use places::flag_at;
+use places::flag_byte;
+use places::has_bit;
+use places::is_set;
 use places::number_at;
-use places::value_at;
-use stationruns::period_at;
 use units::Frame;
-use units::ModeNo;
 use units::ModuleNo;
 use units::NodeNo;
 use units::TaskNo;
@@ -185,63 +186,189 @@ pub fn bytes_after<'a>(
     }
 }
 
-// Whether a bus task has a message with this deadline in this mode.
-pub fn has_message<'a>(
-    bus: &'a [u8; TaskNo::MOST],
-    runs: &'a [u32; ModeNo::MOST * TaskNo::MOST],
-    mode: ModeNo,
-    task: TaskNo,
-    deadline: Ticks,
-) -> bool
-    ensures { λ r. ⌜ r ≡ messageIn (now (bus .entry)) (now (runs .entry)) (mode .0) (task .0) (deadline .0) ⌝ }
+fn tasks_from<'a>(
+    pair_tasks: &'a [u8; Frame::MOST],
+    times: &'a [u32; Frame::MOST],
+    pairs: usize,
+    time: Ticks,
+) -> [bool; TaskNo::MOST]
+    ensures { λ r. ⌜ r ≡ stores (replicate mostTasks false) (somePairAt (now («pair_tasks» .entry)) (now (times .entry)) pairs (time .0)) mostTasks ⌝ }
 {
-    let period = period_at(runs, mode, task);
-    if both(flag_at(bus, task.place()), 0 < period.0) {
-        divides(period.0, deadline.0)
+    let mut some = [false; TaskNo::MOST];
+    let mut q = 0;
+    while q < pairs {
+        let task = byte_at(pair_tasks, q);
+        if both(number_at(times, q) == time.0, task < TaskNo::MOST) {
+            some[task] = true;
+        }
+        q += 1;
+    }
+    some
+}
+
+// By task, whether a pair of it has this time; at most ticks no pair has it.
+pub fn tasks_at<'a>(
+    pair_tasks: &'a [u8; Frame::MOST],
+    times: &'a [u32; Frame::MOST],
+    pairs: usize,
+    time: Ticks,
+) -> [bool; TaskNo::MOST]
+    ensures { λ r. ⌜ r ≡ stores (replicate mostTasks false) (somePairAt (now («pair_tasks» .entry)) (now (times .entry)) pairs (time .0)) mostTasks ⌝ }
+{
+    if lacks(times, pairs, time) {
+        [false; TaskNo::MOST]
     } else {
-        false
+        tasks_from(pair_tasks, times, pairs, time)
     }
 }
 
-// (f) A data frame that starts now is full if the sender's mode has that message, and takes the out-box.
-pub fn full_after<'a>(
-    full: bool,
-    row: Found,
-    row_tasks: &'a [u8; Frame::MOST],
-    row_deadlines: &'a [u32; Frame::MOST],
+// The bits of either; a word has 32.
+fn joined(a: u32, b: u32) -> u32
+    ensures { λ r. ⌜ (r ≡ bitOr a b) × (b < 2 ^ 32) ⌝ }
+{
+    a | b
+}
+
+fn modes_from<'a>(
+    pair_tasks: &'a [u8; Frame::MOST],
+    times: &'a [u32; Frame::MOST],
+    pair_modes: &'a [u32; Frame::MOST],
+    pairs: usize,
+    time: Ticks,
+) -> [u32; TaskNo::MOST]
+    ensures { λ r. ⌜ r ≡ stores (replicate mostTasks 0) (modesAt (now («pair_tasks» .entry)) (now (times .entry)) (now («pair_modes» .entry)) pairs (time .0)) mostTasks ⌝ }
+{
+    let mut modes = [0; TaskNo::MOST];
+    let mut q = 0;
+    while q < pairs {
+        let task = byte_at(pair_tasks, q);
+        if both(number_at(times, q) == time.0, task < TaskNo::MOST) {
+            modes[task] = joined(modes[task], number_at(pair_modes, q));
+        }
+        q += 1;
+    }
+    modes
+}
+
+// By task, the modes that have a message of a pair of it with this time, as bits.
+pub fn modes_at<'a>(
+    pair_tasks: &'a [u8; Frame::MOST],
+    times: &'a [u32; Frame::MOST],
+    pair_modes: &'a [u32; Frame::MOST],
+    pairs: usize,
+    time: Ticks,
+) -> [u32; TaskNo::MOST]
+    ensures { λ r. ⌜ r ≡ stores (replicate mostTasks 0) (modesAt (now («pair_tasks» .entry)) (now (times .entry)) (now («pair_modes» .entry)) pairs (time .0)) mostTasks ⌝ }
+{
+    if lacks(times, pairs, time) {
+        [0; TaskNo::MOST]
+    } else {
+        modes_from(pair_tasks, times, pair_modes, pairs, time)
+    }
+}
+
+fn full_at(full: u8, starts: bool, modes: u32, mode: usize) -> u8
+    ensures { λ r. ⌜ r ≡ flagByte (fullBy full starts modes mode) ⌝ }
+{
+    if starts {
+        flag_byte(has_bit(modes, mode))
+    } else {
+        flag_byte(is_set(full))
+    }
+}
+
+fn full_kept(mut full: [u8; TaskNo::MOST]) -> [u8; TaskNo::MOST]
+    ensures { λ r. ⌜ r ≡ stores full (fullStill full) mostTasks ⌝ }
+{
+    let mut t = 0;
+    while t < TaskNo::MOST {
+        full[t] = flag_byte(is_set(full[t]));
+        t += 1;
+    }
+    full
+}
+
+fn full_from<'a>(
+    mut full: [u8; TaskNo::MOST],
+    starting: &'a [bool; TaskNo::MOST],
+    sent: &'a [u32; TaskNo::MOST],
     homes: &'a [u8; TaskNo::MOST],
     modes: &'a [u8; ModuleNo::MOST],
-    bus: &'a [u8; TaskNo::MOST],
-    runs: &'a [u32; ModeNo::MOST * TaskNo::MOST],
-) -> bool
-    ensures { λ r. ⌜ r ≡ fullRule (now (bus .entry)) (now (runs .entry)) (numberAt (now (modes .entry))) (now (homes .entry)) (now («row_tasks» .entry)) (now («row_deadlines» .entry)) full (placeIn row) ⌝ }
+) -> [u8; TaskNo::MOST]
+    ensures { λ r. ⌜ r ≡ stores full (fullFrom (truthAt (now (starting .entry))) (numberAt (now (sent .entry))) (now (homes .entry)) (numberAt (now (modes .entry))) full) mostTasks ⌝ }
 {
-    match row {
-        Found::Nothing => full,
-        Found::At(r) => {
-            let task = byte_at(row_tasks, r);
-            let mode = byte_at(modes, byte_at(homes, task));
-            has_message(
-                bus,
-                runs,
-                ModeNo(mode as u8),
-                TaskNo(task as u8),
-                Ticks(number_at(row_deadlines, r)),
-            )
+    let mut t = 0;
+    while t < TaskNo::MOST {
+        let mode = byte_at(modes, byte_at(homes, t));
+        full[t] = full_at(full[t], starting[t], sent[t], mode);
+        t += 1;
+    }
+    full
+}
+
+// (f) of the data frames: a task of which a pair starts now has a value on the bus if its mode has the message of such a pair. `first` is
+// the lowest pair that starts now.
+pub fn full_after<'a>(
+    full: [u8; TaskNo::MOST],
+    first: Found,
+    pairs: usize,
+    time: Ticks,
+    pair_tasks: &'a [u8; Frame::MOST],
+    pair_starts: &'a [u32; Frame::MOST],
+    pair_modes: &'a [u32; Frame::MOST],
+    homes: &'a [u8; TaskNo::MOST],
+    modes: &'a [u8; ModuleNo::MOST],
+) -> [u8; TaskNo::MOST]
+    ensures { λ r. ⌜ r ≡ stores full (fullRule (now («pair_tasks» .entry)) (now («pair_starts» .entry)) (now («pair_modes» .entry)) pairs (time .0) (now (homes .entry)) (numberAt (now (modes .entry))) full (placeIn first)) mostTasks ⌝ }
+{
+    match first {
+        Found::Nothing => full_kept(full),
+        Found::At(_) => {
+            let starting = tasks_at(pair_tasks, pair_starts, pairs, time);
+            let sent = modes_at(pair_tasks, pair_starts, pair_modes, pairs, time);
+            full_from(full, &starting, &sent, homes, modes)
         }
     }
 }
 
-pub fn load_after<'a>(
-    load: u64,
-    row: Found,
-    row_tasks: &'a [u8; Frame::MOST],
-    out: &'a [u64; TaskNo::MOST],
-) -> u64
-    ensures { λ r. ⌜ r ≡ loadRule (numberAt (now (out .entry))) (now («row_tasks» .entry)) load (placeIn row) ⌝ }
+fn load_at(load: u64, starts: bool, out: u64) -> u64
+    ensures { λ r. ⌜ r ≡ cond starts out load ⌝ }
 {
-    match row {
-        Found::Nothing => load,
-        Found::At(r) => value_at(out, byte_at(row_tasks, r)),
+    if starts { out } else { load }
+}
+
+fn loads_from<'a>(
+    mut loads: [u64; TaskNo::MOST],
+    starting: &'a [bool; TaskNo::MOST],
+    out: &'a [u64; TaskNo::MOST],
+) -> [u64; TaskNo::MOST]
+    ensures { λ r. ⌜ r ≡ stores loads (loadFrom (truthAt (now (starting .entry))) (numberAt (now (out .entry))) loads) mostTasks ⌝ }
+{
+    let mut t = 0;
+    while t < TaskNo::MOST {
+        loads[t] = load_at(loads[t], starting[t], out[t]);
+        t += 1;
+    }
+    loads
+}
+
+// (f): and it is the task's out-box.
+pub fn loads_after<'a>(
+    loads: [u64; TaskNo::MOST],
+    first: Found,
+    pairs: usize,
+    time: Ticks,
+    pair_tasks: &'a [u8; Frame::MOST],
+    pair_starts: &'a [u32; Frame::MOST],
+    out: &'a [u64; TaskNo::MOST],
+) -> [u64; TaskNo::MOST]
+    ensures { λ r. ⌜ r ≡ stores loads (loadRule (now («pair_tasks» .entry)) (now («pair_starts» .entry)) pairs (time .0) (numberAt (now (out .entry))) loads (placeIn first)) mostTasks ⌝ }
+{
+    match first {
+        Found::Nothing => loads,
+        Found::At(_) => {
+            let starting = tasks_at(pair_tasks, pair_starts, pairs, time);
+            loads_from(loads, &starting, out)
+        }
     }
 }

@@ -1,39 +1,31 @@
-// What a tick makes of a station but for its nodes: the row that starts, (a), (b) of the mode bytes, (d) and (f), and what lands.
+// What a tick makes of a station but for its nodes: the row that starts, (a), (b) of the mode bytes, (d) and (f).
 ghost use mathlib.Core.Path.{_≡_};
 ghost use Prim.Native.Nat.{ℕ, _*_, _<_};
 ghost use lib.ListN.{getD};
 ghost use Rattle.laws.specs.Loops.{stores};
 ghost use Rattle.places.specs.Found.{placeIn};
 ghost use Rattle.rules.specs.Limits.{mostModules, mostNodes};
-ghost use Rattle.stationmoves.specs.Moving.{Reads, heldNow, controlAt, dataAt, landingBy, movedBy, playBy, saidBy};
+ghost use Rattle.stationmoves.specs.Moving.{Reads, advancedBy, controlAt, dataAt, heldNow, playAfter, saidBy};
 use answers::Refusal;
 use figures::rest;
 use places::Found;
 use places::byte_at;
-use places::flag_byte;
-use places::is_set;
 use places::number_at;
 use stationbus::bytes_after;
 use stationbus::full_after;
 use stationbus::held_after;
-use stationbus::load_after;
+use stationbus::loads_after;
 use stationbus::row_with;
-use stationnodes::Landing;
-use stationnodes::lands;
 use stationrefusals::Controls;
-use stationrefusals::Modes;
-use stationrefusals::Modules;
+use stationrefusals::Fixed;
 use stationrefusals::Play;
-use stationrefusals::Tasks;
-use stationruns::Change;
-use stationruns::Given;
+use stationruns::Input;
 use stationsteps::ages_after;
-use stationsteps::givens_after;
+use stationsteps::had_after;
 use stationsteps::modes_after;
 use stationsteps::one_on;
 use stationsteps::out_after;
 use units::Frame;
-use units::ModeNo;
 use units::ModuleNo;
 use units::NodeNo;
 use units::TaskNo;
@@ -59,8 +51,8 @@ pub enum Said {
     Refused(Refusal),
 }
 
-// What the rows that start, and the steps but for the nodes, give.
-pub struct Moved {
+// What a tick says and what it makes of the play.
+pub struct Advanced {
     pub said: Said,
     pub play: Play,
 }
@@ -76,43 +68,43 @@ fn control_row(controls: Controls, r: usize) -> ControlRow
 }
 
 fn data_row<'a>(
-    row_tasks: &'a [u8; Frame::MOST],
-    row_deadlines: &'a [u32; Frame::MOST],
-    row_starts: &'a [u32; Frame::MOST],
-    row_stops: &'a [u32; Frame::MOST],
-    r: usize,
+    pair_tasks: &'a [u8; Frame::MOST],
+    pair_deadlines: &'a [u32; Frame::MOST],
+    pair_starts: &'a [u32; Frame::MOST],
+    pair_stops: &'a [u32; Frame::MOST],
+    q: usize,
 ) -> DataRow
-    ensures { λ w. ⌜ w ≡ dataAt (now («row_tasks» .entry)) (now («row_deadlines» .entry)) (now («row_starts» .entry)) (now («row_stops» .entry)) r ⌝ }
+    ensures { λ w. ⌜ w ≡ dataAt (now («pair_tasks» .entry)) (now («pair_deadlines» .entry)) (now («pair_starts» .entry)) (now («pair_stops» .entry)) q ⌝ }
 {
     DataRow {
-        task: TaskNo(byte_at(row_tasks, r) as u8),
-        deadline: Ticks(number_at(row_deadlines, r)),
-        start: Ticks(number_at(row_starts, r)),
-        stop: Ticks(number_at(row_stops, r)),
+        task: TaskNo(byte_at(pair_tasks, q) as u8),
+        deadline: Ticks(number_at(pair_deadlines, q)),
+        start: Ticks(number_at(pair_starts, q)),
+        stop: Ticks(number_at(pair_stops, q)),
     }
 }
 
-// The row that starts now.
+// The row that starts now: a control row, or the row that the lowest pair that starts now rides in.
 fn started<'a>(
     control: Found,
-    message: Found,
+    first: Found,
     controls: Controls,
-    row_tasks: &'a [u8; Frame::MOST],
-    row_deadlines: &'a [u32; Frame::MOST],
-    row_starts: &'a [u32; Frame::MOST],
-    row_stops: &'a [u32; Frame::MOST],
+    pair_tasks: &'a [u8; Frame::MOST],
+    pair_deadlines: &'a [u32; Frame::MOST],
+    pair_starts: &'a [u32; Frame::MOST],
+    pair_stops: &'a [u32; Frame::MOST],
 ) -> Said
-    ensures { λ r. ⌜ r ≡ saidBy controls (now («row_tasks» .entry)) (now («row_deadlines» .entry)) (now («row_starts» .entry)) (now («row_stops» .entry)) (placeIn control) (placeIn message) ⌝ }
+    ensures { λ r. ⌜ r ≡ saidBy controls (now («pair_tasks» .entry)) (now («pair_deadlines» .entry)) (now («pair_starts» .entry)) (now («pair_stops» .entry)) (placeIn control) (placeIn first) ⌝ }
 {
     match control {
         Found::At(r) => Said::Control(control_row(controls, r)),
-        Found::Nothing => match message {
-            Found::At(r) => Said::Data(data_row(
-                row_tasks,
-                row_deadlines,
-                row_starts,
-                row_stops,
-                r,
+        Found::Nothing => match first {
+            Found::At(q) => Said::Data(data_row(
+                pair_tasks,
+                pair_deadlines,
+                pair_starts,
+                pair_stops,
+                q,
             )),
             Found::Nothing => Said::Quiet,
         },
@@ -120,153 +112,139 @@ fn started<'a>(
 }
 
 // (b) of a control frame: the mode bytes that the nodes hold, by the control row that stops now.
-fn held_by(modules: Modules, controls: Controls, play: Play) -> [u8; NodeNo::MOST * ModuleNo::MOST]
-    ensures { λ r. ⌜ r ≡ stores (play .held) (heldNow modules controls play) (mostNodes * mostModules) ⌝ }
-    ensures reads { λ r. ⌜ ((j : ℕ) → j < mostNodes * mostModules → getD r j 0 ≡ heldNow modules controls play j) ⌝ }
+fn held_by(fixed: Fixed, play: Play) -> [u8; NodeNo::MOST * ModuleNo::MOST]
+    ensures { λ r. ⌜ r ≡ stores (play .held) (heldNow fixed play) (mostNodes * mostModules) ⌝ }
+    ensures reads { λ r. ⌜ ((j : ℕ) → j < mostNodes * mostModules → getD r j 0 ≡ heldNow fixed play j) ⌝ }
 {
-    let ended = row_with(&controls.stops, controls.count as usize, play.clock);
+    let ended = row_with(
+        &fixed.controls.stops,
+        fixed.controls.count as usize,
+        play.clock,
+    );
     let old = play.held;
     held_after(
         old,
         ended,
-        &controls.nodes,
-        &modules.sending,
-        &modules.sites,
+        &fixed.controls.nodes,
+        &fixed.modules.sending,
+        &fixed.modules.sites,
         &play.bytes,
     )
 }
 
-// The steps but for the nodes; `control` and `message` are the rows that start now.
-fn played<'a>(
-    results: [Given; TaskNo::MOST],
-    changes: [Change; ModuleNo::MOST],
-    modules: Modules,
-    modes: Modes,
-    tasks: Tasks,
-    controls: Controls,
+// The play after the steps; `control` is the control row that starts now, `first` the lowest pair that starts now, at this time.
+fn play_after<'a>(
+    input: Input,
+    fixed: Fixed,
     play: Play,
-    period: Ticks,
+    time: Ticks,
     control: Found,
-    message: Found,
+    first: Found,
     ends: &'a [bool; TaskNo::MOST],
-    runs: &'a [u32; ModeNo::MOST * TaskNo::MOST],
-    row_tasks: &'a [u8; Frame::MOST],
-    row_deadlines: &'a [u32; Frame::MOST],
+    pair_tasks: &'a [u8; Frame::MOST],
+    pair_starts: &'a [u32; Frame::MOST],
+    pair_modes: &'a [u32; Frame::MOST],
 ) -> Play
-    ensures { λ r. ⌜ r ≡ playBy results changes modules modes tasks controls play period (placeIn control) (placeIn message) (now (ends .entry)) (now (runs .entry)) (now («row_tasks» .entry)) (now («row_deadlines» .entry)) ⌝ }
-    ensures reads { λ r. ⌜ Reads results modules controls play r ⌝ }
+    ensures { λ r. ⌜ r ≡ playAfter input fixed play (time .0) (placeIn control) (placeIn first) (now (ends .entry)) (now («pair_tasks» .entry)) (now («pair_starts» .entry)) (now («pair_modes» .entry)) ⌝ }
+    ensures reads { λ r. ⌜ Reads input fixed play r ⌝ }
 {
+    let pairs = fixed.pairs as usize;
+    let given = input.given;
     let old_out = play.out;
-    let out = out_after(results, old_out);
-    let held = held_by(modules, controls, play);
+    let out = out_after(&input.results, given, old_out);
+    let held = held_by(fixed, play);
+    let changed = input.changed;
     let old_running = play.running;
-    let running = modes_after(changes, old_running);
+    let running = modes_after(&input.modes, changed, old_running);
     let old_ages = play.ages;
-    let ages = ages_after(changes, old_ages, &play.running, &modes.periods);
-    let old_givens = play.givens;
-    let givens = givens_after(results, changes, old_givens, ends, &tasks.homes);
+    let ages = ages_after(
+        &input.changed,
+        old_ages,
+        &play.running,
+        &fixed.modes.periods,
+    );
+    let old_had = play.givens;
+    let had = had_after(
+        &input.given,
+        &input.changed,
+        old_had,
+        ends,
+        &fixed.tasks.homes,
+    );
     let old_bytes = play.bytes;
     let bytes = bytes_after(
         old_bytes,
         control,
-        &controls.nodes,
-        &modules.sending,
-        &modules.sites,
+        &fixed.controls.nodes,
+        &fixed.modules.sending,
+        &fixed.modules.sites,
         &running,
     );
+    let old_full = play.full;
     let full = full_after(
-        is_set(play.full),
-        message,
-        row_tasks,
-        row_deadlines,
-        &tasks.homes,
+        old_full,
+        first,
+        pairs,
+        time,
+        pair_tasks,
+        pair_starts,
+        pair_modes,
+        &fixed.tasks.homes,
         &running,
-        &tasks.bus,
-        runs,
     );
-    let load = load_after(play.load, message, row_tasks, &out);
+    let old_loads = play.loads;
+    let loads = loads_after(old_loads, first, pairs, time, pair_tasks, pair_starts, &out);
     Play {
-        clock: one_on(play.clock, period),
+        clock: one_on(play.clock, fixed.period),
         running,
         ages,
         bytes,
-        givens,
+        givens: had,
         out,
         held,
-        full: flag_byte(full),
-        load,
+        full,
+        loads,
     }
 }
 
-pub fn moves<'a>(
-    results: [Given; TaskNo::MOST],
-    changes: [Change; ModuleNo::MOST],
-    modules: Modules,
-    modes: Modes,
-    tasks: Tasks,
-    controls: Controls,
-    datas: u16,
-    period: Ticks,
+// A tick on all but the nodes: the row that starts, and the play after it. `ends` are the runs that end now.
+pub fn advance<'a>(
+    input: Input,
+    fixed: Fixed,
     play: Play,
     ends: &'a [bool; TaskNo::MOST],
-    runs: &'a [u32; ModeNo::MOST * TaskNo::MOST],
-    row_tasks: &'a [u8; Frame::MOST],
-    row_deadlines: &'a [u32; Frame::MOST],
-    row_starts: &'a [u32; Frame::MOST],
-    row_stops: &'a [u32; Frame::MOST],
-) -> Moved
-    ensures { λ r. ⌜ r ≡ movedBy results changes modules modes tasks controls datas period play (now (ends .entry)) (now (runs .entry)) (now («row_tasks» .entry)) (now («row_deadlines» .entry)) (now («row_starts» .entry)) (now («row_stops» .entry)) ⌝ }
-    ensures reads { λ r. ⌜ Reads results modules controls play (r .play) ⌝ }
+    pair_tasks: &'a [u8; Frame::MOST],
+    pair_deadlines: &'a [u32; Frame::MOST],
+    pair_starts: &'a [u32; Frame::MOST],
+    pair_stops: &'a [u32; Frame::MOST],
+    pair_modes: &'a [u32; Frame::MOST],
+) -> Advanced
+    ensures { λ r. ⌜ r ≡ advancedBy input fixed play (now (ends .entry)) (now («pair_tasks» .entry)) (now («pair_deadlines» .entry)) (now («pair_starts» .entry)) (now («pair_stops» .entry)) (now («pair_modes» .entry)) ⌝ }
+    ensures reads { λ r. ⌜ Reads input fixed play (r .play) ⌝ }
 {
-    let time = Ticks(rest(play.clock.0, period.0));
-    let control = row_with(&controls.starts, controls.count as usize, time);
-    let message = row_with(row_starts, datas as usize, time);
+    let time = Ticks(rest(play.clock.0, fixed.period.0));
+    let control = row_with(&fixed.controls.starts, fixed.controls.count as usize, time);
+    let first = row_with(pair_starts, fixed.pairs as usize, time);
     let said = started(
         control,
-        message,
-        controls,
-        row_tasks,
-        row_deadlines,
-        row_starts,
-        row_stops,
+        first,
+        fixed.controls,
+        pair_tasks,
+        pair_deadlines,
+        pair_starts,
+        pair_stops,
     );
-    let next = played(
-        results,
-        changes,
-        modules,
-        modes,
-        tasks,
-        controls,
+    let next = play_after(
+        input,
+        fixed,
         play,
-        period,
+        time,
         control,
-        message,
+        first,
         ends,
-        runs,
-        row_tasks,
-        row_deadlines,
+        pair_tasks,
+        pair_starts,
+        pair_modes,
     );
-    Moved { said, play: next }
-}
-
-// What lands now: the data frame that stops.
-pub fn what_lands<'a>(
-    modules: Modules,
-    tasks: Tasks,
-    datas: u16,
-    play: Play,
-    row_tasks: &'a [u8; Frame::MOST],
-    row_stops: &'a [u32; Frame::MOST],
-) -> Landing
-    ensures { λ r. ⌜ r ≡ landingBy modules tasks datas play (now («row_tasks» .entry)) (now («row_stops» .entry)) ⌝ }
-{
-    let stopped = row_with(row_stops, datas as usize, play.clock);
-    lands(
-        stopped,
-        is_set(play.full),
-        play.load,
-        row_tasks,
-        &tasks.homes,
-        &modules.sites,
-    )
+    Advanced { said, play: next }
 }

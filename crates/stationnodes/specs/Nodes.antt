@@ -1,16 +1,15 @@
 -- Steps (b) and (c) on the nodes: what lands, and what a node shows.
-use mathlib.Core.Bool.{Bool, true, false, cond, not, _&&_}
+use mathlib.Core.Bool.{Bool, cond, not, _&&_}
 use mathlib.Core.List.{List, []}
-use mathlib.Core.Option.{Option, none, some}
 use lib.Dec.{eqb}
 use lib.ListN.{getD, replicate}
 use Prim.Native.Nat.{ℕ, _+_, _*_}
 use Rattle.laws.specs.Loops.{stores}
+use Rattle.places.specs.Bits.{bitAt}
+use Rattle.places.specs.Flags.{flagAt}
 use Rattle.rules.specs.Limits.{mostModules, mostTasks}
-use Rattle.stationbus.specs.Bus.{messageIn}
+use Rattle.stationbus.specs.Bus.{truthAt, somePairAt}
 use Rattle.stationnodes.specs.declared.Node.{Node}
-use Rattle.stationnodes.specs.declared.Landing.{Landing}
-use Rattle.stationnodes.specs.declared.Landing.the-variants.{Nothing, Value}
 
 -- a node before the first tick (rule 8.4)
 abbrev pub zeroNode : Node
@@ -20,43 +19,42 @@ zeroNode = record { landed = replicate mostTasks 0; shown = replicate mostTasks 
 abbrev pub noNode : Node
 noNode = record { landed = []; shown = [] }
 
--- (b), rule 8.12: what the frame that stops lands, nothing where it is empty
-abbrev pub landingOf : List ℕ → List ℕ → List ℕ → Bool → ℕ → Option ℕ → Landing
-landingOf rowTasks homes nodes full load none = Nothing
-landingOf rowTasks homes nodes full load (some r) =
-    cond full (Value (record { 0 = getD rowTasks r 0 }) (record { 0 = getD nodes (getD homes (getD rowTasks r 0) 0) 0 }) load) Nothing
+-- (b), rule 8.12: a value of the task lands where a pair of it stops, and the data frame has a value of it
+abbrev pub landsFrom : (ℕ → Bool) → List ℕ → ℕ → Bool
+landsFrom stopping full t = stopping t && flagAt full t
 
-abbrev pub landedRule : Landing → ℕ → List ℕ → ℕ → ℕ
-landedRule Nothing n landed t = getD landed t 0
-landedRule (Value task sender v) n landed t = cond (eqb (task .0) t && not (eqb (sender .0) n)) v (getD landed t 0)
+abbrev pub landsRule : List ℕ → List ℕ → ℕ → ℕ → List ℕ → ℕ → Bool
+landsRule pairTasks pairStops pairs clock full t = landsFrom (somePairAt pairTasks pairStops pairs clock) full t
 
--- (c) by the runs that end, the out-boxes after (a), the landed values and the mode bytes held after (b)
-abbrev pub shownAt : List Bool → List ℕ → List ℕ → List ℕ → List ℕ → List ℕ → List ℕ → ℕ → ℕ → (ℕ → ℕ) → ℕ → ℕ → ℕ
-shownAt ends homes nodes out held isBus runs clock n landed t old =
-    cond (getD ends t false && eqb (getD nodes (getD homes t 0) 0) n) (getD out t 0)
-    (cond (getD ends t false && messageIn isBus runs (getD held (n * mostModules + getD homes t 0) 0) t clock) (landed t) old)
+-- on every node but the sender's
+abbrev pub landedAt : List Bool → List ℕ → List ℕ → List ℕ → ℕ → ℕ → ℕ → ℕ
+landedAt lands loads homes nodes n t old = cond (truthAt lands t && not (eqb (getD nodes (getD homes t 0) 0) n)) (getD loads t 0) old
 
-abbrev pub shownRule : List Bool → List ℕ → List ℕ → List ℕ → List ℕ → List ℕ → List ℕ → ℕ → ℕ → (ℕ → ℕ) → List ℕ → ℕ → ℕ
-shownRule ends homes nodes out held isBus runs clock n landed shown t =
-    shownAt ends homes nodes out held isBus runs clock n landed t (getD shown t 0)
+abbrev pub landedRule : List Bool → List ℕ → List ℕ → List ℕ → ℕ → List ℕ → ℕ → ℕ
+landedRule lands loads homes nodes n landed t = landedAt lands loads homes nodes n t (getD landed t 0)
 
-unfoldable pub nodeAt : List Bool → List ℕ → List ℕ → List ℕ → List ℕ → List ℕ → List ℕ → ℕ → Landing → ℕ → Node → Node
-nodeAt ends homes nodes out held isBus runs clock landing n node =
+-- (c) by the runs that end, the out-boxes after (a), the landed values and the mode bytes held after (b), and by task the modes that have a
+-- message with this deadline
+abbrev pub shownAt : List Bool → List ℕ → List ℕ → List ℕ → List ℕ → List ℕ → ℕ → (ℕ → ℕ) → ℕ → ℕ → ℕ
+shownAt ends homes nodes out held due n landed t old =
+    cond (truthAt ends t && eqb (getD nodes (getD homes t 0) 0) n) (getD out t 0)
+    (cond (truthAt ends t && bitAt (getD due t 0) (getD held (n * mostModules + getD homes t 0) 0)) (landed t) old)
+
+abbrev pub shownRule : List Bool → List ℕ → List ℕ → List ℕ → List ℕ → List ℕ → ℕ → (ℕ → ℕ) → List ℕ → ℕ → ℕ
+shownRule ends homes nodes out held due n landed shown t = shownAt ends homes nodes out held due n landed t (getD shown t 0)
+
+unfoldable pub nodeAt : List Bool → List ℕ → List Bool → List ℕ → List ℕ → List ℕ → List ℕ → List ℕ → ℕ → Node → Node
+nodeAt lands loads ends homes nodes out held due n node =
     record {
-      landed = stores (node .landed) (landedRule landing n (node .landed)) mostTasks;
+      landed = stores (node .landed) (landedRule lands loads homes nodes n (node .landed)) mostTasks;
       shown =
           stores (node .shown)
-          (shownRule ends homes nodes out held isBus runs clock n (landedRule landing n (node .landed)) (node .shown)) mostTasks;
+          (shownRule ends homes nodes out held due n (landedRule lands loads homes nodes n (node .landed)) (node .shown)) mostTasks;
     }
 
-unfoldable pub nodeRule : List Bool → List ℕ → List ℕ → List ℕ → List ℕ → List ℕ → List ℕ → ℕ → Landing → List Node → ℕ → Node
-nodeRule ends homes nodes out held isBus runs clock landing old n =
-    nodeAt ends homes nodes out held isBus runs clock landing n (getD old n noNode)
+unfoldable pub nodeRule : List Bool → List ℕ → List Bool → List ℕ → List ℕ → List ℕ → List ℕ → List ℕ → List Node → ℕ → Node
+nodeRule lands loads ends homes nodes out held due old n = nodeAt lands loads ends homes nodes out held due n (getD old n noNode)
 
--- no run ends, and nothing lands
-abbrev pub isLanding : Landing → Bool
-isLanding Nothing = false
-isLanding (Value task sender v) = true
-
-abbrev pub quietAt : List Bool → ℕ → Bool
-quietAt ends t = not (getD ends t false)
+-- of a task: nothing lands, and no run ends
+abbrev pub isIdleAt : List Bool → List Bool → ℕ → Bool
+isIdleAt lands ends t = not (truthAt lands t) && not (truthAt ends t)

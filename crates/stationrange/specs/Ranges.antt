@@ -9,11 +9,11 @@ use Rattle.laws.specs.Lists.{all, upTo}
 use Rattle.rules.specs.Limits.{mostNodes, mostModules, mostModes, mostTasks, mostFrames, longestTime, largestMessage}
 use Rattle.rules.specs.StationRange.{isBetween, isValue}
 
--- how many modules, modes and tasks there are, the bus period, and how many rows of each kind
+-- how many modules, modes and tasks there are, the bus period, and how many control rows and pairs
 abbrev pub countsTest : ℕ → ℕ → ℕ → ℕ → ℕ → ℕ → Bool
-countsTest modules modes tasks period controls datas =
+countsTest modules modes tasks period controls pairs =
     (isBetween 1 mostModules modules && (isBetween 1 mostModes modes && isBetween 1 mostTasks tasks))
-    && (isBetween 1 longestTime period && (leb controls mostNodes && leb datas mostFrames))
+    && (isBetween 1 longestTime period && (leb controls mostNodes && leb pairs mostFrames))
 
 abbrev pub moduleTest : List ℕ → ℕ → Bool
 moduleTest nodes m = ltb (getD nodes m 0) mostNodes
@@ -42,10 +42,10 @@ abbrev pub controlTest : ℕ → List ℕ → List ℕ → List ℕ → ℕ → 
 controlTest period nodes starts stops r =
     ltb (getD nodes r 0) mostNodes && (leb (getD starts r 0) period && leb (getD stops r 0) period)
 
-abbrev pub dataTest : ℕ → ℕ → List ℕ → List ℕ → List ℕ → List ℕ → ℕ → Bool
-dataTest tasks period rowTasks rowDeadlines rowStarts rowStops r =
-    (ltb (getD rowTasks r 0) tasks && leb (getD rowDeadlines r 0) period)
-    && (leb (getD rowStarts r 0) period && leb (getD rowStops r 0) period)
+abbrev pub pairTest : ℕ → ℕ → List ℕ → List ℕ → List ℕ → List ℕ → ℕ → Bool
+pairTest tasks period pairTasks pairDeadlines pairStarts pairStops q =
+    (ltb (getD pairTasks q 0) tasks && leb (getD pairDeadlines q 0) period)
+    && (leb (getD pairStarts q 0) period && leb (getD pairStops q 0) period)
 
 -- the mode that runs, its age and its mode byte
 abbrev pub playTest : ℕ → ℕ → List ℕ → List ℕ → List ℕ → List ℕ → List ℕ → ℕ → Bool
@@ -53,8 +53,8 @@ playTest modules modes homes periods runningModes ages modeBytes m =
     (ltb (getD runningModes m 0) modes && (not (ltb m modules) || eqb (getD homes (getD runningModes m 0) 0) m))
     && (leb (getD ages m 0) (getD periods (getD runningModes m 0) 0) && ltb (getD modeBytes m 0) modes)
 
-abbrev pub boxTest : List ℕ → ℕ → Bool
-boxTest out t = isValue (getD out t 0)
+abbrev pub boxTest : List ℕ → List ℕ → ℕ → Bool
+boxTest out loads t = isValue (getD out t 0) && isValue (getD loads t 0)
 
 abbrev pub placeTest : List ℕ → List ℕ → ℕ → Bool
 placeTest landed shown t = isValue (getD landed t 0) && isValue (getD shown t 0)

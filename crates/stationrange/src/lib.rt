@@ -7,7 +7,7 @@ ghost use lib.Dec.{leb, ltb};
 ghost use Rattle.laws.specs.Lists.{all, upTo};
 ghost use Rattle.rules.specs.Limits.{mostFrames, mostModes, mostModules, mostNodes, mostTasks};
 ghost use Rattle.rules.specs.StationRange.{isBetween, isValue};
-ghost use Rattle.stationrange.specs.Ranges.{boxTest, byteTest, controlTest, countsTest, dataTest, modeTest, moduleTest, playTest, runTest, runsTest, taskTest, thingTest};
+ghost use Rattle.stationrange.specs.Ranges.{boxTest, byteTest, controlTest, countsTest, modeTest, moduleTest, pairTest, playTest, runTest, runsTest, taskTest, thingTest};
 use figures::both;
 use figures::if_so;
 use figures::wide;
@@ -27,8 +27,8 @@ fn is_between(low: usize, high: usize, x: usize) -> bool
     both(low <= x, x <= high)
 }
 
-pub fn counts(modules: u8, modes: u8, tasks: u8, period: Ticks, controls: u8, datas: u16) -> bool
-    ensures { λ r. ⌜ r ≡ countsTest modules modes tasks (period .0) controls datas ⌝ }
+pub fn counts(modules: u8, modes: u8, tasks: u8, period: Ticks, controls: u8, pairs: u16) -> bool
+    ensures { λ r. ⌜ r ≡ countsTest modules modes tasks (period .0) controls pairs ⌝ }
 {
     let things = both(
         is_between(1, ModuleNo::MOST, modules as usize),
@@ -43,7 +43,7 @@ pub fn counts(modules: u8, modes: u8, tasks: u8, period: Ticks, controls: u8, da
             is_between(1, Ticks::LONGEST as usize, period.0 as usize),
             both(
                 controls as usize <= NodeNo::MOST,
-                datas as usize <= Frame::MOST,
+                pairs as usize <= Frame::MOST,
             ),
         ),
     )
@@ -192,14 +192,7 @@ pub fn controls<'a>(
     good
 }
 
-fn data_row(
-    tasks: u8,
-    period: Ticks,
-    task: TaskNo,
-    deadline: Ticks,
-    start: Ticks,
-    stop: Ticks,
-) -> bool
+fn pair(tasks: u8, period: Ticks, task: TaskNo, deadline: Ticks, start: Ticks, stop: Ticks) -> bool
     ensures { λ r. ⌜ r ≡ ((ltb (task .0) tasks && leb (deadline .0) (period .0)) && (leb (start .0) (period .0) && leb (stop .0) (period .0))) ⌝ }
 {
     both(
@@ -208,31 +201,31 @@ fn data_row(
     )
 }
 
-pub fn datas<'a>(
+pub fn pairs<'a>(
     tasks: u8,
     period: Ticks,
-    row_tasks: &'a [u8; Frame::MOST],
-    row_deadlines: &'a [u32; Frame::MOST],
-    row_starts: &'a [u32; Frame::MOST],
-    row_stops: &'a [u32; Frame::MOST],
+    pair_tasks: &'a [u8; Frame::MOST],
+    pair_deadlines: &'a [u32; Frame::MOST],
+    pair_starts: &'a [u32; Frame::MOST],
+    pair_stops: &'a [u32; Frame::MOST],
 ) -> bool
-    ensures { λ r. ⌜ r ≡ all (dataTest tasks (period .0) (now («row_tasks» .entry)) (now («row_deadlines» .entry)) (now («row_starts» .entry)) (now («row_stops» .entry))) (upTo mostFrames) ⌝ }
+    ensures { λ r. ⌜ r ≡ all (pairTest tasks (period .0) (now («pair_tasks» .entry)) (now («pair_deadlines» .entry)) (now («pair_starts» .entry)) (now («pair_stops» .entry))) (upTo mostFrames) ⌝ }
 {
     let mut good = true;
-    let mut row = 0;
-    while row < Frame::MOST {
+    let mut q = 0;
+    while q < Frame::MOST {
         good = both(
             good,
-            data_row(
+            pair(
                 tasks,
                 period,
-                TaskNo(row_tasks[row]),
-                Ticks(row_deadlines[row]),
-                Ticks(row_starts[row]),
-                Ticks(row_stops[row]),
+                TaskNo(pair_tasks[q]),
+                Ticks(pair_deadlines[q]),
+                Ticks(pair_starts[q]),
+                Ticks(pair_stops[q]),
             ),
         );
-        row += 1;
+        q += 1;
     }
     good
 }
@@ -279,19 +272,20 @@ pub fn plays<'a>(
     good
 }
 
-pub fn is_value(v: u64) -> bool
+fn is_value(v: u64) -> bool
     ensures { λ r. ⌜ r ≡ isValue v ⌝ }
 {
     v <= 18_446_744_073_709_551_615
 }
 
-pub fn boxes<'a>(out: &'a [u64; 32]) -> bool
-    ensures { λ r. ⌜ r ≡ all (boxTest (now (out .entry))) (upTo 32) ⌝ }
+// The out-boxes, and the values on the bus.
+pub fn boxes<'a>(out: &'a [u64; TaskNo::MOST], loads: &'a [u64; TaskNo::MOST]) -> bool
+    ensures { λ r. ⌜ r ≡ all (boxTest (now (out .entry)) (now (loads .entry))) (upTo mostTasks) ⌝ }
 {
     let mut good = true;
     let mut t = 0;
     while t < TaskNo::MOST {
-        good = both(good, is_value(out[t]));
+        good = both(good, both(is_value(out[t]), is_value(loads[t])));
         t += 1;
     }
     good

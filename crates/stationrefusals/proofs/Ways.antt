@@ -9,9 +9,9 @@ module _ {a b c d e f g a′ b′ c′ d′ e′ f′ g′ m n o p q r : Bool} w
       → p ≡ (a && m) → q ≡ (n && o) → r ≡ (p && q) → r ≡ ((a′ && (b′ && c′)) && ((d′ && e′) && (f′ && g′)))
   kept-all h1 h2 h3 h4 h5 h6 h7 h8 h9 h10 h11 h12 h13 = rw (h13, h11, h12, h1, h4, h2, h3, h7, h5, h6, h10, h8, h9)
 
-pub state-all : (a : Bool) {b c d e b′ c′ d′ e′ m n o r : Bool} → b ≡ b′ → m ≡ (a && b) → c ≡ c′ → d ≡ d′ → e ≡ e′ → n ≡ (d && e)
-    → o ≡ (c && n) → r ≡ (m && o) → r ≡ ((a && b′) && (c′ && (d′ && e′)))
-state-all a h1 h2 h3 h4 h5 h6 h7 h8 = rw (h8, h2, h1, h7, h3, h6, h4, h5)
+pub state-all : (a : Bool) {c d e c′ d′ e′ n o r : Bool} → c ≡ c′ → d ≡ d′ → e ≡ e′ → n ≡ (d && e) → o ≡ (c && n) → r ≡ (a && o)
+    → r ≡ (a && (c′ && (d′ && e′)))
+state-all a h1 h2 h3 h4 h5 h6 = rw (h6, h5, h1, h4, h2, h3)
 
 -- refusals 40 to 44
 module _ {k s k′ s′ x : Bool} where

@@ -10,8 +10,7 @@ use answers::Verdict;
 use figures::both;
 use stationjudge::judged_changes;
 use stationjudge::judged_results;
-use stationruns::Change;
-use stationruns::Given;
+use stationruns::Input;
 use units::Frame;
 use units::ModeNo;
 use units::ModuleNo;
@@ -36,14 +35,13 @@ pub struct Modes {
     pub switches: [u32; ModeNo::MOST],
 }
 
-// Of each task: its module, the bytes of its message, its worst time, and whether it is a bus task.
+// Of each task: its module, the bytes of its message and its worst time.
 #[repr(C)]
 pub struct Tasks {
     pub count: u8,
     pub homes: [u8; TaskNo::MOST],
     pub sizes: [u8; TaskNo::MOST],
     pub worsts: [u32; TaskNo::MOST],
-    pub bus: [u8; TaskNo::MOST],
 }
 
 // The control rows: node, start and stop.
@@ -55,9 +53,21 @@ pub struct Controls {
     pub stops: [u32; NodeNo::MOST],
 }
 
+// What a station keeps of the plan and the table, but for the large arrays (the runs and the pairs), which are lent where they are
+// read. `pairs` is the number of pairs.
+#[repr(C)]
+pub struct Fixed {
+    pub modules: Modules,
+    pub modes: Modes,
+    pub tasks: Tasks,
+    pub controls: Controls,
+    pub period: Ticks,
+    pub pairs: u16,
+}
+
 // What a tick changes beside the nodes. `running` is each module's mode, `ages` the time since it began, `bytes` its mode byte on the
-// bus; `givens` whether a task's run has had its result; `held` the mode bytes that the nodes hold, a place for each module, node after node; `full` and `load`
-// the data frame on the bus.
+// bus; `givens` whether a task's run has had its result; `held` the mode bytes that the nodes hold, a place for each module, node after node; `full` and `loads`
+// by task, whether the data frame on the bus has a value of it, and which.
 #[repr(C)]
 pub struct Play {
     pub clock: Ticks,
@@ -67,62 +77,62 @@ pub struct Play {
     pub givens: [u8; TaskNo::MOST],
     pub out: [u64; TaskNo::MOST],
     pub held: [u8; NodeNo::MOST * ModuleNo::MOST],
-    pub full: u8,
-    pub load: u64,
+    pub full: [u8; TaskNo::MOST],
+    pub loads: [u64; TaskNo::MOST],
 }
 
 fn kept_in_range<'a>(
-    modules: Modules,
-    modes: Modes,
-    tasks: Tasks,
-    controls: Controls,
-    datas: u16,
-    period: Ticks,
+    fixed: Fixed,
     runs: &'a [u32; ModeNo::MOST * TaskNo::MOST],
-    row_tasks: &'a [u8; Frame::MOST],
-    row_deadlines: &'a [u32; Frame::MOST],
-    row_starts: &'a [u32; Frame::MOST],
-    row_stops: &'a [u32; Frame::MOST],
+    pair_tasks: &'a [u8; Frame::MOST],
+    pair_deadlines: &'a [u32; Frame::MOST],
+    pair_starts: &'a [u32; Frame::MOST],
+    pair_stops: &'a [u32; Frame::MOST],
 ) -> bool
-    ensures { λ r. ⌜ r ≡ keptTest modules modes tasks controls datas period (now (runs .entry)) (now («row_tasks» .entry)) (now («row_deadlines» .entry)) (now («row_starts» .entry)) (now («row_stops» .entry)) ⌝ }
+    ensures { λ r. ⌜ r ≡ keptTest fixed (now (runs .entry)) (now («pair_tasks» .entry)) (now («pair_deadlines» .entry)) (now («pair_starts» .entry)) (now («pair_stops» .entry)) ⌝ }
 {
     let counted = stationrange::counts(
-        modules.count,
-        modes.count,
-        tasks.count,
-        period,
-        controls.count,
-        datas,
+        fixed.modules.count,
+        fixed.modes.count,
+        fixed.tasks.count,
+        fixed.period,
+        fixed.controls.count,
+        fixed.pairs,
     );
     let moded = both(
-        stationrange::modules(&modules.sites),
+        stationrange::modules(&fixed.modules.sites),
         stationrange::modes(
-            modules.count,
-            modes.count,
-            &modes.homes,
-            &modes.periods,
-            &modes.switches,
+            fixed.modules.count,
+            fixed.modes.count,
+            &fixed.modes.homes,
+            &fixed.modes.periods,
+            &fixed.modes.switches,
         ),
     );
     let tasked = both(
         stationrange::tasks(
-            modules.count,
-            tasks.count,
-            &tasks.homes,
-            &tasks.sizes,
-            &tasks.worsts,
+            fixed.modules.count,
+            fixed.tasks.count,
+            &fixed.tasks.homes,
+            &fixed.tasks.sizes,
+            &fixed.tasks.worsts,
         ),
-        stationrange::runs(runs, &modes.periods),
+        stationrange::runs(runs, &fixed.modes.periods),
     );
     let rowed = both(
-        stationrange::controls(period, &controls.nodes, &controls.starts, &controls.stops),
-        stationrange::datas(
-            tasks.count,
-            period,
-            row_tasks,
-            row_deadlines,
-            row_starts,
-            row_stops,
+        stationrange::controls(
+            fixed.period,
+            &fixed.controls.nodes,
+            &fixed.controls.starts,
+            &fixed.controls.stops,
+        ),
+        stationrange::pairs(
+            fixed.tasks.count,
+            fixed.period,
+            pair_tasks,
+            pair_deadlines,
+            pair_starts,
+            pair_stops,
         ),
     );
     both(both(counted, moded), both(tasked, rowed))
@@ -141,55 +151,53 @@ fn bytes_in_range<'a>(held: &'a [u8; NodeNo::MOST * ModuleNo::MOST], modes: u8) 
 }
 
 // But for what the nodes hold landed and shown: each of those numbers is of its type's range.
-fn state_in_range(modules: Modules, modes: Modes, period: Ticks, play: Play) -> bool
-    ensures { λ r. ⌜ r ≡ stateTest modules modes period play ⌝ }
+fn state_in_range(fixed: Fixed, play: Play) -> bool
+    ensures { λ r. ⌜ r ≡ stateTest fixed play ⌝ }
 {
-    let timed = both(play.clock.0 <= period.0, stationrange::is_value(play.load));
     let played = stationrange::plays(
-        modules.count,
-        modes.count,
-        &modes.homes,
-        &modes.periods,
+        fixed.modules.count,
+        fixed.modes.count,
+        &fixed.modes.homes,
+        &fixed.modes.periods,
         &play.running,
         &play.ages,
         &play.bytes,
     );
     let placed = both(
-        stationrange::boxes(&play.out),
-        bytes_in_range(&play.held, modes.count),
+        stationrange::boxes(&play.out, &play.loads),
+        bytes_in_range(&play.held, fixed.modes.count),
     );
-    both(timed, both(played, placed))
+    both(play.clock.0 <= fixed.period.0, both(played, placed))
 }
 
 fn judged<'a>(
-    results: [Given; TaskNo::MOST],
-    changes: [Change; ModuleNo::MOST],
-    modules: Modules,
-    modes: Modes,
-    tasks: Tasks,
+    input: Input,
+    fixed: Fixed,
     play: Play,
     runs: &'a [u32; ModeNo::MOST * TaskNo::MOST],
 ) -> Verdict
-    ensures { λ r. ⌜ heard r ≡ judgedBy results changes modules modes tasks play (now (runs .entry)) ⌝ }
+    ensures { λ r. ⌜ heard r ≡ judgedBy input fixed play (now (runs .entry)) ⌝ }
 {
     let before = judged_results(
-        results,
-        tasks.count,
+        &input.results,
+        &input.given,
+        fixed.tasks.count,
         runs,
         &play.running,
         &play.ages,
-        &tasks.homes,
+        &fixed.tasks.homes,
         &play.givens,
-        &tasks.sizes,
-        &tasks.worsts,
+        &fixed.tasks.sizes,
+        &fixed.tasks.worsts,
     );
     judged_changes(
         before,
-        changes,
-        modules.count,
-        modes.count,
-        &modes.homes,
-        &modes.switches,
+        &input.modes,
+        &input.changed,
+        fixed.modules.count,
+        fixed.modes.count,
+        &fixed.modes.homes,
+        &fixed.modes.switches,
         &play.running,
         &play.ages,
     )
@@ -197,38 +205,27 @@ fn judged<'a>(
 
 // Refusals 40 to 44.
 pub fn refused<'a>(
-    results: [Given; TaskNo::MOST],
-    changes: [Change; ModuleNo::MOST],
-    modules: Modules,
-    modes: Modes,
-    tasks: Tasks,
-    controls: Controls,
-    datas: u16,
-    period: Ticks,
+    input: Input,
+    fixed: Fixed,
     play: Play,
     runs: &'a [u32; ModeNo::MOST * TaskNo::MOST],
-    row_tasks: &'a [u8; Frame::MOST],
-    row_deadlines: &'a [u32; Frame::MOST],
-    row_starts: &'a [u32; Frame::MOST],
-    row_stops: &'a [u32; Frame::MOST],
+    pair_tasks: &'a [u8; Frame::MOST],
+    pair_deadlines: &'a [u32; Frame::MOST],
+    pair_starts: &'a [u32; Frame::MOST],
+    pair_stops: &'a [u32; Frame::MOST],
 ) -> Verdict
-    ensures { λ r. ⌜ heard r ≡ refusedBy results changes modules modes tasks controls datas period play (now (runs .entry)) (now («row_tasks» .entry)) (now («row_deadlines» .entry)) (now («row_starts» .entry)) (now («row_stops» .entry)) ⌝ }
+    ensures { λ r. ⌜ heard r ≡ refusedBy input fixed play (now (runs .entry)) (now («pair_tasks» .entry)) (now («pair_deadlines» .entry)) (now («pair_starts» .entry)) (now («pair_stops» .entry)) ⌝ }
 {
     let kept = kept_in_range(
-        modules,
-        modes,
-        tasks,
-        controls,
-        datas,
-        period,
+        fixed,
         runs,
-        row_tasks,
-        row_deadlines,
-        row_starts,
-        row_stops,
+        pair_tasks,
+        pair_deadlines,
+        pair_starts,
+        pair_stops,
     );
-    if both(kept, state_in_range(modules, modes, period, play)) {
-        judged(results, changes, modules, modes, tasks, play, runs)
+    if both(kept, state_in_range(fixed, play)) {
+        judged(input, fixed, play, runs)
     } else {
         Verdict::Refused(Refusal::NotBegun(ModuleNo(0)))
     }

@@ -3,9 +3,8 @@ ghost use mathlib.Core.Path.{_≡_};
 ghost use mathlib.Core.Bool.{not, _||_};
 ghost use lib.Dec.{ltb};
 ghost use Prim.Native.Nat.{_-_, _^_};
-ghost use Rattle.rules.specs.Playing.{isGiven};
 ghost use Rattle.rules.specs.Station.{fitsIn};
-ghost use Rattle.stationruns.specs.Inputs.{changeOf, resultOf};
+ghost use Rattle.stationruns.specs.Inputs.{givenIf, noInput};
 ghost use Rattle.stationruns.specs.Runs.{awaits, endsRun, lastChance, periodAt, runAt, sinceRelease, underWay};
 use figures::both;
 use figures::divides;
@@ -19,16 +18,35 @@ use units::ModuleNo;
 use units::TaskNo;
 use units::Ticks;
 
-// What a tick is given at a task's place.
-pub enum Given {
-    Nothing,
-    Result(u64),
+// What a tick is given: by task place a result, which counts where `given` is set, and by module place a mode to change to, which counts
+// where `changed` is set. A flag is set where its byte is not 0.
+#[repr(C)]
+pub struct Input {
+    pub results: [u64; TaskNo::MOST],
+    pub given: [u8; TaskNo::MOST],
+    pub modes: [u8; ModuleNo::MOST],
+    pub changed: [u8; ModuleNo::MOST],
 }
 
-// What a tick is given at a module's place.
-pub enum Change {
-    Nothing,
-    To(ModeNo),
+impl Input {
+    // Nothing is given.
+    pub fn none() -> Input
+        ensures { λ r. ⌜ r ≡ noInput ⌝ }
+    {
+        Input {
+            results: [0; TaskNo::MOST],
+            given: [0; TaskNo::MOST],
+            modes: [0; ModuleNo::MOST],
+            changed: [0; ModuleNo::MOST],
+        }
+    }
+}
+
+// What a beginning is given: by module place its starting mode, which counts where `given` is set.
+#[repr(C)]
+pub struct Starting {
+    pub modes: [u8; ModuleNo::MOST],
+    pub given: [u8; ModuleNo::MOST],
 }
 
 // A task's run: the period of its invocation in the mode that runs, 0 where there is none, and the time since that mode began.
@@ -122,28 +140,10 @@ impl Run {
     }
 }
 
-pub fn is_result(given: Given) -> bool
-    ensures { λ r. ⌜ r ≡ isGiven (resultOf given) ⌝ }
+pub fn is_awaited(given: bool, run: Run, in_plan: bool, had: bool, worst: Ticks) -> bool
+    ensures { λ r. ⌜ r ≡ (not given || awaits run in_plan had (worst .0)) ⌝ }
 {
-    match given {
-        Given::Nothing => false,
-        Given::Result(_) => true,
-    }
-}
-
-pub fn is_change(change: Change) -> bool
-    ensures { λ r. ⌜ r ≡ isGiven (changeOf change) ⌝ }
-{
-    match change {
-        Change::Nothing => false,
-        Change::To(_) => true,
-    }
-}
-
-pub fn is_awaited(given: Given, run: Run, in_plan: bool, had: bool, worst: Ticks) -> bool
-    ensures { λ r. ⌜ r ≡ (not (isGiven (resultOf given)) || awaits run in_plan had (worst .0)) ⌝ }
-{
-    if is_result(given) {
+    if given {
         run.is_awaited(in_plan, had, worst)
     } else {
         true
@@ -174,21 +174,18 @@ fn has_bytes(value: u64, size: ByteCount) -> bool
     }
 }
 
-pub fn fits(given: Given, size: ByteCount) -> bool
-    ensures { λ r. ⌜ r ≡ fitsIn (size .0) (resultOf given) ⌝ }
+pub fn fits(given: bool, result: u64, size: ByteCount) -> bool
+    ensures { λ r. ⌜ r ≡ fitsIn (size .0) (givenIf given result) ⌝ }
 {
-    match given {
-        Given::Nothing => true,
-        Given::Result(value) => has_bytes(value, size),
-    }
+    if given { has_bytes(result, size) } else { true }
 }
 
-pub fn is_in_time(given: Given, run: Run, in_plan: bool, had: bool, worst: Ticks) -> bool
-    ensures { λ r. ⌜ r ≡ (not (lastChance run in_plan (worst .0)) || (had || isGiven (resultOf given))) ⌝ }
+pub fn is_in_time(given: bool, run: Run, in_plan: bool, had: bool, worst: Ticks) -> bool
+    ensures { λ r. ⌜ r ≡ (not (lastChance run in_plan (worst .0)) || (had || given)) ⌝ }
 {
     if had {
         true
-    } else if is_result(given) {
+    } else if given {
         true
     } else {
         !run.is_last_chance(in_plan, worst)

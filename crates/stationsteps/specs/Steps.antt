@@ -6,30 +6,27 @@ use mathlib.Core.Option.{Option·getD}
 use lib.ListN.{getD}
 use Prim.Native.Nat.{ℕ}
 use Rattle.places.specs.Flags.{flagAt, flagByte}
-use Rattle.rules.specs.Playing.{isGiven}
 use Rattle.rules.specs.Station.{oneOn}
-use Rattle.stationruns.specs.Inputs.{resultAt, changeAt}
+use Rattle.stationruns.specs.Inputs.{givenAt}
 use Rattle.stationruns.specs.Runs.{runAt, endsRun}
-use Rattle.stationruns.specs.declared.Given.{Given}
-use Rattle.stationruns.specs.declared.Change.{Change}
 
 -- (a)
-abbrev pub outRule : List Given → List ℕ → ℕ → ℕ
-outRule results out t = Option·getD (resultAt results t) (getD out t 0)
+abbrev pub outRule : List ℕ → List ℕ → List ℕ → ℕ → ℕ
+outRule results given out t = Option·getD (givenAt results given t) (getD out t 0)
 
 -- the runs that end now
 abbrev pub endsRule : List ℕ → List ℕ → List ℕ → List ℕ → ℕ → Bool
 endsRule runs modes ages homes t = endsRun (runAt runs modes ages homes t)
 
 -- (d)
-abbrev pub modeRule : List Change → List ℕ → ℕ → ℕ
-modeRule changes modes m = Option·getD (changeAt changes m) (getD modes m 0)
+abbrev pub modeRule : List ℕ → List ℕ → List ℕ → ℕ → ℕ
+modeRule modes changed running m = Option·getD (givenAt modes changed m) (getD running m 0)
 
-abbrev pub ageRule : List Change → List ℕ → List ℕ → List ℕ → ℕ → ℕ
-ageRule changes modes periods ages m =
-    cond (isGiven (changeAt changes m)) 1 (oneOn (getD ages m 0) (getD periods (getD modes m 0) 0))
+abbrev pub ageRule : List ℕ → List ℕ → List ℕ → List ℕ → ℕ → ℕ
+ageRule changed running periods ages m =
+    cond (flagAt changed m) 1 (oneOn (getD ages m 0) (getD periods (getD running m 0) 0))
 
-abbrev pub givenRule : List Given → List Change → List Bool → List ℕ → List ℕ → ℕ → ℕ
-givenRule results changes ends homes givens t =
-    flagByte
-    (not (getD ends t false || isGiven (changeAt changes (getD homes t 0))) && (flagAt givens t || isGiven (resultAt results t)))
+-- a run has had its result; where a run ends or the mode changes, the next has not
+abbrev pub hadRule : List ℕ → List ℕ → List Bool → List ℕ → List ℕ → ℕ → ℕ
+hadRule given changed ends homes had t =
+    flagByte (not (getD ends t false || flagAt changed (getD homes t 0)) && (flagAt had t || flagAt given t))

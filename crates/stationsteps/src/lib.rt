@@ -6,45 +6,38 @@ ghost use lib.ListN.{getD, replicate};
 ghost use Prim.Native.Nat.{ℕ, _<_};
 ghost use Rattle.laws.specs.Loops.{stores};
 ghost use Rattle.rules.specs.Limits.{mostModules, mostTasks};
-ghost use Rattle.rules.specs.Playing.{isGiven};
 ghost use Rattle.rules.specs.Station.{oneOn};
-ghost use Rattle.stationruns.specs.Inputs.{changeAt, changeOf, resultOf};
-ghost use Rattle.stationsteps.specs.Steps.{ageRule, endsRule, givenRule, modeRule, outRule};
+ghost use Rattle.stationsteps.specs.Steps.{ageRule, endsRule, hadRule, modeRule, outRule};
+ghost use Rattle.stationruns.specs.Inputs.{givenIf};
 use places::byte_at;
+use places::flag_at;
 use places::flag_byte;
 use places::is_set;
 use places::number_at;
-use stationruns::Change;
-use stationruns::Given;
-use stationruns::is_change;
-use stationruns::is_result;
 use stationruns::run_at;
 use units::ModeNo;
 use units::ModuleNo;
 use units::TaskNo;
 use units::Ticks;
 
-fn out_at(given: Given, old: u64) -> u64
-    ensures { λ r. ⌜ r ≡ Option·getD (resultOf given) old ⌝ }
+fn out_at(given: bool, result: u64, old: u64) -> u64
+    ensures { λ r. ⌜ r ≡ Option·getD (givenIf given result) old ⌝ }
 {
-    match given {
-        Given::Nothing => old,
-        Given::Result(value) => value,
-    }
+    if given { result } else { old }
 }
 
-// (a)
-pub fn out_after(
-    results: [Given; TaskNo::MOST],
+// (a) The flags go by value, for an array by value has its length: behind it nothing is given.
+pub fn out_after<'a>(
+    results: &'a [u64; TaskNo::MOST],
+    given: [u8; TaskNo::MOST],
     mut out: [u64; TaskNo::MOST],
 ) -> [u64; TaskNo::MOST]
-    ensures { λ r. ⌜ r ≡ stores out (outRule results out) mostTasks ⌝ }
-    ensures reads { λ r. ⌜ ((t : ℕ) → getD r t 0 ≡ outRule results out t) ⌝ }
+    ensures { λ r. ⌜ r ≡ stores out (outRule (now (results .entry)) given out) mostTasks ⌝ }
+    ensures reads { λ r. ⌜ ((t : ℕ) → getD r t 0 ≡ outRule (now (results .entry)) given out t) ⌝ }
 {
     let mut t = 0;
     while t < TaskNo::MOST {
-        let given = results[t];
-        out[t] = out_at(given, out[t]);
+        out[t] = out_at(is_set(given[t]), results[t], out[t]);
         t += 1;
     }
     out
@@ -68,31 +61,27 @@ pub fn ends_now<'a>(
     ends
 }
 
-fn mode_at(change: Change, old: ModeNo) -> ModeNo
-    ensures { λ r. ⌜ r .0 ≡ Option·getD (changeOf change) (old .0) ⌝ }
+fn mode_at(changed: bool, mode: u8, old: u8) -> u8
+    ensures { λ r. ⌜ r ≡ Option·getD (givenIf changed mode) old ⌝ }
 {
-    match change {
-        Change::Nothing => old,
-        Change::To(mode) => mode,
-    }
+    if changed { mode } else { old }
 }
 
-// (d)
-pub fn modes_after(
-    changes: [Change; ModuleNo::MOST],
-    mut modes: [u8; ModuleNo::MOST],
+// (d) The flags go by value, as those of `out_after`.
+pub fn modes_after<'a>(
+    modes: &'a [u8; ModuleNo::MOST],
+    changed: [u8; ModuleNo::MOST],
+    mut running: [u8; ModuleNo::MOST],
 ) -> [u8; ModuleNo::MOST]
-    ensures { λ r. ⌜ r ≡ stores modes (modeRule changes modes) mostModules ⌝ }
-    ensures reads { λ r. ⌜ ((m : ℕ) → getD r m 0 ≡ modeRule changes modes m) ⌝ }
+    ensures { λ r. ⌜ r ≡ stores running (modeRule (now (modes .entry)) changed running) mostModules ⌝ }
+    ensures reads { λ r. ⌜ ((m : ℕ) → getD r m 0 ≡ modeRule (now (modes .entry)) changed running m) ⌝ }
 {
     let mut m = 0;
     while m < ModuleNo::MOST {
-        let change = changes[m];
-        let mode = mode_at(change, ModeNo(modes[m]));
-        modes[m] = mode.0;
+        running[m] = mode_at(is_set(changed[m]), modes[m], running[m]);
         m += 1;
     }
-    modes
+    running
 }
 
 // The next number, from 1 to the last and again from 1.
@@ -109,80 +98,68 @@ pub fn one_on(time: Ticks, period: Ticks) -> Ticks
     Ticks(next(time.0, period.0))
 }
 
-fn age_at(change: Change, age: Ticks, period: Ticks) -> Ticks
-    ensures { λ r. ⌜ r .0 ≡ cond (isGiven (changeOf change)) 1 (oneOn (age .0) (period .0)) ⌝ }
+fn age_at(changed: bool, age: Ticks, period: Ticks) -> Ticks
+    ensures { λ r. ⌜ r .0 ≡ cond changed 1 (oneOn (age .0) (period .0)) ⌝ }
 {
-    if is_change(change) {
+    if changed {
         Ticks(1)
     } else {
         one_on(age, period)
     }
 }
 
+// `running` are the modes before (d).
 pub fn ages_after<'a>(
-    changes: [Change; ModuleNo::MOST],
+    changed: &'a [u8; ModuleNo::MOST],
     mut ages: [u32; ModuleNo::MOST],
-    modes: &'a [u8; ModuleNo::MOST],
+    running: &'a [u8; ModuleNo::MOST],
     periods: &'a [u32; ModeNo::MOST],
 ) -> [u32; ModuleNo::MOST]
-    ensures { λ r. ⌜ r ≡ stores ages (ageRule changes (now (modes .entry)) (now (periods .entry)) ages) mostModules ⌝ }
+    ensures { λ r. ⌜ r ≡ stores ages (ageRule (now (changed .entry)) (now (running .entry)) (now (periods .entry)) ages) mostModules ⌝ }
 {
     let mut m = 0;
     while m < ModuleNo::MOST {
-        let change = changes[m];
-        let period = Ticks(number_at(periods, byte_at(modes, m)));
-        let age = age_at(change, Ticks(ages[m]), period);
+        let period = Ticks(number_at(periods, byte_at(running, m)));
+        let age = age_at(is_set(changed[m]), Ticks(ages[m]), period);
         ages[m] = age.0;
         m += 1;
     }
     ages
 }
 
-// Whether a change stands at this place; behind the places none does.
-fn changed(changes: [Change; ModuleNo::MOST], m: usize) -> bool
-    ensures { λ r. ⌜ r ≡ isGiven (changeAt changes m) ⌝ }
-{
-    if m < ModuleNo::MOST {
-        let change = changes[m];
-        is_change(change)
-    } else {
-        false
-    }
-}
-
-fn given_at(given: Given, ends: bool, change: bool, had: bool) -> bool
-    ensures { λ r. ⌜ r ≡ (not (ends || change) && (had || isGiven (resultOf given))) ⌝ }
+fn had_at(given: bool, ends: bool, changed: bool, had: bool) -> bool
+    ensures { λ r. ⌜ r ≡ (not (ends || changed) && (had || given)) ⌝ }
 {
     if ends {
         false
-    } else if change {
+    } else if changed {
         false
     } else if had {
         true
     } else {
-        is_result(given)
+        given
     }
 }
 
-pub fn givens_after<'a>(
-    results: [Given; TaskNo::MOST],
-    changes: [Change; ModuleNo::MOST],
-    mut givens: [u8; TaskNo::MOST],
+// Whether each task's run has had its result.
+pub fn had_after<'a>(
+    given: &'a [u8; TaskNo::MOST],
+    changed: &'a [u8; ModuleNo::MOST],
+    mut had: [u8; TaskNo::MOST],
     ends: &'a [bool; TaskNo::MOST],
     homes: &'a [u8; TaskNo::MOST],
 ) -> [u8; TaskNo::MOST]
-    ensures { λ r. ⌜ r ≡ stores givens (givenRule results changes (now (ends .entry)) (now (homes .entry)) givens) mostTasks ⌝ }
+    ensures { λ r. ⌜ r ≡ stores had (hadRule (now (given .entry)) (now (changed .entry)) (now (ends .entry)) (now (homes .entry)) had) mostTasks ⌝ }
 {
     let mut t = 0;
     while t < TaskNo::MOST {
-        let given = results[t];
-        givens[t] = flag_byte(given_at(
-            given,
+        had[t] = flag_byte(had_at(
+            is_set(given[t]),
             ends[t],
-            changed(changes, byte_at(homes, t)),
-            is_set(givens[t]),
+            flag_at(changed, byte_at(homes, t)),
+            is_set(had[t]),
         ));
         t += 1;
     }
-    givens
+    had
 }

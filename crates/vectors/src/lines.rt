@@ -44,10 +44,10 @@ pub fn say_rows(rows: Rows) {
     let mut k = 0;
     while k < n && k < 256 {
         say_row(
-            rows.task[k],
-            rows.release[k],
-            rows.deadline[k],
-            rows.start[k],
+            rows.tasks[k],
+            rows.releases[k],
+            rows.deadlines[k],
+            rows.starts[k],
         );
         k += 1;
     }

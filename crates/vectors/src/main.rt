@@ -46,10 +46,10 @@ fn zeros(rows: Rows) -> u64 {
     let mut k = 0;
     while k < 256 {
         n += one_if(is_zero(
-            rows.task[k],
-            rows.release[k],
-            rows.deadline[k],
-            rows.start[k],
+            rows.tasks[k],
+            rows.releases[k],
+            rows.deadlines[k],
+            rows.starts[k],
         ));
         k += 1;
     }

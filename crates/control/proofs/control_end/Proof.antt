@@ -5,7 +5,8 @@ use native.Mathlib.Omega.{arith}
 use mathlib.Core.Logic.{⊎-elim}
 use Prim.Native.Nat.{_*_, _-_, _^_, _≤_}
 use Rattle.plan.specs.Memory.{seen, countSeen}
-use Rattle.rules.specs.Frames.{controlEnd, gapTime, controlRows, sendingNodes, controlFrom}
+use Rattle.rules.specs.Traffic.{sendingNodes}
+use Rattle.rules.specs.Frames.{controlEnd, gapTime, controlRows, controlFrom}
 use Rattle.control.proofs.Turns.{rowsTo, nodesTo, nextStart}
 use Rattle.control.proofs.Turns.{nextAt, stopAt, sends-yes, sends-no, time-is, next-yes, next-no, stop-yes, stop-no}
 use Rattle.control.proofs.control_end.Statement.{statement}

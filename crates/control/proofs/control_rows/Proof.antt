@@ -5,7 +5,8 @@ use mathlib.Core.Logic.{⊎-elim}
 use mathlib.Core.Path.{_≡_}
 use Prim.Native.Nat.{_+_, _-_, _^_, _≤_, _<_}
 use Rattle.plan.specs.Memory.{seen, countSeen}
-use Rattle.rules.specs.Frames.{controlEnd, controlRows, sendingNodes}
+use Rattle.rules.specs.Traffic.{sendingNodes}
+use Rattle.rules.specs.Frames.{controlEnd, controlRows}
 use Rattle.control.specs.Control.{controlLaid}
 use Rattle.control.proofs.Turns.{
   Shown,

@@ -7,15 +7,8 @@ use Rattle.hearing.proofs.hear.Tie as tie
 returns : tie.Need-returns
 unfolding heardLine
 returns c =
-    let c1 = c .before .before .before .before .before in
-    rw (
-      c .tick .ensures,
-      c .before .before .given-of .ensures,
-      c .before .changes-of .ensures,
-      ←
-          c1 .before .before .read-line .ensures,
-      c1 .enum-told .given .1,
-    )
+    let c1 = c .before .before .before .before in
+    rw (c .tick .ensures, c .before .input-of .ensures, ← c1 .before .before .read-line .ensures, c1 .enum-told .given .1)
 
 returns-2 : tie.Need-returns-2
 unfolding heardLine
@@ -32,6 +25,6 @@ returns-4 c = rw (← c .before .before .before .read-line .ensures, c .before .
 pub hear-spec : {M : Type 1} → statement M
 hear-spec =
     tie.close
-    (tie.spec (λ c κs. search needs) (λ c. search needs) (λ c κs. search needs) (λ c κs. search needs) (λ c κs. search needs)
-    (λ c. search needs) (λ c κs. search needs) (λ c. search needs) (λ c κs. search needs) (λ c. search needs) (λ c κs. search needs)
-    returns returns-2 returns-3 returns-4)
+    (tie.spec (λ c κs. search needs) (λ c. search needs) (λ c κs. search needs) (λ c κs. search needs)
+    (λ c. search needs) (λ c κs. search needs) (λ c. search needs) (λ c κs. search needs) (λ c. search needs)
+    (λ c κs. search needs) returns returns-2 returns-3 returns-4)

@@ -21,17 +21,15 @@ returns : tie.Need-returns Inv-loop μ-loop
 unfolding afterTick afterNothing
 returns c =
     let c1 = c .before .before .before .before in
-    going-refused (c1 .before .before .before .loop .inv .1) (leaves _ _ _ (c1 .tick .ensures))
-    (c1 .tick .ensures .unchanged (sym (c .before .say-quiet .ensures) ∙ c .if1 .taken))
+    let answers = rw (c1 .before .none .ensures) at (c1 .tick .ensures) in
+    going-refused (c1 .before .before .before .before .loop .inv .1) (leaves _ _ _ answers) (answers .unchanged (sym (c .before .say-quiet .ensures) ∙ c .if1 .taken))
 
 loop-again : tie.Need-loop-again Inv-loop μ-loop
 unfolding afterTick afterNothing
 loop-again c =
-    let c1 = c .before .before .before .before in (
-      search needs,
-      going-turn (c1 .before .before .before .loop .inv .1) (c1 .before .before .loop-test .taken)
-          (leaves _ _ _ (c1 .tick .ensures)),
-    )
+    let c1 = c .before .before .before .before in
+    let c2 = c1 .before .before .before in
+    (search needs, going-turn (c2 .before .loop .inv .1) (c2 .loop-test .taken) (leaves _ _ _ (rw (c1 .before .none .ensures) at (c1 .tick .ensures))))
 
 returns-2 : tie.Need-returns-2 Inv-loop μ-loop
 returns-2 c = going-end (c .before .loop .inv .1) (c .loop-test .left)
@@ -39,5 +37,5 @@ returns-2 c = going-end (c .before .loop .inv .1) (c .loop-test .left)
 pub quiet-spec : {M : Type 1} → statement M
 quiet-spec =
     tie.close
-    (tie.spec Inv-loop μ-loop loop-holds (λ c κs. search needs) (λ c. search needs) (λ c κs. search needs) returns
-    (λ c. search needs) loop-again returns-2)
+    (tie.spec Inv-loop μ-loop loop-holds (λ c κs. search needs) (λ c κs. search needs) (λ c. search needs)
+    (λ c κs. search needs) returns (λ c. search needs) loop-again returns-2)

@@ -2,6 +2,7 @@
 use native.Mathlib.Omega.{arith}
 use Prim.Native.Nat.{_≤_}
 use denote.Ref.{now}
+use Rattle.rules.specs.Limits.{mostFrames}
 use Rattle.naming.specs.Places.{isNew}
 use Rattle.datarows.specs.Rows.{timeKept, releaseKept, dueKept, gapKept}
 use Rattle.judging.proofs.Verdicts.{spot-among, spot-only, rows-right}
@@ -34,18 +35,18 @@ rows-judged-requires c κs =
     let c6 = c5 .before .before in
     let start = c6 .before .before .before .before in
     let a = start .args in
-    let few : a .t1 .rows ≤ 256 = omega (arith, start .pre .0 .room, start .pre .1 .0, start .pre .1 .1) in (
+    let few : a .t1 .rows ≤ mostFrames = omega (arith, start .pre .0 .room, start .pre .1 .0, start .pre .1 .1) in (
       omega (arith, start .pre .0 .room, start .pre .1 .0, start .pre .1 .1),
       (
-        spot-among (isNew (c6 .numbers .result) (a .frames)) (a .t1 .rows) 256 (c5 .first-unnamed .ensures) few,
+        spot-among (isNew (c6 .numbers .result) (a .frames)) (a .t1 .rows) mostFrames (c5 .first-unnamed .ensures) few,
         (
           spot-among (timeKept (a .t1 .tasks) (a .t1 .starts) (a .t1 .stops) (now (a .times)) (a .bounds .resolution .0))
-              (a .t1 .rows) 256 (c4 .first-mistimed .ensures) few,
+              (a .t1 .rows) mostFrames (c4 .first-mistimed .ensures) few,
           (
-            spot-only (a .early-too) (releaseKept (a .t1 .starts) (now (a .releases)) (c6 .numbers .result)) (a .t1 .rows) 256 (c3 .early-in .ensures) few,
+            spot-only (a .early-too) (releaseKept (a .t1 .starts) (now (a .releases)) (c6 .numbers .result)) (a .t1 .rows) mostFrames (c3 .early-in .ensures) few,
             (
-              spot-among (dueKept (a .t1 .stops) (a .t1 .deadlines)) (a .t1 .rows) 256 (c2 .first-late .ensures) few,
-              spot-among (gapKept (a .t1 .starts) (a .t1 .stops) (c1 .last-stop .result .0) (a .bounds .gap .0)) (a .t1 .rows) 256 (c .first-crowded .ensures) few,
+              spot-among (dueKept (a .t1 .stops) (a .t1 .deadlines)) (a .t1 .rows) mostFrames (c2 .first-late .ensures) few,
+              spot-among (gapKept (a .t1 .starts) (a .t1 .stops) (c1 .last-stop .result .0) (a .bounds .gap .0)) (a .t1 .rows) mostFrames (c .first-crowded .ensures) few,
             ),
           ),
         ),

@@ -8,7 +8,7 @@ use denote.Ref.{now}
 use Rattle.laws.specs.Lists.{firstBad, upTo}
 use Rattle.laws.proofs.Loops.{firstBad-upTo-more}
 use Rattle.rules.specs.Checker.{sameControl}
-use Rattle.tableread.specs.Memory.{controlIn}
+use Rattle.table.specs.Rows.{controlIn}
 use Rattle.judging.specs.Judged.{controlsSame}
 use Rattle.naming.proofs.Places.{scan-hit, scan-end}
 use borrow.Author.Needs.{needs}

@@ -3,7 +3,7 @@ use native.Mathlib.Omega.{arith}
 use borrow.Author.Tests.{not-true, not-false}
 use Rattle.laws.specs.Lists.{firstBad, upTo}
 use Rattle.laws.proofs.Loops.{firstBad-upTo-within}
-use Rattle.tableread.specs.Memory.{controlIn}
+use Rattle.table.specs.Rows.{controlIn}
 use Rattle.judging.specs.Judged.{controlsSame, timeIn, controlsOn, framesOn, boundsOn, lineJudged}
 use Rattle.judging.proofs.Verdicts.{spot-at, wrong-header, control-count, row-count, strange-control, same-controls}
 use borrow.Author.Needs.{needs}
@@ -29,10 +29,10 @@ add-t26 c =
     let c1 = c .before .before .before in
     let start = c1 .before .before .before .before .before .before .before .before .before .before .before .before .before .before .before in
     let a = start .args in
-    let e = spot-at (firstBad (controlsSame (controlIn (a .t1 .nodes) (a .t1 .begins) (a .t1 .ends))
+    let e = spot-at (firstBad (controlsSame (controlIn (a .t1 .«control_nodes») (a .t1 .«control_starts») (a .t1 .«control_stops»))
     (controlIn (a .t2 .«control_nodes») (a .t2 .«control_starts») (a .t2 .«control_stops»))) (upTo (a .t2 .controls))) (c1 .first-strange .ensures)
     (c .before .k .given .1) in
-    let w = firstBad-upTo-within (controlsSame (controlIn (a .t1 .nodes) (a .t1 .begins) (a .t1 .ends))
+    let w = firstBad-upTo-within (controlsSame (controlIn (a .t1 .«control_nodes») (a .t1 .«control_starts») (a .t1 .«control_stops»))
     (controlIn (a .t2 .«control_nodes») (a .t2 .«control_starts») (a .t2 .«control_stops»))) (a .t2 .controls) (c .before .k .given .0 .0) e in
     omega (arith, w, start .pre .1)
 

@@ -1,6 +1,7 @@
 -- Six exits: each scan's finding decides the definition's next rule; a row found is among the first 256, so no place wraps.
 use native.Mathlib.Omega.{arith}
 use borrow.Author.Needs.{needs}
+use Rattle.rules.specs.Limits.{mostFrames}
 use Rattle.judging.proofs.Verdicts.{among-at}
 use Rattle.judging.proofs.rows_judged.Statement.{statement}
 use Rattle.judging.proofs.rows_judged.Tie as tie
@@ -8,7 +9,7 @@ use Rattle.judging.proofs.rows_judged.Tie as tie
 add-t12 : tie.Need-add-t12
 add-t12 c =
     let start = c .before .before .before in
-    omega (arith, start .pre .0, among-at 256 _ (start .pre .1 .0) (c .before .unnamed .given .1))
+    omega (arith, start .pre .0, among-at mostFrames _ (start .pre .1 .0) (c .before .unnamed .given .1))
 
 returns : tie.Need-returns
 returns c = rw (c .before .unnamed .given .1)
@@ -16,7 +17,7 @@ returns c = rw (c .before .unnamed .given .1)
 add-t15 : tie.Need-add-t15
 add-t15 c =
     let start = c .before .before .before .before .before in
-    omega (arith, start .pre .0, among-at 256 _ (start .pre .1 .1 .0) (c .before .mistimed .given .1))
+    omega (arith, start .pre .0, among-at mostFrames _ (start .pre .1 .1 .0) (c .before .mistimed .given .1))
 
 returns-2 : tie.Need-returns-2
 returns-2 c =
@@ -26,7 +27,7 @@ returns-2 c =
 add-t18 : tie.Need-add-t18
 add-t18 c =
     let start = c .before .before .before .before .before .before .before in
-    omega (arith, start .pre .0, among-at 256 _ (start .pre .1 .1 .1 .0) (c .before .early .given .1))
+    omega (arith, start .pre .0, among-at mostFrames _ (start .pre .1 .1 .1 .0) (c .before .early .given .1))
 
 returns-3 : tie.Need-returns-3
 returns-3 c =
@@ -37,7 +38,7 @@ returns-3 c =
 add-t21 : tie.Need-add-t21
 add-t21 c =
     let start = c .before .before .before .before .before .before .before .before .before in
-    omega (arith, start .pre .0, among-at 256 _ (start .pre .1 .1 .1 .1 .0) (c .before .late .given .1))
+    omega (arith, start .pre .0, among-at mostFrames _ (start .pre .1 .1 .1 .1 .0) (c .before .late .given .1))
 
 returns-4 : tie.Need-returns-4
 returns-4 c =
@@ -49,7 +50,7 @@ returns-4 c =
 add-t24 : tie.Need-add-t24
 add-t24 c =
     let start = c .before .before .before .before .before .before .before .before .before .before .before in
-    omega (arith, start .pre .0, among-at 256 _ (start .pre .1 .1 .1 .1 .1) (c .before .crowded .given .1))
+    omega (arith, start .pre .0, among-at mostFrames _ (start .pre .1 .1 .1 .1 .1) (c .before .crowded .given .1))
 
 returns-5 : tie.Need-returns-5
 returns-5 c =

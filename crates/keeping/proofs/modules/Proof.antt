@@ -7,7 +7,7 @@ use native.Mathlib.Omega.{arith}
 use lib.ListN.{replicate}
 use Rattle.laws.proofs.Turns.{Filled, filled-none, filled-turn}
 use Rattle.places.specs.Flags.{flagByte, flagBytes}
-use Rattle.rules.specs.Frames.{moduleNode, isSending}
+use Rattle.rules.specs.Traffic.{moduleNode, isSending}
 use Rattle.plan.specs.Memory.{seen, moduleLaid}
 use Rattle.keeping.specs.Keeping.{modulesOf}
 use Rattle.keeping.proofs.Filling.{filled-all, by-number-at}

@@ -2,10 +2,9 @@
 use mathlib.Core.Path.{sym, ap, _∙_}
 use native.Mathlib.Omega.{arith}
 use borrow.Author.Tests.{not-true, not-false}
-use Rattle.rules.specs.Frames.{layoutOf}
 use Rattle.plan.specs.Memory.{seen, countSeen, busSeen}
 use Rattle.answers.specs.declared.Refusal.the-variants.{PayloadTooLarge, ControlTooLong}
-use Rattle.bus.specs.declared.Senders.{Senders}
+use Rattle.bus.specs.declared.senders.Senders.{Senders}
 use Rattle.bus.specs.Senders.{sendersOf}
 use Rattle.line.specs.declared.Line.{Line}
 use Rattle.answers.specs.declared.Verdict.the-variants.{Fine}
@@ -97,7 +96,7 @@ returns-4 c =
     let c2 = c1 .before .before .before .before .before in
     let c3 = c2 .before .before .before .before in
     let a = c3 .args in
-    lays-sound (layoutOf (seen (a .t1))) _ _ (ap (λ (x : Line). record { answer = Fine; line = x }) (c .line-of .ensures))
+    lays-sound (seen (a .t1)) _ (ap (λ (x : Line). record { answer = Fine; line = x }) (c .line-of .ensures))
     (sound (seen (a .t1)) _ _ (omega (arith, c3 .pre .0 .taskCount .most)) (omega (arith, c3 .pre .0 .nodeCount .most))
     (ap (λ (x : Senders). x .tasks) (c3 .pre .1 .0)) (ap (λ (x : Senders). x .payloads) (c3 .pre .1 .0))
     (c3 .pre .1 .1 .1 .1) (sym (c2 .before .messages-fit .ensures) ∙ not-false _ (c2 .if1 .left))

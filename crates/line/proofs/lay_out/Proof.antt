@@ -4,8 +4,8 @@ use borrow.Author.Needs.{needs}
 use Rattle.line.proofs.lay_out.Statement.{statement}
 use Rattle.line.proofs.lay_out.Tie as tie
 
-cycled-requires : tie.Need-cycled-requires
-cycled-requires c κs =
+of-plan-requires : tie.Need-of-plan-requires
+of-plan-requires c κs =
     let c1 = c .before .before in
     sound-kept (c1 .before .before .args .s .now) (c1 .read .result) (c1 .read .ensures) (c .enum-told .given .1)
 
@@ -13,7 +13,7 @@ returns : tie.Need-returns
 returns c =
     let c1 = c .before .before .before in
     sound-laid (c1 .before .before .args .s .now) (c1 .read .result) (c1 .read .ensures) _ (c .before .enum-told .given .1)
-    (c .cycled .ensures)
+    (c .of-plan .ensures)
 
 returns-2 : tie.Need-returns-2
 returns-2 c =
@@ -24,4 +24,4 @@ returns-2 c =
 pub lay-out-spec : {M : Type 1} → statement M
 lay-out-spec =
     tie.close
-    (tie.spec (λ c κs. search needs) (λ c. search needs) cycled-requires (λ c. search needs) (λ c κs. search needs) returns returns-2)
+    (tie.spec (λ c κs. search needs) (λ c. search needs) of-plan-requires (λ c. search needs) (λ c κs. search needs) returns returns-2)

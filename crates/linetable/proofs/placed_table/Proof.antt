@@ -13,8 +13,8 @@ place-all-requires c κs =
     let a = start .args in
     ((few-frames (a .t1) (start .pre), times-long (a .t1) (start .pre)), deadlines-rising (a .t1) (start .pre))
 
-bytes-needed-requires : tie.Need-bytes-needed-requires
-bytes-needed-requires c κs =
+table-length-requires : tie.Need-table-length-requires
+table-length-requires c κs =
     let start = c .before .before .before .before .before .before .before .before .before .before .before .before .before in
     let a = start .args in
     (few-controls (a .t1) (start .pre), few-frames (a .t1) (start .pre))
@@ -27,7 +27,7 @@ returns c =
     let a = c2 .before .before .before .before .before .before .before .before .before .before .before .args in
     λ s. short-made (a .t1) (c2 .place-all .result)
     (all-placed (a .t1) s (c2 .place-all .result) (c2 .place-all .ensures) (c1 .enum-told .given .1)) _ (a .buf .now)
-    (c .before .before .bytes-needed .ensures .0) (c .before .if1 .taken) (c .refused .ensures)
+    (c .before .before .table-length .ensures .0) (c .before .if1 .taken) (c .refused .ensures)
 
 written-requires : tie.Need-written-requires
 written-requires c κs =
@@ -35,7 +35,7 @@ written-requires c κs =
     let c2 = c1 .before .before in
     let start = c2 .before .before .before .before .before .before .before .before .before .before .before in (
       all-placed (start .args .t1) (start .pre) (c2 .place-all .result) (c2 .place-all .ensures) (c1 .enum-told .given .1),
-      omega (arith, c .before .before .bytes-needed .ensures .0, c .before .if1 .left),
+      omega (arith, c .before .before .table-length .ensures .0, c .before .if1 .left),
     )
 
 returns-2 : tie.Need-returns-2
@@ -46,7 +46,7 @@ returns-2 c =
     let a = c2 .before .before .before .before .before .before .before .before .before .before .before .args in
     λ s. written-made (a .t1) (c2 .place-all .result)
     (all-placed (a .t1) s (c2 .place-all .result) (c2 .place-all .ensures) (c1 .before .before .enum-told .given .1)) _
-    (a .buf .now) _ _ (c1 .before .bytes-needed .ensures .0) (c1 .if1 .left) (c .before .before .written .ensures)
+    (a .buf .now) _ _ (c1 .before .table-length .ensures .0) (c1 .if1 .left) (c .before .before .written .ensures)
 
 returns-3 : tie.Need-returns-3
 returns-3 c =
@@ -59,5 +59,5 @@ returns-3 c =
 pub placed-table-spec : {M : Type 1} → statement M
 placed-table-spec =
     tie.close
-    (tie.spec place-all-requires (λ c. search needs) bytes-needed-requires (λ c. search needs) (λ c κs. search needs) returns
+    (tie.spec place-all-requires (λ c. search needs) table-length-requires (λ c. search needs) (λ c κs. search needs) returns
     written-requires (λ c. search needs) (λ c κs. search needs) (λ c. search needs) returns-2 returns-3)

@@ -28,8 +28,8 @@ starts-by-number-requires c κs =
     let c1 = c .before .before .before .before .before .before .before .before .before .before .before .before .before .before .before .before .before .before .before .before .before .before .before .before .before .before .before in
     few-frames (c1 .args .t1) (c1 .pre .0 .stands)
 
-bytes-needed-requires : tie.Need-bytes-needed-requires
-bytes-needed-requires c κs =
+table-length-requires : tie.Need-table-length-requires
+table-length-requires c κs =
     let c1 = c .before .before .before .before .before .before .before .before .before .before .before .before .before .before .before .before .before .before .before .before .before .before .before .before .before .before .before .before .before .before .before in
     let a = c1 .args in
     (few-controls (a .t1) (c1 .pre .0 .stands), few-frames (a .t1) (c1 .pre .0 .stands))
@@ -42,9 +42,9 @@ returns c =
     let c4 = c3 .before .before .before .before .before .before .before .before .before in
     let a = c4 .args in
     λ s. written-table (a .t1) (a .t2) s _ _ (a .buf .now) _ _ (c4 .pre .1) (c3 .table-rows .ensures)
-    (c2 .write-table .ensures) (c1 .starts-by-number .ensures) (c .bytes-needed .ensures .0)
+    (c2 .write-table .ensures) (c1 .starts-by-number .ensures) (c .table-length .ensures .0)
 
 pub written-spec : {M : Type 1} → statement M
 written-spec =
     tie.close
-    (tie.spec table-rows-requires write-table-requires starts-by-number-requires bytes-needed-requires (λ c. search needs) returns)
+    (tie.spec table-rows-requires write-table-requires starts-by-number-requires table-length-requires (λ c. search needs) returns)

@@ -32,7 +32,7 @@ returns-2 c =
     let start = c3 .before .before .before .before .before in
     let a = start .args in
     played-begin (a .plan .now) (a .table .now) (a .s .now) (c3 .before .if1 .left) (c3 .line-end .ensures .0)
-    (c2 .before .before .read-line .ensures) (c2 .enum-told .given .1) (c1 .before .changes-of .ensures)
+    (c2 .before .before .read-line .ensures) (c2 .enum-told .given .1) (c1 .before .starting-of .ensures)
     (c1 .begin .ensures .left) (c .before .behind-end .ensures) (c .hear-lines .ensures)
 
 returns-3 : tie.Need-returns-3

@@ -3,7 +3,7 @@ use mathlib.Core.Path.{_≡_, sym, _∙_}
 use Prim.Native.Nat.{_-_, _≤_}
 use lib.ListN.{length}
 use Rattle.rows.specs.Rows.{scattered}
-use Rattle.rows.proofs.Filled.{scatter-on, scatter-past, scatter-end}
+use Rattle.rows.proofs.Placed.{scatter-on, scatter-past, scatter-end}
 use borrow.Author.Needs.{needs}
 use Rattle.rows.proofs.starts_by_number.Statement.{statement}
 use Rattle.rows.proofs.starts_by_number.Tie as tie

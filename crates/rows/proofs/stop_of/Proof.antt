@@ -1,5 +1,5 @@
 -- For a task below 32 it computes; for another the time is 0, and the sum is the start itself (`stop-past`).
-use Rattle.rows.proofs.Filled.{stop-past}
+use Rattle.rows.proofs.Placed.{stop-past}
 use native.Mathlib.Omega.{arith}
 use borrow.Author.Needs.{needs}
 use Rattle.rows.proofs.stop_of.Statement.{statement}

@@ -3,6 +3,7 @@ use mathlib.Core.Path.{_≡_, _∙_}
 use Prim.Native.Nat.{_-_, _≤_}
 use native.Mathlib.Omega.{arith}
 use lib.ListN.{replicate}
+use Rattle.rules.specs.Limits.{mostFrames}
 use Rattle.laws.specs.Loops.{stores}
 use Rattle.laws.proofs.Loops.{stores-none, stores-turn}
 use Rattle.rows.specs.Rows.{taskAt, stopAt, tableRows}
@@ -12,9 +13,9 @@ use Rattle.rows.proofs.table_rows.Tie as tie
 
 abbrev Inv-loop : tie.InvT-loop
 Inv-loop task deadline time number start count tasks₀ deadlines₀ stops₀ j₀ tasks deadlines stops j =
-    (j ≤ count) × (tasks ≡ stores (replicate 256 0) (taskAt task number) j) ×
-    (deadlines ≡ stores (replicate 256 0) (taskAt deadline number) j)
-    × (stops ≡ stores (replicate 256 0) (stopAt task time number start) j)
+    (j ≤ count) × (tasks ≡ stores (replicate mostFrames 0) (taskAt task number) j) ×
+    (deadlines ≡ stores (replicate mostFrames 0) (taskAt deadline number) j)
+    × (stops ≡ stores (replicate mostFrames 0) (stopAt task time number start) j)
 
 abbrev μ-loop : tie.MeasureT-loop
 μ-loop task deadline time number start count tasks₀ deadlines₀ stops₀ j₀ tasks deadlines stops j = count - j

@@ -1,6 +1,6 @@
 -- Within, the read computes; behind the last place stands 0 (`getD-past`).
 use mathlib.Core.Path.{refl}
-use Rattle.rows.proofs.Filled.{getD-past}
+use Rattle.rows.proofs.Placed.{getD-past}
 use borrow.Author.Needs.{needs}
 use Rattle.rows.proofs.task_of.Statement.{statement}
 use Rattle.rows.proofs.task_of.Tie as tie

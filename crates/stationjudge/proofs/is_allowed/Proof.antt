@@ -3,12 +3,12 @@ use borrow.Author.Needs.{needs}
 use Rattle.stationjudge.proofs.is_allowed.Statement.{statement}
 use Rattle.stationjudge.proofs.is_allowed.Tie as tie
 
-returns-2 : tie.Need-returns-2
-returns-2 c =
+returns : tie.Need-returns
+returns c =
     let c1 = c .before .before .before .before in
     let c2 = c1 .before .before .before in
     rw (
-      c2 .before .before .before .before .change .given .1,
+      c2 .before .before .before .if1 .taken,
       c .both3 .ensures,
       c .before .before .both2 .ensures,
       c1 .both .ensures,
@@ -18,8 +18,11 @@ returns-2 c =
       c .before .divides .ensures,
     )
 
+returns-2 : tie.Need-returns-2
+returns-2 c = rw (c .if1 .left)
+
 pub is-allowed-spec : {M : Type 1} → statement M
 is-allowed-spec =
     tie.close
-    (tie.spec (λ c. search needs) (λ c. search needs) (λ c κs. search needs) (λ c κs. search needs) (λ c κs. search needs)
-    (λ c κs. search needs) (λ c κs. search needs) (λ c κs. search needs) (λ c κs. search needs) (λ c. search needs) returns-2)
+    (tie.spec (λ c κs. search needs) (λ c κs. search needs) (λ c κs. search needs) (λ c κs. search needs)
+    (λ c κs. search needs) (λ c κs. search needs) (λ c κs. search needs) returns returns-2)

@@ -11,11 +11,11 @@ use borrow.Author.Needs.{needs}
 use Rattle.stationjudge.proofs.judged_changes.Statement.{statement}
 use Rattle.stationjudge.proofs.judged_changes.Tie as tie
 
-cast-t14 : tie.Need-cast-t14
-cast-t14 c =
+cast-t15 : tie.Need-cast-t15
+cast-t15 c =
     let c1 = c .before .before .before in
     let a = c1 .before .before .before .args in
-    let w : _ < 16 = firstBad-upTo-within (allowedTest (a .changes) (a .modules) (a .modes) (now (a .homes)) (now (a .switches))
+    let w : _ < 16 = firstBad-upTo-within (allowedTest (now (a .modes)) (now (a .changed)) (a .module-count) (a .mode-count) (now (a .homes)) (now (a .switches))
     (now (a .running)) (now (a .ages))) 16 _ (sym (c1 .not-allowed .ensures) ∙ ap placeIn (c .before .m .given .1)) in
     omega arith
 
@@ -34,5 +34,5 @@ returns-3 c =
 pub judged-changes-spec : {M : Type 1} → statement M
 judged-changes-spec =
     tie.close
-    (tie.spec (λ c. search needs) (λ c. search needs) (λ c κs. search needs) (λ c. search needs) cast-t14 (λ c. search needs) returns
+    (tie.spec (λ c. search needs) (λ c. search needs) (λ c κs. search needs) (λ c. search needs) cast-t15 (λ c. search needs) returns
     returns-2 returns-3)

@@ -11,30 +11,30 @@ use borrow.Author.Needs.{needs}
 use Rattle.stationjudge.proofs.judged_results.Statement.{statement}
 use Rattle.stationjudge.proofs.judged_results.Tie as tie
 
-cast-t15 : tie.Need-cast-t15
-cast-t15 c =
+cast-t16 : tie.Need-cast-t16
+cast-t16 c =
     let c1 = c .before .before .before in
     let a = c1 .before .args in
-    let w : _ < 32 = firstBad-upTo-within (awaitedTest (a .results) (a .tasks) (now (a .runs)) (now (a .modes)) (now (a .ages))
-    (now (a .homes)) (now (a .givens)) (now (a .worsts))) 32 _
+    let w : _ < 32 = firstBad-upTo-within (awaitedTest (now (a .given)) (a .tasks) (now (a .runs)) (now (a .modes)) (now (a .ages))
+    (now (a .homes)) (now (a .had)) (now (a .worsts))) 32 _
     (sym (c1 .not-awaited .ensures) ∙ ap placeIn (c .before .t .given .1)) in
     omega arith
 
-cast-t20 : tie.Need-cast-t20
-cast-t20 c =
+cast-t21 : tie.Need-cast-t21
+cast-t21 c =
     let c1 = c .before .before .before in
     let a = c1 .before .before .before .before .args in
-    let w : _ < 32 = firstBad-upTo-within (fitsTest (a .results) (now (a .sizes))) 32 _
+    let w : _ < 32 = firstBad-upTo-within (fitsTest (now (a .results)) (now (a .given)) (now (a .sizes))) 32 _
     (sym (c1 .too-large .ensures) ∙ ap placeIn (c .before .t2 .given .1)) in
     omega arith
 
-cast-t25 : tie.Need-cast-t25
-cast-t25 c =
+cast-t26 : tie.Need-cast-t26
+cast-t26 c =
     let c1 = c .before .before .before in
     let start = c1 .before .before .before .before .before .before .before in
     let a = start .args in
-    let w : _ < 32 = firstBad-upTo-within (inTimeTest (a .results) (a .tasks) (now (a .runs)) (now (a .modes)) (now (a .ages))
-    (now (a .homes)) (now (a .givens)) (now (a .worsts))) 32 _
+    let w : _ < 32 = firstBad-upTo-within (inTimeTest (now (a .given)) (a .tasks) (now (a .runs)) (now (a .modes)) (now (a .ages))
+    (now (a .homes)) (now (a .had)) (now (a .worsts))) 32 _
     (sym (c1 .overdue .ensures) ∙ ap placeIn (c .before .t3 .given .1)) in
     omega arith
 
@@ -82,6 +82,6 @@ returns-4 c =
 pub judged-results-spec : {M : Type 1} → statement M
 judged-results-spec =
     tie.close
-    (tie.spec (λ c κs. search needs) (λ c. search needs) cast-t15 (λ c. search needs) (λ c κs. search needs) (λ c. search needs)
-    cast-t20 (λ c. search needs) (λ c κs. search needs) (λ c. search needs) cast-t25 (λ c. search needs) returns returns-2 returns-3
+    (tie.spec (λ c κs. search needs) (λ c. search needs) cast-t16 (λ c. search needs) (λ c κs. search needs) (λ c. search needs)
+    cast-t21 (λ c. search needs) (λ c κs. search needs) (λ c. search needs) cast-t26 (λ c. search needs) returns returns-2 returns-3
     returns-4)

@@ -6,16 +6,23 @@ use borrow.Author.Needs.{needs}
 use Rattle.stationmoves.proofs.held_by.Statement.{statement}
 use Rattle.stationmoves.proofs.held_by.Tie as tie
 
+cast-row-with : tie.Need-cast-row-with
+cast-row-with c = search (needs, c .before .before .before .good .0)
+
 returns : tie.Need-returns
 returns c =
-    let c1 = c .before .before .before .before .before .before .before .before .before in
+    let c1 = c .before .before .before .before .before .before .before .before in
     let a = c1 .before .before .before .before .before .args in
+    let f = a .t1 in
+    let p = a .t2 in
     let when = c1 .row-with .ensures in (
-      c .held-after .ensures .0 ∙ ap (λ o. stores (a .t3 .held)
-          (heldRule (a .t1 .sending) (a .t1 .sites) (a .t3 .bytes) (a .t2 .nodes) (a .t3 .held) o) 128) when,
+      c .held-after .ensures .0 ∙ ap (λ o. stores (p .held)
+          (heldRule (f .modules .sending) (f .modules .sites) (p .bytes) (f .controls .nodes) (p .held) o) 128) when,
       λ j w. c .held-after .ensures .1 j w ∙ ap
-          (λ o. heldRule (a .t1 .sending) (a .t1 .sites) (a .t3 .bytes) (a .t2 .nodes) (a .t3 .held) o j) when,
+          (λ o. heldRule (f .modules .sending) (f .modules .sites) (p .bytes) (f .controls .nodes) (p .held) o j) when,
     )
 
 pub held-by-spec : {M : Type 1} → statement M
-held-by-spec = tie.close (tie.spec (λ c. search needs) (λ c κs. search needs) (λ c κs. search needs) returns)
+held-by-spec =
+    tie.close
+    (tie.spec cast-row-with (λ c κs. search needs) (λ c κs. search needs) returns)

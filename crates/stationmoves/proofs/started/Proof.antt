@@ -8,7 +8,7 @@ returns c = rw (c .before .before .control .given .1, c .control-row .ensures)
 
 returns-2 : tie.Need-returns-2
 returns-2 c =
-    rw (c .before .before .before .before .enum-told .given .1, c .before .before .message .given .1, c .data-row .ensures)
+    rw (c .before .before .before .before .enum-told .given .1, c .before .before .first .given .1, c .data-row .ensures)
 
 returns-3 : tie.Need-returns-3
 returns-3 c = rw (c .before .before .enum-told .given .1, c .enum-told2 .given .1)

@@ -1,36 +1,31 @@
--- Nothing lands, or on the sender: all stays (`stores-idle`). On another node one place changes (`stores-one`, `lands-here`).
-use mathlib.Core.Path.{_≡_, sym, _∙_}
-use lib.ListN.{length}
-use Rattle.laws.proofs.Stores.{stores-idle, stores-one}
+-- Invariant: the places so far are filled by `landedRule` (`Filled`); a turn reads the next place, still as it was.
+use mathlib.Core.Path.{_∙_}
+use Prim.Native.Nat.{_≤_, _-_}
+use Rattle.laws.proofs.Turns.{Filled, filled-none, filled-turn, filled-next, filled-end}
 use Rattle.stationnodes.specs.Nodes.{landedRule}
-use Rattle.stationnodes.proofs.Ways.{lands-not, lands-here}
 use borrow.Author.Needs.{needs}
 use Rattle.stationnodes.proofs.landed_after.Statement.{statement}
 use Rattle.stationnodes.proofs.landed_after.Tie as tie
 
-returns : tie.Need-returns
-returns c =
-    let a = c .before .before .args in
-    stores-idle (a .landed) (landedRule (a .landing) (a .n) (a .landed)) 32 0 (λ k w. rw (c .enum-told .given .1))
+abbrev Inv-loop : tie.InvT-loop
+Inv-loop n lands loads homes nodes landed₀ t₀ landed t = (t ≤ 32) × Filled landed₀ (landedRule lands loads homes nodes n landed₀) t landed
 
-returns-2 : tie.Need-returns-2
-returns-2 c =
-    let c1 = c .before .before .before in
-    let a = c1 .before .before .args in
-    let b = c1 .landing .given .0 in
-    stores-idle (a .landed) (landedRule (a .landing) (a .n) (a .landed)) 32 0
-    (λ k w. lands-not (a .landing) (b .0) (b .1 .0) (b .1 .1 .0) (a .n) (a .landed) (c1 .landing .given .1)
-    (sym (c .before .place .ensures) ∙ c .if1 .taken) k)
+abbrev μ-loop : tie.MeasureT-loop
+μ-loop n lands loads homes nodes landed₀ t₀ landed t = 32 - t
 
-returns-3 : tie.Need-returns-3
-returns-3 c =
-    let c1 = c .before .before .before .before in
-    let a = c1 .before .before .args in
-    let b = c1 .landing .given .0 in
-    let e : length (a .landed) ≡ 32 = search needs in
-    c .with-place .ensures ∙ stores-one (a .landed) (landedRule (a .landing) (a .n) (a .landed)) 32 (b .0 .0) (b .1 .1 .0) 0 e
-    (λ k w. lands-here (a .landing) (b .0) (b .1 .0) (b .1 .1 .0) (a .n) (a .landed) (c1 .landing .given .1)
-    (λ s. c .before .if1 .left (c .before .before .place .ensures ∙ s)) k)
+loop-holds : tie.Need-loop-holds Inv-loop μ-loop
+loop-holds c = (search needs, filled-none)
+
+loop-again : tie.Need-loop-again Inv-loop μ-loop
+loop-again c =
+    let c1 = c .before .before in
+    (search needs, filled-turn (c1 .loop .inv .1) (rw (filled-next (c1 .loop .inv .1) 0) at (c .landed-at .ensures)))
+
+returns : tie.Need-returns Inv-loop μ-loop
+returns c = filled-end (c .before .loop .inv .1) (c .before .loop .inv .0) (c .loop-test .left)
 
 pub landed-after-spec : {M : Type 1} → statement M
-landed-after-spec = tie.close (tie.spec (λ c. search needs) (λ c. search needs) (λ c κs. search needs) (λ c κs. search needs) returns returns-2 returns-3)
+landed-after-spec =
+    tie.close
+    (tie.spec Inv-loop μ-loop loop-holds (λ c. search needs) (λ c. search needs) (λ c κs. search needs) (λ c. search needs)
+    (λ c. search needs) (λ c. search needs) (λ c. search needs) loop-again returns)

@@ -15,9 +15,9 @@ returns c =
     let size : length (a .node .landed) ≡ 32 = search needs in
     let landed = c .before .before .before .landed-after in
     made (landed .ensures)
-    (shown-of-landed (now (a .ends)) (now (a .homes)) (now (a .nodes)) (now (a .out)) (now (a .held)) (now (a .bus)) (now (a .runs))
-    (a .clock .0) (a .n) (a .node .landed) (a .node .shown) (landedRule (a .landing) (a .n) (a .node .landed)) size (landed .ensures)
-    (c .shown-after .ensures))
+    (shown-of-landed (now (a .ends)) (now (a .homes)) (now (a .nodes)) (now (a .out)) (now (a .held)) (now (a .due)) (a .n)
+    (a .node .landed) (a .node .shown) (landedRule (now (a .lands)) (now (a .loads)) (now (a .homes)) (now (a .nodes)) (a .n) (a .node .landed))
+    size (landed .ensures) (c .shown-after .ensures))
 
 pub node-after-spec : {M : Type 1} → statement M
 node-after-spec = tie.close (tie.spec (λ c κs. search needs) (λ c κs. search needs) returns)

@@ -8,11 +8,11 @@ use Rattle.stationnodes.proofs.nodes_after.Statement.{statement}
 use Rattle.stationnodes.proofs.nodes_after.Tie as tie
 
 abbrev Inv-loop : tie.InvT-loop
-Inv-loop landing ends homes nodes out held bus runs clock old₀ n₀ old n =
-    (n ≤ 8) × Filled old₀ (nodeRule ends homes nodes out held bus runs (clock .0) landing old₀) n old
+Inv-loop lands loads ends homes nodes out held due old₀ n₀ old n =
+    (n ≤ 8) × Filled old₀ (nodeRule lands loads ends homes nodes out held due old₀) n old
 
 abbrev μ-loop : tie.MeasureT-loop
-μ-loop landing ends homes nodes out held bus runs clock old₀ n₀ old n = 8 - n
+μ-loop lands loads ends homes nodes out held due old₀ n₀ old n = 8 - n
 
 loop-holds : tie.Need-loop-holds Inv-loop μ-loop
 loop-holds c = (search needs, filled-none)

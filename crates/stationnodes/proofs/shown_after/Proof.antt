@@ -9,11 +9,11 @@ use Rattle.stationnodes.proofs.shown_after.Statement.{statement}
 use Rattle.stationnodes.proofs.shown_after.Tie as tie
 
 abbrev Inv-loop : tie.InvT-loop
-Inv-loop n ends homes nodes out landed held bus runs clock shown₀ t₀ shown t =
-    (t ≤ 32) × Filled shown₀ (shownRule ends homes nodes out held bus runs (clock .0) n (numberAt landed) shown₀) t shown
+Inv-loop n ends homes nodes out landed held due shown₀ t₀ shown t =
+    (t ≤ 32) × Filled shown₀ (shownRule ends homes nodes out held due n (numberAt landed) shown₀) t shown
 
 abbrev μ-loop : tie.MeasureT-loop
-μ-loop n ends homes nodes out landed held bus runs clock shown₀ t₀ shown t = 32 - t
+μ-loop n ends homes nodes out landed held due shown₀ t₀ shown t = 32 - t
 
 loop-holds : tie.Need-loop-holds Inv-loop μ-loop
 loop-holds c = (search needs, filled-none)

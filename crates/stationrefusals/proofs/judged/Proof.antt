@@ -7,7 +7,9 @@ use Rattle.stationrefusals.proofs.judged.Tie as tie
 
 returns : tie.Need-returns
 unfolding judgedBy
-returns c = c .judged-changes .ensures ∙ rw (c .before .before .before .before .before .before .before .judged-results .ensures)
+returns c = c .judged-changes .ensures ∙ rw (c .before .before .before .before .before .before .before .before .before .before .judged-results .ensures)
 
 pub judged-spec : {M : Type 1} → statement M
-judged-spec = tie.close (tie.spec (λ c κs. search needs) (λ c κs. search needs) returns)
+judged-spec =
+    tie.close
+    (tie.spec (λ c κs. search needs) (λ c κs. search needs) returns)

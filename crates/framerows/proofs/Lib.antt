@@ -1,9 +1,0 @@
-pub mod Filled
-pub mod Scanned
-pub mod Laid
-pub mod Lent
-pub mod Two
-pub mod Calls
-pub mod Lending
-pub mod Tabled
-pub mod Carried

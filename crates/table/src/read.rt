@@ -1,0 +1,203 @@
+// A table gathered from the records of a file as they are met: refusal 20.
+ghost use mathlib.Core.Path.{_≡_};
+ghost use Prim.Native.Nat.{_+_, _≤_};
+ghost use Rattle.laws.specs.Loops.{placed};
+ghost use Rattle.rules.specs.Limits.{mostNodes, mostFrames};
+ghost use Rattle.rules.specs.Records as rules;
+ghost use Rattle.rules.specs.Records.{tableFollows};
+ghost use Rattle.table.specs.Memory.{headerRead, controlRead, rowRead, emptyTable, tableFrom, gatheredFrom, readingOf, reported};
+use crate::Header;
+use crate::Table;
+use little::read8;
+use little::read16;
+use little::read32;
+use records::Sort;
+use records::Step;
+use units::Frame;
+use units::NodeNo;
+use units::Offset;
+use units::Ticks;
+
+// How gathering ended: at the file's end, or at the place where the record rules are broken.
+pub enum Outcome {
+    Whole,
+    Broken(Offset),
+}
+
+pub struct Reading {
+    pub outcome: Outcome,
+    pub table: Table,
+}
+
+// In each of these the body is cut out by its kind's length: then it is plain that each of its numbers stands within it.
+fn first_record(s: &[u8], body: usize) -> Header
+    requires { do ⌜ body + (← ⟦fields::header::LENGTH⟧) ≤ (← ⟦s.len()⟧) ⌝ }
+    ensures { λ r. ⌜ r ≡ headerRead (now (s .entry)) body ⌝ }
+{
+    let first = records::body(s, body, body + fields::header::LENGTH);
+    Header {
+        period: Ticks(read32(first, fields::header::PERIOD)),
+        controls: read8(first, fields::header::CONTROLS) as usize,
+        datas: read16(first, fields::header::DATAS) as usize,
+    }
+}
+
+fn control_row(
+    s: &[u8],
+    body: usize,
+    k: usize,
+    nodes: &mut [u8; NodeNo::MOST],
+    starts: &mut [u32; NodeNo::MOST],
+    stops: &mut [u32; NodeNo::MOST],
+)
+    requires { do ⌜ body + (← ⟦fields::control_row::LENGTH⟧) ≤ (← ⟦s.len()⟧) ⌝ }
+    ensures { λ _. ⌜ now (nodes .exit) ≡ placed mostNodes (now (nodes .entry)) k (controlRead (now (s .entry)) body .node) ⌝ }
+    ensures { λ _. ⌜ now (starts .exit) ≡ placed mostNodes (now (starts .entry)) k (controlRead (now (s .entry)) body .start) ⌝ }
+    ensures { λ _. ⌜ now (stops .exit) ≡ placed mostNodes (now (stops .entry)) k (controlRead (now (s .entry)) body .stop) ⌝ }
+{
+    if k < NodeNo::MOST {
+        let row = records::body(s, body, body + fields::control_row::LENGTH);
+        nodes[k] = read8(row, fields::control_row::NODE);
+        starts[k] = read32(row, fields::control_row::START);
+        stops[k] = read32(row, fields::control_row::STOP);
+    }
+}
+
+fn data_row(
+    s: &[u8],
+    body: usize,
+    k: usize,
+    tasks: &mut [u8; Frame::MOST],
+    deadlines: &mut [u32; Frame::MOST],
+    starts: &mut [u32; Frame::MOST],
+    stops: &mut [u32; Frame::MOST],
+)
+    requires { do ⌜ body + (← ⟦fields::data_row::LENGTH⟧) ≤ (← ⟦s.len()⟧) ⌝ }
+    ensures { λ _. ⌜ now (tasks .exit) ≡ placed mostFrames (now (tasks .entry)) k (rowRead (now (s .entry)) body .task) ⌝ }
+    ensures { λ _. ⌜ now (deadlines .exit) ≡ placed mostFrames (now (deadlines .entry)) k (rowRead (now (s .entry)) body .deadline) ⌝ }
+    ensures { λ _. ⌜ now (starts .exit) ≡ placed mostFrames (now (starts .entry)) k (rowRead (now (s .entry)) body .start) ⌝ }
+    ensures { λ _. ⌜ now (stops .exit) ≡ placed mostFrames (now (stops .entry)) k (rowRead (now (s .entry)) body .stop) ⌝ }
+{
+    if k < Frame::MOST {
+        let row = records::body(s, body, body + fields::data_row::LENGTH);
+        tasks[k] = read8(row, fields::data_row::TASK);
+        deadlines[k] = read32(row, fields::data_row::DEADLINE);
+        starts[k] = read32(row, fields::data_row::START);
+        stops[k] = read32(row, fields::data_row::STOP);
+    }
+}
+
+struct Gathered {
+    outcome: Outcome,
+    header: Header,
+    controls: usize,
+    rows: usize,
+}
+
+fn gather(
+    s: &[u8],
+    control_nodes: &mut [u8; NodeNo::MOST],
+    control_starts: &mut [u32; NodeNo::MOST],
+    control_stops: &mut [u32; NodeNo::MOST],
+    tasks: &mut [u8; Frame::MOST],
+    deadlines: &mut [u32; Frame::MOST],
+    starts: &mut [u32; Frame::MOST],
+    stops: &mut [u32; Frame::MOST],
+) -> Gathered
+    ensures { λ r. ⌜ reported r (now («control_nodes» .exit)) (now («control_starts» .exit)) (now («control_stops» .exit)) (now (tasks .exit)) (now (deadlines .exit)) (now (starts .exit)) (now (stops .exit))
+        ≡ gatheredFrom (tableFrom (emptyTable .header) 0 0 (now («control_nodes» .entry)) (now («control_starts» .entry)) (now («control_stops» .entry)) (now (tasks .entry)) (now (deadlines .entry)) (now (starts .entry)) (now (stops .entry))) (rules.records tableFollows 20 (now (s .entry))) ⌝ }
+{
+    let mut head = Header::empty();
+    let mut controls = 0;
+    let mut rows = 0;
+    let mut previous: u8 = 0;
+    let mut at: usize = 0;
+    loop {
+        match records::next(s, Sort::Table, previous, at) {
+            Step::Record { kind, body, next } => {
+                if kind == fields::data_row::KIND {
+                    data_row(s, body, rows, tasks, deadlines, starts, stops);
+                    rows += 1;
+                    // This is `next`; but no row waits for the length of the row before it to be looked up.
+                    at = body + fields::data_row::LENGTH;
+                } else if kind == fields::control_row::KIND {
+                    control_row(
+                        s,
+                        body,
+                        controls,
+                        control_nodes,
+                        control_starts,
+                        control_stops,
+                    );
+                    controls += 1;
+                    at = next;
+                } else {
+                    head = first_record(s, body);
+                    at = next;
+                }
+                previous = kind;
+            }
+            Step::End => {
+                return Gathered {
+                    outcome: Outcome::Whole,
+                    header: head,
+                    controls,
+                    rows,
+                };
+            }
+            Step::Wrong(place) => {
+                return Gathered {
+                    outcome: Outcome::Broken(place),
+                    header: head,
+                    controls,
+                    rows,
+                };
+            }
+        }
+    }
+}
+
+pub fn read_table(s: &[u8]) -> Reading
+    ensures { λ r. ⌜ r ≡ readingOf (rules.records tableFollows 20 (now (s .entry))) ⌝ }
+{
+    let mut control_nodes = [0; NodeNo::MOST];
+    let mut control_starts = [0; NodeNo::MOST];
+    let mut control_stops = [0; NodeNo::MOST];
+    let mut tasks = [0; Frame::MOST];
+    let mut deadlines = [0; Frame::MOST];
+    let mut starts = [0; Frame::MOST];
+    let mut stops = [0; Frame::MOST];
+    let g = gather(
+        s,
+        &mut control_nodes,
+        &mut control_starts,
+        &mut control_stops,
+        &mut tasks,
+        &mut deadlines,
+        &mut starts,
+        &mut stops,
+    );
+    let outcome = g.outcome;
+    let head = g.header;
+    match outcome {
+        Outcome::Whole => Reading {
+            outcome: Outcome::Whole,
+            table: Table {
+                header: head,
+                controls: g.controls,
+                control_nodes,
+                control_starts,
+                control_stops,
+                rows: g.rows,
+                tasks,
+                deadlines,
+                starts,
+                stops,
+            },
+        },
+        Outcome::Broken(place) => Reading {
+            outcome: Outcome::Broken(place),
+            table: Table::empty(),
+        },
+    }
+}
