@@ -11,12 +11,13 @@ use Rattle.laws.specs.Lists.{keep, all}
 use Rattle.laws.proofs.Lists.{both-left, both-right, length-keep}
 use Rattle.laws.proofs.Divisors.{divides-true, divides-is}
 use Rattle.laws.proofs.Members.{All, empty, also, all-weaker, all-keep, all-map, all-getD}
-use Rattle.rules.specs.Plan.{Plan, Invocation, noMode, noTask, theMode, theTask}
+use Rattle.rules.specs.Plan.{Plan, Invocation, noMode, theMode}
 use Rattle.rules.specs.Traffic.{Run, runOf, ofBusTask, busRuns, busPeriod, switchGrid, messages, basic}
 use Rattle.rules.specs.Frames.{someBusTask, pairsOf, pairs}
 use Rattle.rules.proofs.Period.{periodDivides, period-divides}
 use Rattle.rules.proofs.PlanKept.{Between, PlanKept, InvocationKept}
 use Rattle.rules.proofs.LaidOut.{sending-mode, period-divides-mode}
+use Rattle.rules.proofs.Direct.{Goes, run-goes}
 use Rattle.bus.specs.declared.runs.Runs.{Runs}
 use Rattle.bus.specs.Runs.{runsLaid, runsSeen}
 use Rattle.bus.proofs.Columns.{laid-seen}
@@ -24,8 +25,7 @@ use Rattle.frames.specs.Walk.{isFair}
 
 -- what a plan says of a run
 record Kept (r : Run) : Type 0 where
-  task : r .task < 32
-  positive : 0 < r .period
+  goes : Goes r
   worst : r .worst ≤ r .period
 
 fair-of : (period : ℕ) {rs : List Run} → 0 < period → All Kept rs → all (periodDivides period) rs ≡ true → all (isFair period) rs ≡ true
@@ -33,15 +33,13 @@ unfolding isFair
 fair-of period h empty e = refl
 fair-of period h (also {x = r} {l = rs} k a) e =
     let d : r .period ∣ period = divides-true (r .period) period (both-left (periodDivides period r) (all (periodDivides period) rs) e) in
-    rw (lt-ltb (r .task) 32 (k .task), lt-ltb 0 (r .period) (k .positive), le-leb (r .period) period (le-of-dvd h d), le-leb (r .worst) (r .period) (k .worst))
+    rw (lt-ltb (r .task) 32 (k .goes .task), lt-ltb 0 (r .period) (k .goes .again), le-leb (r .period) period (le-of-dvd h d), le-leb (r .worst) (r .period) (k .worst))
     (fair-of period h a (both-right (periodDivides period r) (all (periodDivides period) rs) e))
 
 module _ (p : Plan) (k : PlanKept p) where
   kept : (i : Invocation) → InvocationKept p i → Kept (runOf p i)
-  unfolding runOf theTask
-  kept i h =
-      let t = all-getD noTask (k .tasks) (i .task) (h .task) in
-      record { task = omega (arith, h .task, k .taskCount .most); positive = omega (arith, t .worst .least, h .worst); worst = h .worst }
+  unfolding runOf
+  kept i h = record { goes = run-goes p k i h; worst = h .worst }
 
   pub few-runs : length (busRuns p) ≤ 64
   unfolding busRuns

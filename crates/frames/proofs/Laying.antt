@@ -5,7 +5,7 @@ use mathlib.Core.Logic.{_⊎_, inl, inr}
 use native.Mathlib.Nat.{zero-add, eq-or-lt-of-le}
 use native.Mathlib.Omega.{arith}
 use lib.ListN.{length, getD, take, drop, replicate, length-take, length-replicate, List·getD-map}
-use lib.Seq.{sets, sets-eq, ext-getD}
+use lib.Seq.{sets, sets-eq, ext-getD, take-take}
 use Prim.Native.Nat.{ℕ, zero, suc, _+_, _≤_, _<_, min}
 use Rattle.laws.specs.Lists.{tab}
 use Rattle.laws.specs.Loops.{padTo}
@@ -14,6 +14,7 @@ use Rattle.laws.proofs.Lists.{length-tab, getD-tab, padTo-none, getD-padTo}
 use Rattle.rules.specs.Limits.{mostFrames}
 use Rattle.rules.specs.Traffic.{Message}
 use Rattle.rules.specs.Frames.{Pair, pairsOf}
+use Rattle.rules.specs.Direct.{Walk}
 use Rattle.rules.proofs.PairsOf.{before-case, pairs-of}
 use Rattle.rules.proofs.Grid.{pair}
 use Rattle.frames.specs.declared.laid.Frames.{Frames}
@@ -43,11 +44,14 @@ column-is : (number : Pair → ℕ) (fs : List Pair) → sets (replicate mostFra
 unfolding column
 column-is number fs = ap (sets (replicate mostFrames 0) 0) (map-take number mostFrames fs) ∙ laid-in-zeros mostFrames (map number fs)
 
-pub laid-is : {tasks releases deadlines : List ℕ} {n : ℕ} {fs : List Pair} → Derived (replicate mostFrames 0) (replicate mostFrames 0) (replicate mostFrames 0) fs tasks releases deadlines n
-    → _≡_ {A = Frames} (record { count = n; tasks = tasks; releases = releases; deadlines = deadlines }) (framesLaid fs)
+-- what a walk found of some frames, which has room for one more than there are places, is laid as all of them are
+pub laid-is : {tasks releases deadlines : List ℕ} {n k : ℕ} {w : Walk} (fs : List Pair) → Derived (replicate mostFrames 0) (replicate mostFrames 0) (replicate mostFrames 0) w tasks releases deadlines n k
+    → w .found ≡ take (suc mostFrames) fs → _≡_ {A = Frames} (record { count = n; tasks = tasks; releases = releases; deadlines = deadlines }) (framesLaid fs)
 unfolding framesLaid
-laid-is {fs = fs} d =
-    rw (d .count, d .tasks ∙ column-is taskOf fs, d .releases ∙ column-is releaseOf fs, d .deadlines ∙ column-is deadlineOf fs)
+laid-is {w = w} fs d e =
+    let a : take mostFrames (w .found) ≡ take mostFrames fs = rw e (take-take mostFrames (suc mostFrames) fs (omega arith)) in
+    let c : length (w .found) ≡ min (suc mostFrames) (length fs) = rw e (length-take (suc mostFrames) fs) in
+    rw (d .count ∙ c, (rw a at (d .tasks)) ∙ column-is taskOf fs, (rw a at (d .releases)) ∙ column-is releaseOf fs, (rw a at (d .deadlines)) ∙ column-is deadlineOf fs)
 
 -- ---- the struct stands for what was laid
 

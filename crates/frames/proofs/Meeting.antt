@@ -1,25 +1,28 @@
 -- Fair runs; the runs as they wait in a tree; and the messages of one place of the frames' order taken one after the other: the start,
 -- a turn, the end.
 use mathlib.Core.Path.{_≡_, sym, ap, _∙_}
-use mathlib.Core.Bool.{true, false, _&&_}
-use mathlib.Core.List.{List}
+use mathlib.Core.Bool.{Bool, true, false, _&&_}
+use mathlib.Core.List.{List, [], _∷_}
 use mathlib.Core.Logic.{_⊎_, inl, inr}
 use native.Mathlib.Nat.{zero-add, eq-or-lt-of-le, dvd-refl, dvd-add}
 use native.Mathlib.Omega.{arith}
-use borrow.Author.Tests.{eq-eqb, eqb-true, ltb-true, leb-true}
+use borrow.Author.Tests.{eq-eqb, eqb-true, ltb-true, leb-true, lt-ltb, le-ltb}
 use lib.Dec.{eqb, ltb, leb}
 use lib.ListN.{getD, length, set, replicate, length-set, length-replicate, getD-replicate}
 use lib.Seq.{getD-set-same, getD-set-other}
 use Prim.Native.Nat.{ℕ, zero, suc, _+_, _-_, _*_, _%_, _≤_, _<_, _∣_, max}
-use Rattle.laws.specs.Lists.{all, tab}
+use Rattle.laws.specs.Lists.{keep, all, tab, upTo}
 use Rattle.laws.specs.Numbers.{divides}
-use Rattle.laws.proofs.Lists.{both-left, both-right, all-true, length-tab, getD-tab, tested}
+use Rattle.laws.proofs.Lists.{both-left, both-right, both, all-true, length-tab, length-keep, getD-tab, tested, as-many, one-less}
+use Rattle.laws.proofs.Members.{All, empty, also, keep-nothing, all-tab}
 use Rattle.laws.proofs.Orders.{le-or-lt}
-use Rattle.laws.proofs.Divisors.{divides-is}
+use Rattle.laws.proofs.Divisors.{divides-true, divides-is}
 use Rattle.rules.specs.Traffic.{Run}
+use Rattle.rules.specs.Direct.{placeOf, isDue, dueAt}
 use Rattle.rules.proofs.Grid.{ends, latest, next-divides}
+use Rattle.rules.proofs.Direct.{Goes}
 use Rattle.tree.specs.Tree.{Grown, Raised}
-use Rattle.frames.specs.Walk.{runAt, runsIn, isFair, Ready, codeOf, keyOf, limitOf, Planted, Waits, Waiting, CellMet}
+use Rattle.frames.specs.Walk.{runAt, runsIn, isFair, Ready, keyOf, limitOf, Planted, Waits, Waiting, CellMet}
 use Rattle.tree.proofs.Trees.{AtLeaf, root-under, root-leaf}
 
 -- ---- fair runs
@@ -40,6 +43,12 @@ fair-run cycle r h =
       leb-true (r .period) cycle (both-left (leb (r .period) cycle) (leb (r .worst) (r .period)) b),
       leb-true (r .worst) (r .period) (both-right (leb (r .period) cycle) (leb (r .worst) (r .period)) b),
     )
+
+pub fair-go : (cycle : ℕ) (rs : List Run) → all (isFair cycle) rs ≡ true → All Goes rs
+fair-go cycle [] h = empty
+fair-go cycle (r ∷ rs) h =
+    let f = fair-run cycle r (both-left (isFair cycle r) (all (isFair cycle) rs) h) in
+    also (record { task = f .0; again = f .1 }) (fair-go cycle rs (both-right (isFair cycle r) (all (isFair cycle) rs) h))
 
 module _ (task period worst : List ℕ) where
   pub fair-at : (cycle n i : ℕ) → all (isFair cycle) (runsIn task period worst n) ≡ true → i < n → Fair task period worst cycle i
@@ -166,17 +175,17 @@ module _ (task period worst : List ℕ) where
     -- ---- the messages of one place
 
     -- a run whose message comes later has none at this place
-    none-ends : {lo hi i key : ℕ} (d t : ℕ) (w : Waits task period lo hi i key) → hi ≤ codeOf d t → codeOf d t < codeOf (w .next) (getD task i 0) → ends (runAt task period worst i) d t ≡ 0
+    none-ends : {lo hi i key : ℕ} (d t : ℕ) (w : Waits task period lo hi i key) → hi ≤ placeOf d t → placeOf d t < placeOf (w .next) (getD task i 0) → ends (runAt task period worst i) d t ≡ 0
     none-ends {lo} {hi} {i} {key} d t w h l =
         ends-zero i d t
         (λ a e.
-        let f : codeOf (w .next) (getD task i 0) < hi + 32 * getD period i 0 = w .first in
+        let f : placeOf (w .next) (getD task i 0) < hi + 32 * getD period i 0 = w .first in
         let b : divides (getD period i 0) d ≡ eqb (w .next) d = next-divides {d = d} d (record { multiple = w .multiple; reached = omega arith; first = omega arith }) (omega arith) (omega arith) in
         let n : w .next ≡ d = eqb-true (w .next) d (sym b ∙ a) in
         omega arith)
 
     -- no message waits before a root, so there is nothing at the places before it
-    pub nothing-before : {lo : ℕ} {tree : List ℕ} (d t : ℕ) → Ready task period worst runs size cycle → Waiting task period runs size cycle lo lo tree → lo ≤ codeOf d t → suc (codeOf d t) * 64 ≤ getD tree 1 0
+    pub nothing-before : {lo : ℕ} {tree : List ℕ} (d t : ℕ) → Ready task period worst runs size cycle → Waiting task period runs size cycle lo lo tree → lo ≤ placeOf d t → suc (placeOf d t) * 64 ≤ getD tree 1 0
         → latest (runsIn task period worst runs) d t ≡ 0
     unfolding runsIn
     nothing-before {lo} {tree} d t r w h l =
@@ -191,30 +200,73 @@ module _ (task period worst : List ℕ) where
             omega arith
 
     module _ (d t : ℕ) where
-      -- the messages that come before the root are taken
-      pub record Taking (tree : List ℕ) (root best : ℕ) : Type 0 where
-        pub waiting : Waiting task period runs size cycle (codeOf d t) (suc (codeOf d t)) tree
-        pub root-is : root ≡ getD tree 1 0
-        pub counted : (i : ℕ) → i < runs → suc (codeOf d t) * 64 ≤ getD tree (size + i) 0 → ends (runAt task period worst i) d t ≤ best
-        pub under : best ≤ latest (runsIn task period worst runs) d t
+      -- the run's message at this place is still to be taken
+      abbrev isAhead : List ℕ → ℕ → Bool
+      isAhead tree i = ltb (getD tree (size + i) 0) (suc (placeOf d t) * 64)
 
-      pub taking-start : {tree : List ℕ} {root : ℕ} → Ready task period worst runs size cycle → Waiting task period runs size cycle (codeOf d t) (codeOf d t) tree → root ≡ getD tree 1 0 → Taking tree root 0
-      taking-start {tree} {root} r w e =
+      abbrev ahead : List ℕ → ℕ
+      ahead tree = length (keep (isAhead tree) (upTo runs))
+
+      -- the messages that come before the root are taken
+      pub record Taking (tree : List ℕ) (root best taken : ℕ) : Type 0 where
+        pub waiting : Waiting task period runs size cycle (placeOf d t) (suc (placeOf d t)) tree
+        pub root-is : root ≡ getD tree 1 0
+        pub counted : (i : ℕ) → i < runs → suc (placeOf d t) * 64 ≤ getD tree (size + i) 0 → ends (runAt task period worst i) d t ≤ best
+        pub under : best ≤ latest (runsIn task period worst runs) d t
+        pub so-far : taken + ahead tree ≡ length (dueAt (runsIn task period worst runs) d t)
+        pub few : taken ≤ runs
+
+      -- a run has a message at this place exactly where it waits with it
+      due-ahead : {tree : List ℕ} → Ready task period worst runs size cycle → Waiting task period runs size cycle (placeOf d t) (placeOf d t) tree → t < 32 → (i : ℕ) → i < runs
+          → isDue d t (runAt task period worst i) ≡ isAhead tree i
+      unfolding isDue runAt
+      due-ahead {tree} r w short i h = which (le-or-lt (suc (placeOf d t) * 64) (getD tree (size + i) 0)) (tested (divides (getD period i 0) d && eqb (getD task i 0) t))
+        where
+          v : getD tree (size + i) 0 ≡ keyOf (w .each i h .next) (getD task i 0) i
+          v = w .each i h .is
+
+          which : (suc (placeOf d t) * 64 ≤ getD tree (size + i) 0) ⊎ (getD tree (size + i) 0 < suc (placeOf d t) * 64)
+              → ((divides (getD period i 0) d && eqb (getD task i 0) t) ≡ true) ⊎ ((divides (getD period i 0) d && eqb (getD task i 0) t) ≡ false)
+              → (divides (getD period i 0) d && eqb (getD task i 0) t) ≡ ltb (getD tree (size + i) 0) (suc (placeOf d t) * 64)
+          which (inl a) (inl b) =
+              let z : ends (runAt task period worst i) d t ≡ 0 = none-ends d t (w .each i h) (omega arith) (omega (arith, v, r .few, r .small)) in
+              let p : ends (runAt task period worst i) d t ≡ suc (d - getD period i 0 + getD worst i 0)
+              = ends-here i d t (divides-true (getD period i 0) d (both-left (divides (getD period i 0) d) (eqb (getD task i 0) t) b))
+              (eqb-true (getD task i 0) t (both-right (divides (getD period i 0) d) (eqb (getD task i 0) t) b)) in
+              absurd (omega arith)
+          which (inl a) (inr b) = b ∙ sym (le-ltb (getD tree (size + i) 0) (suc (placeOf d t) * 64) a)
+          which (inr a) b =
+              let f = fair-at cycle runs i (r .fair) h in
+              let c : placeOf d t ≤ placeOf (w .each i h .next) (getD task i 0) = w .each i h .reached in
+              let n : w .each i h .next ≡ d = omega (arith, v, f .place) in
+              let e : getD task i 0 ≡ t = omega (arith, v, f .place) in
+              both (divides-is (getD period i 0) d (rw n at (w .each i h .multiple))) (eq-eqb (getD task i 0) t e)
+              ∙ sym (lt-ltb (getD tree (size + i) 0) (suc (placeOf d t) * 64) a)
+
+      pub taking-start : {tree : List ℕ} {root : ℕ} → Ready task period worst runs size cycle → Waiting task period runs size cycle (placeOf d t) (placeOf d t) tree → t < 32 → root ≡ getD tree 1 0 → Taking tree root 0 0
+      unfolding runsIn dueAt
+      taking-start {tree} {root} r w short e =
           record {
             waiting = record { whole = w .whole; each = λ i h. later (w .each i h); rest = w .rest };
             root-is = e;
             counted = counted;
             under = omega arith;
+            so-far = sym (as-many (runAt task period worst) (λ k. k) (isDue d t) (isAhead tree) 0 runs (λ k a b. due-ahead r w short k (omega arith)) ∙ sym (zero-add (ahead tree)));
+            few = omega arith;
           }
         where
-          later : {i key : ℕ} → Waits task period (codeOf d t) (codeOf d t) i key → Waits task period (codeOf d t) (suc (codeOf d t)) i key
+          later : {i key : ℕ} → Waits task period (placeOf d t) (placeOf d t) i key → Waits task period (placeOf d t) (suc (placeOf d t)) i key
           later v = record { next = v .next; is = v .is; multiple = v .multiple; reached = v .reached; first = omega (arith, v .first) }
 
-          counted : (i : ℕ) → i < runs → suc (codeOf d t) * 64 ≤ getD tree (size + i) 0 → ends (runAt task period worst i) d t ≤ 0
+          counted : (i : ℕ) → i < runs → suc (placeOf d t) * 64 ≤ getD tree (size + i) 0 → ends (runAt task period worst i) d t ≤ 0
           counted i h l =
               let v : getD tree (size + i) 0 ≡ keyOf (w .each i h .next) (getD task i 0) i = w .each i h .is in
               let z : ends (runAt task period worst i) d t ≡ 0 = none-ends d t (w .each i h) (omega arith) (omega (arith, v, r .few, r .small)) in
               omega arith
+
+      due-few : length (dueAt (runsIn task period worst runs) d t) ≤ runs
+      unfolding runsIn dueAt
+      due-few = omega (arith, length-keep (isDue d t) (tab (runAt task period worst) 0 runs), length-tab (runAt task period worst) 0 runs)
 
       -- the run at the root ends at this place
       pub record Ending (root i : ℕ) : Type 0 where
@@ -224,12 +276,12 @@ module _ (task period worst : List ℕ) where
         pub multiple : getD period i 0 ∣ d
         pub fair : Fair task period worst cycle i
 
-      module _ {tree : List ℕ} {root best i : ℕ} (r : Ready task period worst runs size cycle) (inside : d ≤ cycle) (short : t < 32) (g : Taking tree root best) (l : root < suc (codeOf d t) * 64)
+      module _ {tree : List ℕ} {root best taken i : ℕ} (r : Ready task period worst runs size cycle) (inside : d ≤ cycle) (short : t < 32) (g : Taking tree root best taken) (l : root < suc (placeOf d t) * 64)
           (q : i ≡ root % 64) where
         found : AtRoot tree root i
         found = at-root r (g .waiting) (g .root-is) (omega arith) q
 
-        waits : Waits task period (codeOf d t) (suc (codeOf d t)) i (getD tree (size + i) 0)
+        waits : Waits task period (placeOf d t) (suc (placeOf d t)) i (getD tree (size + i) 0)
         waits = g .waiting .each i (found .run)
 
         fair : Fair task period worst cycle i
@@ -238,7 +290,7 @@ module _ (task period worst : List ℕ) where
         pub ending : Ending root i
         ending =
             let v : root ≡ keyOf (waits .next) (getD task i 0) i = sym (found .here) ∙ waits .is in
-            let c : codeOf d t ≤ codeOf (waits .next) (getD task i 0) = waits .reached in
+            let c : placeOf d t ≤ placeOf (waits .next) (getD task i 0) = waits .reached in
             let s : getD task i 0 < 32 = fair .place in
             let n : waits .next ≡ d = omega arith in
             let e : getD task i 0 ≡ t = omega arith in
@@ -293,7 +345,14 @@ module _ (task period worst : List ℕ) where
               which (inr a) (inl b) = other (λ e. omega arith)
               which (inr a) (inr b) = other (λ e. omega arith)
 
-          pub taking-turn : {b best′ : ℕ} → b ≡ suc (d - getD period i 0 + getD worst i 0) → best′ ≡ max best b → Taking tree′ root′ best′
+          one-taken : ahead tree ≡ suc (ahead tree′)
+          one-taken =
+              one-less (isAhead tree) (isAhead tree′) i 0 runs (omega arith) (omega (arith, found .run))
+              (lt-ltb (getD tree (size + i) 0) (suc (placeOf d t) * 64) (omega (arith, found .here)))
+              (le-ltb (getD tree′ (size + i) 0) (suc (placeOf d t) * 64) (omega (arith, leaf-here, ending .key-is, fair .positive)))
+              (λ k n. ap (λ (x : ℕ). ltb x (suc (placeOf d t) * 64)) (sym (leaf-other k n)))
+
+          pub taking-turn : {b best′ : ℕ} → b ≡ suc (d - getD period i 0 + getD worst i 0) → best′ ≡ max best b → Taking tree′ root′ best′ (taken + 1)
           unfolding runsIn
           taking-turn {b} {best′} eb em =
               record {
@@ -306,6 +365,8 @@ module _ (task period worst : List ℕ) where
                 root-is = u .root-is;
                 counted = λ k h a. counted k h a (le-or-lt k i) (le-or-lt i k);
                 under = omega (arith, g .under, top, eb, em, is-end);
+                so-far = omega (arith, g .so-far, one-taken);
+                few = omega (arith, g .so-far, one-taken, due-few);
               }
             where
               is-end : ends (runAt task period worst i) d t ≡ suc (d - getD period i 0 + getD worst i 0)
@@ -314,7 +375,7 @@ module _ (task period worst : List ℕ) where
               top : ends (runAt task period worst i) d t ≤ latest (tab (runAt task period worst) 0 runs) d t
               top = latest-over d t 0 runs i (omega arith) (omega (arith, found .run))
 
-              again : Waits task period (codeOf d t) (suc (codeOf d t)) i (getD tree′ (size + i) 0)
+              again : Waits task period (placeOf d t) (suc (placeOf d t)) i (getD tree′ (size + i) 0)
               again =
                   record {
                     next = d + getD period i 0;
@@ -324,46 +385,52 @@ module _ (task period worst : List ℕ) where
                     first = omega (arith, ending .task-is);
                   }
 
-              as-before : (k : ℕ) → k < runs → (k ≡ i → ⊥) → Waits task period (codeOf d t) (suc (codeOf d t)) k (getD tree′ (size + k) 0)
+              as-before : (k : ℕ) → k < runs → (k ≡ i → ⊥) → Waits task period (placeOf d t) (suc (placeOf d t)) k (getD tree′ (size + k) 0)
               as-before k h n = rw (leaf-other k n) (g .waiting .each k h)
 
-              each : (k : ℕ) → k < runs → (k ≤ i) ⊎ (i < k) → (i ≤ k) ⊎ (k < i) → Waits task period (codeOf d t) (suc (codeOf d t)) k (getD tree′ (size + k) 0)
+              each : (k : ℕ) → k < runs → (k ≤ i) ⊎ (i < k) → (i ≤ k) ⊎ (k < i) → Waits task period (placeOf d t) (suc (placeOf d t)) k (getD tree′ (size + k) 0)
               each k h (inl a) (inl c) = let e : k ≡ i = omega arith in rw e again
               each k h (inl a) (inr c) = as-before k h (λ e. omega arith)
               each k h (inr a) c = as-before k h (λ e. omega arith)
 
-              still : (k : ℕ) → k < runs → suc (codeOf d t) * 64 ≤ getD tree′ (size + k) 0 → (k ≡ i → ⊥) → ends (runAt task period worst k) d t ≤ best′
+              still : (k : ℕ) → k < runs → suc (placeOf d t) * 64 ≤ getD tree′ (size + k) 0 → (k ≡ i → ⊥) → ends (runAt task period worst k) d t ≤ best′
               still k h a n =
                   let z : ends (runAt task period worst k) d t ≤ best = g .counted k h (rw (leaf-other k n) at a) in
                   omega arith
 
-              counted : (k : ℕ) → k < runs → suc (codeOf d t) * 64 ≤ getD tree′ (size + k) 0 → (k ≤ i) ⊎ (i < k) → (i ≤ k) ⊎ (k < i) → ends (runAt task period worst k) d t ≤ best′
+              counted : (k : ℕ) → k < runs → suc (placeOf d t) * 64 ≤ getD tree′ (size + k) 0 → (k ≤ i) ⊎ (i < k) → (i ≤ k) ⊎ (k < i) → ends (runAt task period worst k) d t ≤ best′
               counted k h a (inl x) (inl y) = let e : k ≡ i = omega arith in rw e (omega (arith, is-end, eb, em))
               counted k h a (inl x) (inr y) = still k h a (λ e. omega arith)
               counted k h a (inr x) y = still k h a (λ e. omega arith)
 
-      pub taking-end : {tree : List ℕ} {root best : ℕ} → Ready task period worst runs size cycle → Taking tree root best → suc (codeOf d t) * 64 ≤ root
-          → CellMet task period worst runs size cycle d t tree best root
+      pub taking-end : {tree : List ℕ} {root best taken : ℕ} → Ready task period worst runs size cycle → Taking tree root best taken → suc (placeOf d t) * 64 ≤ root
+          → CellMet task period worst runs size cycle d t tree best root taken
       unfolding runsIn
       taking-end {tree} {root} {best} r g l =
           record {
             is = omega (arith, g .under, all-counted);
+            took = omega (arith, g .so-far, none-ahead);
             waiting = record { whole = g .waiting .whole; each = each; rest = g .waiting .rest };
             root-is = g .root-is;
             past = l;
           }
         where
-          later : (i : ℕ) → i < runs → suc (codeOf d t) * 64 ≤ getD tree (size + i) 0
+          later : (i : ℕ) → i < runs → suc (placeOf d t) * 64 ≤ getD tree (size + i) 0
           later i h =
               let u : getD tree 1 0 ≤ getD tree (size + i) 0 = root-under (g .waiting .whole) i (omega (arith, r .few)) in
               omega (arith, u, g .root-is)
 
+          none-ahead : ahead tree ≡ 0
+          none-ahead =
+              ap length
+              (keep-nothing (isAhead tree) (all-tab (λ k. k) 0 runs (λ k a b. le-ltb (getD tree (size + k) 0) (suc (placeOf d t) * 64) (later k (omega arith)))))
+
           all-counted : latest (tab (runAt task period worst) 0 runs) d t ≤ best
           all-counted = latest-under d t best 0 runs (λ i a b. g .counted i (omega arith) (later i (omega arith)))
 
-          each : (i : ℕ) → i < runs → Waits task period (suc (codeOf d t)) (suc (codeOf d t)) i (getD tree (size + i) 0)
+          each : (i : ℕ) → i < runs → Waits task period (suc (placeOf d t)) (suc (placeOf d t)) i (getD tree (size + i) 0)
           each i h =
               let w = g .waiting .each i h in
               let v : getD tree (size + i) 0 ≡ keyOf (w .next) (getD task i 0) i = w .is in
-              let u : suc (codeOf d t) * 64 ≤ getD tree (size + i) 0 = later i h in
+              let u : suc (placeOf d t) * 64 ≤ getD tree (size + i) 0 = later i h in
               record { next = w .next; is = w .is; multiple = w .multiple; reached = omega (arith, u, v, r .few, r .small); first = w .first }

@@ -3,9 +3,9 @@ use mathlib.Core.Path.{_≡_, refl, sym, ap, ap₂, _∙_}
 use mathlib.Core.Bool.{true}
 use mathlib.Core.List.{List, [], _∷_, _++_, map, foldr}
 use Prim.Native.Nat.{ℕ, _/_}
-use Rattle.laws.specs.Lists.{all, joined, tab}
+use Rattle.laws.specs.Lists.{all}
 use Rattle.laws.proofs.Lists.{all-map, map-append, map-tab}
-use Rattle.rules.specs.Traffic.{Run, Message, message, messagesOf, messages}
+use Rattle.rules.specs.Traffic.{Run, message, messagesOf, messages}
 use Rattle.rules.specs.Frames.{Pair, pairOf, withPair, pairsOf}
 use Rattle.bus.specs.declared.runs.Runs.{Runs}
 use Rattle.bus.specs.Runs as bus
@@ -30,7 +30,7 @@ unfolding pairsOf
 pairs-modeless period rs = ap (λ (fs : List Pair). foldr withPair [] fs) (messages-modeless period rs)
 
 module _ (runs : Runs) where
-  abbrev lent : List Run
+  abbrev pub lent : List Run
   lent = runsIn (runs .tasks) (runs .periods) (runs .worsts) (runs .count)
 
   lent-are : lent ≡ map modeless (bus.runsSeen runs)

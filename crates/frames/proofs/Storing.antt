@@ -11,6 +11,7 @@ use Rattle.laws.proofs.Laid.{sets-append}
 use Rattle.laws.proofs.Orders.{le-or-lt}
 use Rattle.rules.specs.Limits.{mostFrames}
 use Rattle.rules.specs.Frames.{Pair}
+use Rattle.rules.specs.Direct.{Walk}
 use Rattle.rules.proofs.Grid.{pair, cell}
 use Rattle.frames.specs.Walk.{frameAt, taskOf, releaseOf, deadlineOf, stored, Stored, Derived}
 
@@ -97,28 +98,10 @@ stored-then {task₀} {release₀} {deadline₀} {n₀ = n₀} {n} {n′} {fs} {
       count = let e : n ≡ min (suc mostFrames) (n₀ + length fs) = a .count in let f : n′ ≡ min (suc mostFrames) (n + length gs) = b .count in rw (length-append fs gs) (omega arith);
     }
 
--- behind the one that has no place left nothing is stored and nothing counted
-pub stored-stop : {task₀ release₀ deadline₀ task release deadline : List ℕ} {n₀ n : ℕ} {fs : List Pair} (gs : List Pair)
-    → Stored task₀ release₀ deadline₀ n₀ fs task release deadline n → mostFrames < n → Stored task₀ release₀ deadline₀ n₀ (fs ++ gs) task release deadline n
-stored-stop {task₀} {release₀} {deadline₀} {n₀ = n₀} {n} {fs} gs a h =
-    let e : n ≡ min (suc mostFrames) (n₀ + length fs) = a .count in
-    record {
-      tasks = a .tasks ∙ sym (more-stored taskOf task₀ n₀ fs gs (omega arith));
-      releases = a .releases ∙ sym (more-stored releaseOf release₀ n₀ fs gs (omega arith));
-      deadlines = a .deadlines ∙ sym (more-stored deadlineOf deadline₀ n₀ fs gs (omega arith));
-      count = rw (length-append fs gs) (omega arith);
-    }
-
-pub derived : {task₀ release₀ deadline₀ task release deadline : List ℕ} {n : ℕ} {fs : List Pair}
-    → Stored task₀ release₀ deadline₀ 0 fs task release deadline n → Derived task₀ release₀ deadline₀ fs task release deadline n
+pub derived : {task₀ release₀ deadline₀ task release deadline : List ℕ} {n k : ℕ} {fs : List Pair} {w : Walk}
+    → Stored task₀ release₀ deadline₀ 0 fs task release deadline n → n ≡ length fs → w .found ≡ fs → k ≡ w .steps → Derived task₀ release₀ deadline₀ w task release deadline n k
 unfolding stored
-derived {n = n} {fs} a =
-    record {
-      tasks = a .tasks;
-      releases = a .releases;
-      deadlines = a .deadlines;
-      count = let e : n ≡ min (suc mostFrames) (0 + length fs) = a .count in omega arith;
-    }
+derived a c e q = record { tasks = rw e (a .tasks); releases = rw e (a .releases); deadlines = rw e (a .deadlines); count = rw e c; steps = q }
 
 -- ---- the ways of a place
 

@@ -10,6 +10,7 @@ use Rattle.laws.specs.Lists.{all, tab}
 use Rattle.rules.specs.Limits.{longestTime, mostFrames, mostInvocations, mostTasks}
 use Rattle.rules.specs.Traffic.{Run}
 use Rattle.rules.specs.Frames.{Pair}
+use Rattle.rules.specs.Direct.{placeOf, dueAt, Walk}
 use Rattle.rules.proofs.Grid.{cell, latest}
 use Rattle.tree.specs.Tree.{mostLeaves, treePlaces, Tree}
 
@@ -33,12 +34,9 @@ pub record Ready (task period worst : List ℕ) (runs size cycle : ℕ) : Type 0
   pub short : cycle ≤ longestTime
   pub fair : all (isFair cycle) (runsIn task period worst runs) ≡ true
 
--- Messages in the frames' order: the place of deadline d and task t, and the key of its message of run i; behind all keys the limit.
-abbrev pub codeOf : ℕ → ℕ → ℕ
-codeOf d t = d * mostTasks + t
-
+-- The key of run i's message at the place of deadline d and task t; behind all keys the limit.
 abbrev pub keyOf : ℕ → ℕ → ℕ → ℕ
-keyOf d t i = codeOf d t * mostInvocations + i
+keyOf d t i = placeOf d t * mostInvocations + i
 
 abbrev pub limitOf : ℕ → ℕ
 limitOf cycle = (cycle + 1) * (mostTasks * mostInvocations)
@@ -54,8 +52,8 @@ pub record Waits (task period : List ℕ) (lo hi i key : ℕ) : Type 0 where
   pub next : ℕ
   pub is : key ≡ keyOf next (getD task i 0) i
   pub multiple : getD period i 0 ∣ next
-  pub reached : lo ≤ codeOf next (getD task i 0)
-  pub first : codeOf next (getD task i 0) < hi + mostTasks * getD period i 0
+  pub reached : lo ≤ placeOf next (getD task i 0)
+  pub first : placeOf next (getD task i 0) < hi + mostTasks * getD period i 0
 
 -- so each run waits at its leaf of a tree
 pub record Waiting (task period : List ℕ) (runs size cycle lo hi : ℕ) (tree : List ℕ) : Type 0 where
@@ -64,11 +62,12 @@ pub record Waiting (task period : List ℕ) (runs size cycle lo hi : ℕ) (tree 
   pub rest : (i : ℕ) → runs ≤ i → i < size → getD tree (size + i) 0 ≡ limitOf cycle
 
 -- the messages of task t and deadline d are taken, and all that wait come behind them
-pub record CellMet (task period worst : List ℕ) (runs size cycle d t : ℕ) (tree : List ℕ) (best root : ℕ) : Type 0 where
+pub record CellMet (task period worst : List ℕ) (runs size cycle d t : ℕ) (tree : List ℕ) (best root taken : ℕ) : Type 0 where
   pub is : best ≡ latest (runsIn task period worst runs) d t
-  pub waiting : Waiting task period runs size cycle (suc (codeOf d t)) (suc (codeOf d t)) tree
+  pub took : taken ≡ length (dueAt (runsIn task period worst runs) d t)
+  pub waiting : Waiting task period runs size cycle (suc (placeOf d t)) (suc (placeOf d t)) tree
   pub root-is : root ≡ getD tree 1 0
-  pub past : suc (codeOf d t) * mostInvocations ≤ root
+  pub past : suc (placeOf d t) * mostInvocations ≤ root
 
 -- the frame of one place
 unfoldable pub frameAt : ℕ → ℕ → ℕ → List Pair
@@ -95,9 +94,10 @@ pub record Stored (task₀ release₀ deadline₀ : List ℕ) (n₀ : ℕ) (fs :
   pub deadlines : deadline ≡ stored deadlineOf deadline₀ n₀ fs
   pub count : n ≡ min (suc mostFrames) (n₀ + length fs)
 
--- The first frames stand in front, as many as there are places; the count is that of all, or one more than there are places.
-pub record Derived (task₀ release₀ deadline₀ : List ℕ) (fs : List Pair) (task release deadline : List ℕ) (n : ℕ) : Type 0 where
-  pub tasks : task ≡ sets task₀ 0 (map taskOf (take mostFrames fs))
-  pub releases : release ≡ sets release₀ 0 (map releaseOf (take mostFrames fs))
-  pub deadlines : deadline ≡ sets deadline₀ 0 (map deadlineOf (take mostFrames fs))
-  pub count : n ≡ min (suc mostFrames) (length fs)
+-- What a walk found stands in front, as far as there are places; with it how many pairs it found, and in how many steps.
+pub record Derived (task₀ release₀ deadline₀ : List ℕ) (w : Walk) (task release deadline : List ℕ) (n k : ℕ) : Type 0 where
+  pub tasks : task ≡ sets task₀ 0 (map taskOf (take mostFrames (w .found)))
+  pub releases : release ≡ sets release₀ 0 (map releaseOf (take mostFrames (w .found)))
+  pub deadlines : deadline ≡ sets deadline₀ 0 (map deadlineOf (take mostFrames (w .found)))
+  pub count : n ≡ length (w .found)
+  pub steps : k ≡ w .steps

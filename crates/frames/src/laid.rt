@@ -33,7 +33,7 @@ impl Frames {
         let mut tasks = [0; Frame::MOST];
         let mut releases = [0; Frame::MOST];
         let mut deadlines = [0; Frame::MOST];
-        let count = derive(
+        let walked = derive(
             &runs.tasks,
             &runs.periods,
             &runs.worsts,
@@ -44,7 +44,7 @@ impl Frames {
             &mut deadlines,
         );
         Frames {
-            count: count,
+            count: walked.count,
             tasks: tasks,
             releases: releases,
             deadlines: deadlines,

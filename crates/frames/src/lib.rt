@@ -6,9 +6,8 @@ ghost use lib.ListN.{getD};
 ghost use Prim.Native.Nat.{suc, _+_, _-_, _*_, _≤_, _<_};
 ghost use Rattle.laws.specs.Lists.{all};
 ghost use Rattle.rules.specs.Limits.{longestTime, mostFrames, mostInvocations, mostTasks};
-ghost use Rattle.rules.specs.Traffic.{messages};
-ghost use Rattle.rules.specs.Frames.{pairsOf};
-ghost use Rattle.frames.specs.Walk.{runsIn, isFair, codeOf, keyOf, Ready, Planted, Waiting, CellMet, frameAt, Stored, Derived};
+ghost use Rattle.rules.specs.Direct.{placeOf, walkRuns};
+ghost use Rattle.frames.specs.Walk.{runsIn, isFair, keyOf, Ready, Planted, Waiting, CellMet, frameAt, Stored, Derived};
 
 pub mod laid;
 
@@ -77,10 +76,11 @@ fn plant(
     tree
 }
 
-// What the messages of one task and deadline come to: one more than their greatest release; and the root behind them.
+// What the messages of one task and deadline come to: one more than their greatest release; the root behind them; and how many they are.
 struct Met {
     best: Ticks,
     root: u32,
+    taken: usize,
 }
 
 // Takes the messages of task `t` that have to be there by `d`. Each run that ends waits with its next message.
@@ -98,9 +98,9 @@ fn meet(
 ) -> Met
     requires { ⌜ Ready (now task) (now period) (now worst) runs size (cycle .0) ⌝ }
     requires { ⌜ (0 < d .0) × (d .0 ≤ cycle .0) × (t .0 < mostTasks) ⌝ }
-    requires { ⌜ Waiting (now task) (now period) runs size (cycle .0) (codeOf (d .0) (t .0)) (codeOf (d .0) (t .0)) (now tree) ⌝ }
+    requires { ⌜ Waiting (now task) (now period) runs size (cycle .0) (placeOf (d .0) (t .0)) (placeOf (d .0) (t .0)) (now tree) ⌝ }
     requires { ⌜ first ≡ getD (now tree) 1 0 ⌝ }
-    ensures { λ r. ⌜ CellMet (now (task .entry)) (now (period .entry)) (now (worst .entry)) runs size (cycle .0) (d .0) (t .0) (now (tree .exit)) (r .best .0) (r .root) ⌝ }
+    ensures { λ r. ⌜ CellMet (now (task .entry)) (now (period .entry)) (now (worst .entry)) runs size (cycle .0) (d .0) (t .0) (now (tree .exit)) (r .best .0) (r .root) (r .taken) ⌝ }
 {
     // As numbers: the loop's invariant speaks of them, and a struct that the loop does not read is not there any more.
     let last = cycle.0;
@@ -108,15 +108,18 @@ fn meet(
     let end = (d.0 * TASKS + number + 1) * RUNS;
     let mut root = first;
     let mut best = 0;
+    let mut taken = 0;
     while root < end {
         let i = (root % RUNS) as usize;
         let b = behind_release(d, Ticks(period[i]), Ticks(worst[i]));
         best = larger(best, b.0);
         root = raise(tree, size, i, root + period[i] * CELLS);
+        taken += 1;
     }
     Met {
         best: Ticks(best),
         root: root,
+        taken: taken,
     }
 }
 
@@ -145,7 +148,13 @@ fn put(
     n + 1
 }
 
-// The frames by number. Those behind the last place are not stored: the count then is one more than there are places.
+// How many frames a walk found, one more than there are places where there are too many; and in how many steps. A step takes a message.
+pub struct Walked {
+    pub count: usize,
+    pub steps: usize,
+}
+
+// The frames by number, straight from one to the next (rule 4.19). The one for which there is no place is counted and not stored.
 pub fn derive<'a>(
     task: &'a [u8; Invocation::MOST],
     period: &'a [u32; Invocation::MOST],
@@ -155,11 +164,11 @@ pub fn derive<'a>(
     tasks: &mut [u8; Frame::MOST],
     releases: &mut [u32; Frame::MOST],
     deadlines: &mut [u32; Frame::MOST],
-) -> usize
+) -> Walked
     requires { ⌜ runs ≤ mostInvocations ⌝ }
     requires { ⌜ cycle .0 ≤ longestTime ⌝ }
     requires { ⌜ all (isFair (cycle .0)) (runsIn (now task) (now period) (now worst) runs) ≡ true ⌝ }
-    ensures { λ r. ⌜ Derived (now (tasks .entry)) (now (releases .entry)) (now (deadlines .entry)) (pairsOf (messages (cycle .0) (runsIn (now (task .entry)) (now (period .entry)) (now (worst .entry)) runs))) (now (tasks .exit)) (now (releases .exit)) (now (deadlines .exit)) r ⌝ }
+    ensures { λ r. ⌜ Derived (now (tasks .entry)) (now (releases .entry)) (now (deadlines .entry)) (walkRuns (cycle .0) (runsIn (now (task .entry)) (now (period .entry)) (now (worst .entry)) runs)) (now (tasks .exit)) (now (releases .exit)) (now (deadlines .exit)) (r .count) (r .steps) ⌝ }
 {
     let limit = (cycle.0 + 1) * CELLS;
     let size = leaves(runs);
@@ -167,6 +176,7 @@ pub fn derive<'a>(
     grow(&mut tree, size);
     let mut root = tree[1];
     let mut count = 0;
+    let mut steps = 0;
     while root < limit {
         let d = Ticks(root / CELLS);
         let t = task_no(root / RUNS % TASKS);
@@ -183,10 +193,17 @@ pub fn derive<'a>(
             &mut tree,
         );
         count = put(t, d, met.best, count, tasks, releases, deadlines);
+        steps += met.taken;
         if count > Frame::MOST {
-            return count;
+            return Walked {
+                count: count,
+                steps: steps,
+            };
         }
         root = met.root;
     }
-    count
+    Walked {
+        count: count,
+        steps: steps,
+    }
 }

@@ -4,7 +4,7 @@ use mathlib.Core.Path.{_≡_, refl, sym, ap, _∙_}
 use mathlib.Core.Bool.{Bool, true, false, cond, _&&_, _||_}
 use mathlib.Core.List.{List, [], _∷_, _++_, map}
 use mathlib.Core.Logic.{_⊎_, inl, inr}
-use native.Mathlib.Nat.{not-suc-le-zero, le-of-suc-le-suc, zero-add, add-zero, add-suc, suc-add}
+use native.Mathlib.Nat.{not-suc-le-zero, le-of-suc-le-suc, eq-or-lt-of-le, zero-add, add-zero, add-suc, suc-add}
 use native.Mathlib.Numerals.{add-one}
 use native.Mathlib.Omega.{arith}
 use lib.ListN.{length, getD, set, take, replicate, length-append}
@@ -319,3 +319,36 @@ module _ {A : Type 0} (n : ℕ) (z : A) where
       go n [] h = refl
       go zero (x ∷ l) h = absurd (not-suc-le-zero h)
       go (suc n) (x ∷ l) h = ap (λ (r : List A). x ∷ r) (go n l (le-of-suc-le-suc h))
+
+-- ---- how many pass
+
+length-consIf-both : {A B : Type 0} (b : Bool) (x : A) (y : B) (l : List A) (m : List B) → length l ≡ length m → length (consIf b x l) ≡ length (consIf b y m)
+length-consIf-both true x y l m e = ap suc e
+length-consIf-both false x y l m e = e
+
+-- where the same places pass, as many pass
+pub as-many : {A B : Type 0} (f : ℕ → A) (g : ℕ → B) (p : A → Bool) (q : B → Bool) (lo n : ℕ) → ((k : ℕ) → lo ≤ k → k < lo + n → p (f k) ≡ q (g k))
+    → length (keep p (tab f lo n)) ≡ length (keep q (tab g lo n))
+as-many f g p q lo zero h = refl
+as-many f g p q lo (suc n) h =
+    rw (h lo (omega arith) (omega arith))
+    (length-consIf-both (q (g lo)) (f lo) (g lo) (keep p (tab f (suc lo) n)) (keep q (tab g (suc lo) n))
+    (as-many f g p q (suc lo) n (λ k a b. h k (omega arith) (omega arith))))
+
+length-consIf-more : (b : Bool) (x : ℕ) (l m : List ℕ) → length l ≡ suc (length m) → length (consIf b x l) ≡ suc (length (consIf b x m))
+length-consIf-more true x l m e = ap suc e
+length-consIf-more false x l m e = e
+
+-- where one place no longer passes, one less passes
+pub one-less : (p q : ℕ → Bool) (i lo n : ℕ) → lo ≤ i → i < lo + n → p i ≡ true → q i ≡ false → ((k : ℕ) → (k ≡ i → ⊥) → p k ≡ q k)
+    → length (keep p (tab (λ k. k) lo n)) ≡ suc (length (keep q (tab (λ k. k) lo n)))
+one-less p q i lo zero a b pi qi h = absurd (omega arith)
+one-less p q i lo (suc n) a b pi qi h = which (λ l. one-less p q i (suc lo) n l (omega arith) pi qi h) (eq-or-lt-of-le a)
+  where
+    which : (lo < i → length (keep p (tab (λ k. k) (suc lo) n)) ≡ suc (length (keep q (tab (λ k. k) (suc lo) n)))) → (lo ≡ i) ⊎ (lo < i)
+        → length (consIf (p lo) lo (keep p (tab (λ k. k) (suc lo) n))) ≡ suc (length (consIf (q lo) lo (keep q (tab (λ k. k) (suc lo) n))))
+    which later (inl e) =
+        rw (ap p e ∙ pi, ap q e ∙ qi) (ap suc (as-many (λ k. k) (λ k. k) p q (suc lo) n (λ k u v. h k (λ z. omega arith))))
+    which later (inr l) =
+        rw (h lo (λ z. omega arith))
+        (length-consIf-more (q lo) lo (keep p (tab (λ k. k) (suc lo) n)) (keep q (tab (λ k. k) (suc lo) n)) (later l))

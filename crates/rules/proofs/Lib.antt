@@ -1,6 +1,7 @@
 pub mod AllowedExact
 pub mod BodyNumbers
 pub mod CheckerExact
+pub mod Direct
 pub mod FollowsTold
 pub mod Grid
 pub mod Jobs

@@ -27,6 +27,7 @@ use Rattle.rules.specs.Told.{Tells}
 use Rattle.rules.specs.Allowed.{Allowed}
 use Rattle.rules.proofs.Period.{IsBusPeriod, IsSwitchGrid, period, switch-grid}
 use Rattle.rules.proofs.PairsOf.{IsPairsOf, plan-pairs}
+use Rattle.rules.proofs.Direct.{FoundDirectly, found-directly}
 use Rattle.rules.proofs.PlanExact.{read-exact, layout-exact}
 use Rattle.rules.proofs.RuleSteps as steps
 use Rattle.rules.proofs.CheckerExact.{checker-exact, rule-exact}
@@ -57,6 +58,11 @@ the-grid = switch-grid
 -- by task, each with the greatest release of its messages.
 pub the-pairs : (p : Plan) → IsPairsOf (map pairOf (basic p .messages)) (pairs p)
 the-pairs = plan-pairs
+
+-- The walk from pair to pair finds these pairs: all of them where there are not too many, and one too many settles refusal 9. It makes no more
+-- steps than there are runs, times one frame more than there may be, whatever P.
+pub they-are-found-directly : (file : List ℕ) (p : Plan) → readPlan file ≡ ok p → FoundDirectly p
+they-are-found-directly = found-directly
 
 -- The latest-release rule comes to an outcome, the frames placed or a refusal at a frame, exactly when a run of its steps does; each
 -- step is the one that the rule's sentences describe.

@@ -9,14 +9,16 @@ use Rattle.laws.specs.Res.{Res, ok, refuse}
 use Rattle.laws.specs.Lists.{joined}
 use Rattle.rules.specs.Records.{Rec}
 use Rattle.rules.specs.Plan.{Plan, numbersAreWithin, readPlan}
-use Rattle.rules.specs.Traffic.{basic}
+use Rattle.rules.specs.Traffic.{busRuns, basic}
+use Rattle.rules.specs.Direct.{walkRuns}
 use Rattle.rules.specs.Table.{recordBytes, FrameRow, zeroRow, Made, make}
 use Rattle.rules.specs.Checker.{Checked, check}
 
--- An entry: how many messages a plan has; what 1 to 5 say of a plan; a record that 4 refuses; what is made of a plan in a room, the table and the frame rows, or
+-- An entry: how many messages a plan has; how many pairs the walk over its runs finds, and in how many steps; what 1 to 5 say of a plan; a record that 4 refuses; what is made of a plan in a room, the table and the frame rows, or
 -- the refusal; a table that passes, with the frame rows, or the refusal; how many rows are lent, the refusal, and the rows left.
 pub data Entry : Type 0 where
   hasMessages : (plan : List ℕ) (number : ℕ) → Entry
+  walks : (plan : List ℕ) (found steps : ℕ) → Entry
   reads : (plan : List ℕ) (says : Res (Unit {0})) → Entry
   outside : (r : Rec) → Entry
   made : (plan : List ℕ) (room : ℕ) (table : List ℕ) (rows : List FrameRow) → Entry
@@ -74,8 +76,15 @@ abbrev pub countsMessages : Res Plan → ℕ → Bool
 countsMessages (ok p) n = eqb (length (basic p .messages)) n
 countsMessages (refuse m q) n = false
 
+abbrev pub walksTo : Res Plan → ℕ → ℕ → Bool
+walksTo (ok p) found steps =
+    let w = walkRuns (basic p .period) (busRuns p) in
+    eqb (length (w .found)) found && eqb (w .steps) steps
+walksTo (refuse m q) found steps = false
+
 abbrev pub holds : Entry → Bool
 holds (hasMessages plan number) = countsMessages (readPlan plan) number
+holds (walks plan found steps) = walksTo (readPlan plan) found steps
 holds (reads plan says) = sameAnswer anyValue (readPlan plan) says
 holds (outside r) = not (numbersAreWithin r)
 holds (made plan room table rows) =
@@ -493,6 +502,9 @@ ownEntries =
     ∷ notMade (planAWith 5 2 20000) plenty 7 0  -- 7
     ∷ notMade (file (recordsMany 256)) plenty 9 0  -- 9
     ∷ notMade (file (recordsMany 255)) plenty 12 254  -- 256 pairs are allowed
+    ∷ walks planA 4 5  -- a step for each message
+    ∷ walks (file (recordsMany 65535)) 257 257  -- one pair too many ends it, whatever P
+    ∷ walks (file (changed (changed (changed recordsA 7 2 1) 9 2 60000) 10 2 60000 ++ (rec 7 (1 ∷ 0 ∷ []) ∷ []))) 257 514  -- two runs end at each deadline
     ∷ notMade (planAWith 0 3 3) plenty 10 0  -- 10: a message
     ∷ notMade (file (changed (recordsS 0 1 1 4) 0 3 1)) plenty 10 0  -- 10: a control payload, of two sending modules
     ∷ notMade (file (changed (recordsMany 5) 0 1 5)) plenty 11 0  -- 11

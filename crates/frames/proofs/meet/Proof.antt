@@ -3,21 +3,23 @@ use mathlib.Core.Path.{refl}
 use native.Mathlib.Nat.{le-of-dvd}
 use native.Mathlib.Omega.{arith}
 use Prim.Native.Nat.{suc, _-_, _*_}
-use Rattle.frames.specs.Walk.{codeOf}
+use Rattle.rules.specs.Direct.{placeOf}
 use Rattle.frames.proofs.Meeting.{Taking, taking-start, ending, root-rises, taking-turn, taking-end}
 use borrow.Author.Needs.{needs}
 use Rattle.frames.proofs.meet.Statement.{statement}
 use Rattle.frames.proofs.meet.Tie as tie
 
 abbrev Inv-loop : tie.InvT-loop
-Inv-loop task period worst runs size d first tree₀ last number end root₀ best₀ tree root best =
-    Taking task period worst runs size last (d .0) number tree root best
+Inv-loop task period worst runs size d first tree₀ last number end root₀ best₀ taken₀ tree root best taken =
+    Taking task period worst runs size last (d .0) number tree root best taken
 
 abbrev μ-loop : tie.MeasureT-loop
-μ-loop task period worst runs size d first tree₀ last number end root₀ best₀ tree root best = suc (codeOf (d .0) number) * 64 - root
+μ-loop task period worst runs size d first tree₀ last number end root₀ best₀ taken₀ tree root best taken = suc (placeOf (d .0) number) * 64 - root
 
 loop-holds : tie.Need-loop-holds Inv-loop μ-loop
-loop-holds c = taking-start _ _ _ _ _ _ _ _ (c .before .before .pre .0) (c .before .before .pre .1 .1 .0) (c .before .before .pre .1 .1 .1)
+loop-holds c =
+    let c1 = c .before .before in
+    taking-start _ _ _ _ _ _ _ _ (c1 .pre .0) (c1 .pre .1 .1 .0) (c1 .pre .1 .0 .2) (c1 .pre .1 .1 .1)
 
 behind-release-requires : tie.Need-behind-release-requires Inv-loop μ-loop
 behind-release-requires c κs =
@@ -51,6 +53,11 @@ raise-requires c κs =
     in
     (c1 .loop .inv .waiting .whole, (c2 .pre .0 .small, omega (arith, e .run, c2 .pre .0 .few)))
 
+add-taken : tie.Need-add-taken Inv-loop μ-loop
+add-taken c =
+    let c1 = c .before .before .before .before .before .before .before .before in
+    omega (arith, c1 .loop .inv .few, c1 .before .before .before .pre .0 .few, c1 .before .before .before .pre .0 .small)
+
 loop-less : tie.Need-loop-less Inv-loop μ-loop
 loop-less c =
     let c1 = c .before .before .before .before .before .before .before in
@@ -78,4 +85,4 @@ meet-spec =
     (tie.spec Inv-loop μ-loop (λ c. search needs) (λ c. search needs) (λ c. search needs) (λ c. search needs) (λ c. search needs)
     loop-holds (λ c. search needs) (λ c. search needs) (λ c. search needs) (λ c. search needs) (λ c. search needs)
     behind-release-requires (λ c κs. search needs) (λ c. search needs) (λ c. search needs) mul-raise-4 add-raise raise-requires
-    loop-less loop-again returns)
+    add-taken loop-less loop-again returns)

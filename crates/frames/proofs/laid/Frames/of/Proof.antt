@@ -1,8 +1,13 @@
--- The promise of `derive`, begun on zeros, is the laid frames (`laid-is`); the runs lent are those seen, but for their modes (`Modeless`).
+-- What `derive` leaves on zeros are the walk's frames, and so all frames (`frames-direct`, `laid-is`); the runs lent are those seen, but for
+-- their modes (`Modeless`).
 use mathlib.Core.Path.{_∙_, ap}
+use Rattle.rules.specs.Traffic.{messages}
+use Rattle.rules.specs.Frames.{pairsOf}
+use Rattle.rules.proofs.Direct.{frames-direct}
 use Rattle.frames.specs.Laid.{framesLaid}
+use Rattle.frames.proofs.Meeting.{fair-go}
 use Rattle.frames.proofs.Laying.{laid-is}
-use Rattle.frames.proofs.Modeless.{lent-fair, lent-pairs}
+use Rattle.frames.proofs.Modeless.{lent, lent-fair, lent-pairs}
 use Rattle.frames.proofs.laid.Frames.of.Statement.{statement}
 use Rattle.frames.proofs.laid.Frames.of.Tie as tie
 
@@ -14,7 +19,10 @@ derive-requires c κs =
 returns : tie.Need-returns
 returns c =
     let s = c .before .before .before .before .before .before .before .before in
-    laid-is (c .derive .ensures) ∙ ap framesLaid (lent-pairs (s .args .t1) (s .args .period .0))
+    let runs = lent (s .args .t1) in
+    let cycle = s .args .period .0 in
+    let goes = fair-go cycle runs (lent-fair (s .args .t1) cycle (s .pre .1 .1)) in
+    laid-is (pairsOf (messages cycle runs)) (c .derive .ensures) (frames-direct cycle runs goes) ∙ ap framesLaid (lent-pairs (s .args .t1) cycle)
 
 pub of-spec : {M : Type 1} → statement M
 of-spec = tie.close (tie.spec derive-requires returns)
