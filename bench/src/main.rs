@@ -2,8 +2,8 @@
 //! both, one after the other; a line has the medians over the rounds, the median of the rounds'
 //! ratios, and the ratios between which the middle half of the rounds lies.
 
-use olbiothar::{FRAMES, Frame, LONGEST_TABLE, Station};
-use reference::generate::{Draft, History, Rng, Tick, job_a, starting_modes};
+use olbiothar::{FRAMES, Frame, LONGEST_TABLE, Refusal, Station};
+use reference::generate::{Draft, History, Rng, Tick, job_a, quick_runs, starting_modes};
 use reference::plan::{Connection, Invocation, Mode, Task};
 use reference::{FrameRow, plan};
 use std::hint::black_box;
@@ -58,8 +58,7 @@ fn sorted(values: impl Iterator<Item = f64>) -> Vec<f64> {
 
 /// `parts` is how many of what the line speaks of are in a call.
 fn compare<P, R>(
-    name: &str,
-    frames: usize,
+    line: &str,
     parts: usize,
     mut proved: impl FnMut() -> P,
     mut rust: impl FnMut() -> R,
@@ -73,13 +72,17 @@ fn compare<P, R>(
     let rust = sorted(rounds.iter().map(|(_, rust)| rust / parts as f64));
     let ratios = sorted(rounds.iter().map(|(proved, rust)| proved / rust));
     println!(
-        "{name:<6} {frames:>6} {:>12.0} {:>10.0} {:>8.2} {:>8.2} to {:.2}",
+        "{line} {:>12.0} {:>10.0} {:>8.2} {:>8.2} to {:.2}",
         quantile(&proved, 0.5),
         quantile(&rust, 0.5),
         quantile(&ratios, 0.5),
         quantile(&ratios, 0.25),
         quantile(&ratios, 0.75),
     );
+}
+
+fn line(name: &str, frames: usize) -> String {
+    format!("{name:<6} {frames:>6}")
 }
 
 fn compare_make(frames: usize, plan: &[u8]) -> Vec<u8> {
@@ -91,8 +94,7 @@ fn compare_make(frames: usize, plan: &[u8]) -> Vec<u8> {
     assert_eq!(rows.iter().filter(|row| row.deadline > 0).count(), frames);
     let made = table[..length].to_vec();
     compare(
-        "make",
-        frames,
+        &line("make", frames),
         1,
         || olbiothar::make(black_box(plan), &mut proved_rows, &mut proved_table),
         || reference::make(black_box(plan), &mut rows, &mut table),
@@ -104,8 +106,7 @@ fn compare_check(frames: usize, plan: &[u8], table: &[u8]) {
     let (mut proved_rows, mut rows) = ([Frame::default(); FRAMES], [FrameRow::default(); FRAMES]);
     assert_eq!(olbiothar::check(plan, table, &mut proved_rows), Ok(()));
     compare(
-        "check",
-        frames,
+        &line("check", frames),
         1,
         || olbiothar::check(black_box(plan), table, &mut proved_rows),
         || reference::check(black_box(plan), table, &mut rows),
@@ -122,8 +123,7 @@ fn compare_ticks(frames: usize, plan: &[u8], table: &[u8]) {
     let begun = Station::begin(plan, table, &modes).expect("the table passes");
     let rust_begun = reference::Station::begin(plan, table, modes).expect("the table passes");
     compare(
-        "tick",
-        frames,
+        &line("tick", frames),
         TICKS,
         || {
             let mut station = begun.clone();
@@ -142,6 +142,28 @@ fn compare_ticks(frames: usize, plan: &[u8], table: &[u8]) {
     );
 }
 
+/// Runs so quick that refusal 9 is settled long before the end of the period: in short periods and in
+/// long ones. All else of these plans is the same.
+fn compare_quick(tasks: usize, ticks: u32, period: u32) {
+    let rate = u16::try_from(period / ticks).expect("a rate");
+    let plan = quick_runs(period, &vec![rate; tasks]).bytes();
+    let (mut proved_rows, mut rows) = ([Frame::default(); FRAMES], [FrameRow::default(); FRAMES]);
+    let (mut proved_table, mut table) = ([0; LONGEST_TABLE], [0; LONGEST_TABLE]);
+    assert_eq!(
+        olbiothar::make(&plan, &mut proved_rows, &mut proved_table),
+        Err(Refusal::TooManyFrames)
+    );
+    let refusal = reference::make(&plan, &mut rows, &mut table).expect_err("9");
+    assert_eq!((refusal.number, refusal.place), (9, 0));
+    let messages = tasks * usize::from(rate) + 1;
+    compare(
+        &format!("{tasks:>5} {ticks:>6} {period:>10} {messages:>10}"),
+        1,
+        || olbiothar::make(black_box(&plan), &mut proved_rows, &mut proved_table),
+        || reference::make(black_box(&plan), &mut rows, &mut table),
+    );
+}
+
 fn main() {
     println!("       frames    proved ns    Rust ns    ratio   middle half");
     for (frames, rates) in SIZES {
@@ -149,5 +171,12 @@ fn main() {
         let table = compare_make(frames, &plan);
         compare_check(frames, &plan, &table);
         compare_ticks(frames, &plan, &table);
+    }
+    println!("\nrefused 9 at 0");
+    println!("tasks  ticks          P   messages    proved ns    Rust ns    ratio   middle half");
+    for tasks in [1, 31] {
+        for (ticks, period) in [(1, 1_000), (1, 65_535), (16, 16_000), (16, 1_000_000)] {
+            compare_quick(tasks, ticks, period);
+        }
     }
 }

@@ -11,7 +11,7 @@ mod tables;
 pub use damage::{break_plan_rule, break_table_rule, damage_bytes};
 pub use draft::{Draft, TableDraft, job_a, job_j};
 pub use histories::{History, Tick, broken_starting_modes, starting_modes};
-pub use plans::{Size, near_limit_plan, valid_plan};
+pub use plans::{Size, near_limit_plan, quick_runs, valid_plan};
 pub use random::Rng;
 pub use tables::{Made, made_plan, move_rows};
 

@@ -4,6 +4,7 @@
 mod cases;
 mod jobs;
 mod plans;
+mod requests;
 mod tables;
 
 use crate::generate::{PLENTY, job_a};
@@ -41,11 +42,12 @@ fn table_of(plan: &[u8]) -> Vec<u8> {
 /// What the program `vectors` reads, a file for each sort of case in the order of its arguments, and
 /// what it must write.
 fn vectors() -> Vec<Stored> {
-    let sorts: [(&str, Vec<Case>); 4] = [
+    let sorts: [(&str, Vec<Case>); 5] = [
         ("jobs", jobs::all()),
         ("plans", plans::own()),
         ("make", plans::vectors()),
         ("check", tables::all()),
+        ("requests", requests::all()),
     ];
     let mut files = Vec::new();
     let (mut words, mut lines) = (String::new(), String::new());

@@ -5,16 +5,24 @@
 //! - `play.txt`: histories. `begin PLAN TABLE MODES -> begun`, then ticks `tick results R modes M ->
 //!   shown S`, where S lists the places that are not zero at moment (e), `node/task=value`, or says
 //!   `same`; `quiet N` is N ticks at which nothing is given and nothing shown changes.
+//! - `ask-NN.txt`: what shows request NN: all of these lines, each with `make`, `check` or `begin` in
+//!   front; `#` begins a comment, which names the case behind it.
 
 use crate::program::{Program, Shown};
 use crate::station::{Modes, Results};
 use crate::{FrameRow, MOST_MODULES, MOST_NODES, MOST_TASKS, Refusal};
 
+pub const ASK_03: &str = include_str!("../vectors/ask-03.txt");
+
+/// A file for each request that has landed.
+pub const REQUESTS: [&str; 1] = [ASK_03];
+
 const PLENTY: usize = 4_096;
 const OLD_BYTE: u8 = 0xa5;
 const OLD_ROW: FrameRow = FrameRow { task: 7, release: 77, deadline: 777, start: 7_777 };
 
-fn bytes(hex: &str) -> Vec<u8> {
+/// What a vector's hex digits stand for; `-` is none.
+pub fn bytes(hex: &str) -> Vec<u8> {
     let digits = if hex == "-" { "" } else { hex };
     digits.as_bytes().chunks(2).map(hex_byte).collect()
 }
@@ -44,52 +52,78 @@ fn rows_after(lent: usize, frames: &str, refused: Option<Refusal>) -> Vec<FrameR
     rows
 }
 
-/// Panics at the first vector that the program answers otherwise. The same holds below.
+/// Panics where the program answers otherwise than `PLAN ROWS ROOM -> ..` says. The same holds below.
+fn make(program: &mut dyn Program, text: &str) {
+    let (given, answer) = text.split_once(" -> ").unwrap();
+    let [plan, lent, room] = given.split(' ').collect::<Vec<_>>()[..] else { panic!("{text}") };
+    let lent: usize = lent.parse().unwrap();
+    let mut buffer = vec![OLD_BYTE; room.parse().unwrap_or(PLENTY)];
+    let mut rows = vec![OLD_ROW; lent];
+    let made = program.make(&bytes(plan), &mut rows, &mut buffer);
+    let refused = refusal(answer);
+    let (table, frames) = match answer.strip_prefix("table ") {
+        Some(table) => table.split_once(" rows").unwrap(),
+        None => ("-", ""),
+    };
+    let table = bytes(table);
+    assert_eq!(made, refused.map_or(Ok(table.len()), Err), "{text}");
+    assert!(buffer.starts_with(&table), "{text}");
+    assert!(buffer[table.len()..].iter().all(|&byte| byte == OLD_BYTE), "{text}");
+    assert_eq!(rows, rows_after(lent, frames, refused), "{text}");
+}
+
+fn check(program: &mut dyn Program, text: &str) {
+    let (given, answer) = text.split_once(" -> ").unwrap();
+    let [plan, table, lent] = given.split(' ').collect::<Vec<_>>()[..] else { panic!("{text}") };
+    let lent: usize = lent.parse().unwrap();
+    let mut rows = vec![OLD_ROW; lent];
+    let checked = program.check(&bytes(plan), &bytes(table), &mut rows);
+    let refused = refusal(answer);
+    assert_eq!(checked, refused.map_or(Ok(()), Err), "{text}");
+    let frames = answer.strip_prefix("passed rows").unwrap_or("");
+    assert_eq!(rows, rows_after(lent, frames, refused), "{text}");
+}
+
 pub fn make_tables(program: &mut dyn Program) {
-    for (line, text) in include_str!("../vectors/make.txt").lines().enumerate() {
-        let (given, answer) = text.split_once(" -> ").unwrap();
-        let [plan, lent, room] = given.split(' ').collect::<Vec<_>>()[..] else { panic!("{line}") };
-        let lent: usize = lent.parse().unwrap();
-        let mut buffer = vec![OLD_BYTE; room.parse().unwrap_or(PLENTY)];
-        let mut rows = vec![OLD_ROW; lent];
-        let made = program.make(&bytes(plan), &mut rows, &mut buffer);
-        let refused = refusal(answer);
-        let (table, frames) = match answer.strip_prefix("table ") {
-            Some(table) => table.split_once(" rows").unwrap(),
-            None => ("-", ""),
-        };
-        let table = bytes(table);
-        assert_eq!(made, refused.map_or(Ok(table.len()), Err), "line {line}");
-        assert!(buffer.starts_with(&table), "line {line}");
-        assert!(buffer[table.len()..].iter().all(|&byte| byte == OLD_BYTE), "line {line}");
-        assert_eq!(rows, rows_after(lent, frames, refused), "line {line}");
-    }
+    include_str!("../vectors/make.txt").lines().for_each(|text| make(program, text));
 }
 
 pub fn check_tables(program: &mut dyn Program) {
-    for (line, text) in include_str!("../vectors/check.txt").lines().enumerate() {
-        let (given, answer) = text.split_once(" -> ").unwrap();
-        let [plan, table, lent] = given.split(' ').collect::<Vec<_>>()[..] else {
-            panic!("{line}")
-        };
-        let lent: usize = lent.parse().unwrap();
-        let mut rows = vec![OLD_ROW; lent];
-        let checked = program.check(&bytes(plan), &bytes(table), &mut rows);
-        let refused = refusal(answer);
-        assert_eq!(checked, refused.map_or(Ok(()), Err), "line {line}");
-        let frames = answer.strip_prefix("passed rows").unwrap_or("");
-        assert_eq!(rows, rows_after(lent, frames, refused), "line {line}");
-    }
+    include_str!("../vectors/check.txt").lines().for_each(|text| check(program, text));
 }
 
 pub fn play_histories(program: &mut dyn Program) {
+    run_lines(program, include_str!("../vectors/play.txt"));
+}
+
+pub fn requests(program: &mut dyn Program) {
+    REQUESTS.iter().for_each(|text| run_lines(program, text));
+}
+
+/// The lines of a request's vectors: the comment in front of each, its first word, and the rest.
+pub fn named(text: &str) -> Vec<[&str; 3]> {
+    let mut comment = "";
+    let mut lines = Vec::new();
+    for line in text.lines() {
+        match line.split_once(' ').unwrap() {
+            ("#", words) => comment = words,
+            (word, rest) => lines.push([comment, word, rest]),
+        }
+    }
+    lines
+}
+
+/// Lines that say in their first word what is done.
+fn run_lines(program: &mut dyn Program, text: &str) {
     let mut player = Player { program, shown: [[0; MOST_TASKS]; MOST_NODES] };
-    for text in include_str!("../vectors/play.txt").lines() {
-        match text.split_once(' ').unwrap() {
-            ("begin", rest) => player.begin(rest),
-            ("tick", rest) => player.tick(rest),
-            ("quiet", ticks) => player.quiet(ticks),
-            _ => panic!("{text}"),
+    for [_, word, rest] in named(text) {
+        match word {
+            "make" => make(player.program, rest),
+            "check" => check(player.program, rest),
+            "begin" => player.begin(rest),
+            "tick" => player.tick(rest),
+            "quiet" => player.quiet(rest),
+            _ => panic!("{word} {rest}"),
         }
     }
 }

@@ -14,6 +14,11 @@ fn checked_tables() {
 }
 
 #[test]
+fn requests() {
+    vectors::requests(&mut Reference::default());
+}
+
+#[test]
 fn played_histories() {
     vectors::play_histories(&mut Reference::default());
 }

@@ -166,6 +166,7 @@ fn main() {
         vectors::make_tables(&mut comparison.proved);
         vectors::check_tables(&mut comparison.proved);
         vectors::play_histories(&mut comparison.proved);
+        vectors::requests(&mut comparison.proved);
     });
     run("plans made", &mut comparison, make_cases);
     run("tables checked", &mut comparison, check_cases);

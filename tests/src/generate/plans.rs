@@ -225,7 +225,7 @@ fn resolution_within(rng: &mut Rng, period: u32, time: u32) -> u32 {
 
 /// A plan at a limit or just beside it.
 pub fn near_limit_plan(rng: &mut Rng) -> Draft {
-    match rng.below(7) {
+    match rng.below(8) {
         0 => frames_near_limit(rng),
         1 => {
             let size = Size::full(rng);
@@ -235,6 +235,7 @@ pub fn near_limit_plan(rng: &mut Rng) -> Draft {
         3 => tight_window(rng),
         4 => control_near_period(rng),
         5 => long_common_multiple(rng),
+        6 => any_quick_runs(rng),
         _ => counts_near_limits(rng),
     }
 }
@@ -326,6 +327,38 @@ fn long_common_multiple(rng: &mut Rng) -> Draft {
     }
     draft.invocations = (0..8).map(|task| Invocation { mode: task, task, rate: 1 }).collect();
     draft
+}
+
+/// Two nodes; so many tasks of node 0 run so often in a period, and the first of them once in it in
+/// another mode: so P is that period, and each quick run has as many messages as its rate.
+pub fn quick_runs(period: u32, rates: &[u16]) -> Draft {
+    let mut draft = job_a();
+    draft.bits = loose_bits();
+    draft.modes = [0, 0, 1].map(|module| Mode { module, period, switch_period: period }).to_vec();
+    draft.tasks = rates.iter().map(|_| Task { module: 0, size: 1, worst_time: 1 }).collect();
+    draft.tasks.push(Task { module: 1, size: 1, worst_time: 1 });
+    let quick = (0..).zip(rates);
+    draft.invocations = quick.map(|(task, &rate)| Invocation { mode: 0, task, rate }).collect();
+    let consumer = rates.len() as u8;
+    draft.invocations.push(Invocation { mode: 1, task: 0, rate: 1 });
+    draft.invocations.push(Invocation { mode: 2, task: consumer, rate: 1 });
+    draft.connections = (0..consumer).map(|producer| Connection { producer, consumer }).collect();
+    draft
+}
+
+/// Plans of up to two million messages: one task or up to thirty-one of them, with runs from one tick
+/// in 65,535, and 16 in a million, up to the whole period; and such with few enough for a table.
+fn any_quick_runs(rng: &mut Rng) -> Draft {
+    let period = rng.pick(&[65_535, 65_535, 65_520, 720_720, LONGEST_PERIOD, LONGEST_PERIOD]);
+    let tasks = rng.pick(&[1, 1, 2, 5, MOST_TASKS - 1]);
+    let most_often = rng.pick(&[u16::MAX, u16::MAX, (MOST_FRAMES / tasks) as u16]);
+    let rates: Vec<u16> =
+        (1..=most_often).filter(|&rate| period.is_multiple_of(u32::from(rate))).collect();
+    let quickest = rates[rates.len() - 1];
+    let all_alike = rng.one_in(3);
+    let mut rate = || if all_alike { quickest } else { rng.pick(&rates) };
+    let rates: Vec<u16> = (0..tasks).map(|_| rate()).collect();
+    quick_runs(period, &rates)
 }
 
 /// A full plan with one list a thing shorter or longer.

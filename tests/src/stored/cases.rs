@@ -110,13 +110,6 @@ fn hex(bytes: &[u8]) -> String {
     bytes.iter().map(|byte| format!("{byte:02x}")).collect()
 }
 
-/// The bytes that a vector's hex digits stand for; `-` is none.
-pub fn bytes(hex: &str) -> Vec<u8> {
-    let digits = if hex == "-" { "" } else { hex };
-    let byte = |place| u8::from_str_radix(&digits[place..place + 2], 16).expect("two hex digits");
-    (0..digits.len()).step_by(2).map(byte).collect()
-}
-
 /// The three words in front of a vector's arrow, and the answer behind it.
 pub fn vector(line: &str) -> ([&str; 3], &str) {
     let (given, answer) = line.split_once(" -> ").expect("an arrow");

@@ -1,6 +1,7 @@
 //! Plans: those of the vectors, each read and its table made, and our own, read.
 
-use super::cases::{Case, bytes, room, vector};
+use super::cases::Case;
+use super::requests::made;
 
 const VECTORS: &str = include_str!("../../vectors/make.txt");
 
@@ -23,13 +24,11 @@ pub fn own() -> Vec<Case> {
 
 pub fn vectors() -> Vec<Case> {
     let mut cases: Vec<Case> = Vec::new();
-    for line in VECTORS.lines() {
-        let ([plan, rows, lent], answer) = vector(line);
-        let plan = bytes(plan);
-        if cases.last().is_none_or(|last| last.plan != plan) {
-            cases.push(Case::read(&plan));
+    for made in VECTORS.lines().map(made) {
+        if cases.last().is_none_or(|last| last.plan != made.plan) {
+            cases.push(Case::read(&made.plan));
         }
-        cases.push(Case::made(&plan, rows.parse().expect("a number of rows"), room(lent), answer));
+        cases.push(made);
     }
     cases
 }

@@ -1,8 +1,9 @@
 //! Tables that are checked: the vectors, job A's table damaged, jobs, tables as long as memory has
 //! places and longer, seeded ones.
 
-use super::cases::{Case, bytes, vector};
+use super::cases::Case;
 use super::jobs;
+use super::requests::checked;
 use crate::MOST_FRAMES;
 use crate::generate::{Draft, Made, Rng, TableDraft, check_case, job_a};
 use crate::plan::{Connection, Invocation, Task};
@@ -12,7 +13,7 @@ const SEED: u64 = 5;
 const SEEDED: usize = 60;
 
 pub fn all() -> Vec<Case> {
-    let mut cases: Vec<Case> = VECTORS.lines().map(read).collect();
+    let mut cases: Vec<Case> = VECTORS.lines().map(checked).collect();
     cases.extend(damaged());
     // A start whose sum with the sending time is 2^32 more than its stop.
     cases.push(jobs::moved(0, u32::MAX - 95, 0));
@@ -20,11 +21,6 @@ pub fn all() -> Vec<Case> {
     let mut rng = Rng::new(SEED);
     cases.extend((0..SEEDED).map(|_| seeded(&mut rng)));
     cases
-}
-
-fn read(line: &str) -> Case {
-    let ([plan, table, rows], answer) = vector(line);
-    Case::checked(&bytes(plan), &bytes(table), rows.parse().expect("a number of rows"), answer)
 }
 
 fn made(plan: &Draft) -> Made {
