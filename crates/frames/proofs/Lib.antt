@@ -4,3 +4,4 @@ pub mod Walking
 pub mod Laying
 pub mod FairRuns
 pub mod Modeless
+pub mod Unique

@@ -107,9 +107,9 @@ module _ (task period worst : List ℕ) (runs size cycle : ℕ) where
         }
 
     -- the steps are few, so their number cannot wrap
-    pub steps-few : {tasks releases deadlines tree : List ℕ} {root count steps : ℕ} → Ready task period worst runs size cycle → Walked tasks releases deadlines tree root count steps → steps ≤ 257 * 64
+    pub steps-few : {tasks releases deadlines tree : List ℕ} {root count steps : ℕ} → Walked tasks releases deadlines tree root count steps → steps ≤ suc mostFrames * runs
     unfolding walkRuns
-    steps-few r w = omega (arith, w .stepped, few-steps cycle lent (suc mostFrames) 0 31, lent-few, r .few, r .small)
+    steps-few w = omega (arith, w .stepped, few-steps cycle lent (suc mostFrames) 0 31, lent-few)
 
     -- the place of the message at the root
     pub record Place (tree : List ℕ) (root d t : ℕ) : Type 0 where

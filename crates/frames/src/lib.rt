@@ -154,7 +154,7 @@ pub struct Walked {
     pub steps: usize,
 }
 
-// The frames by number, straight from one to the next (rule 4.19). The one for which there is no place is counted and not stored.
+// The frames by number, straight from one to the next (rule 13.4). The one for which there is no place is counted and not stored.
 pub fn derive<'a>(
     task: &'a [u8; Invocation::MOST],
     period: &'a [u32; Invocation::MOST],
@@ -169,6 +169,7 @@ pub fn derive<'a>(
     requires { ⌜ cycle .0 ≤ longestTime ⌝ }
     requires { ⌜ all (isFair (cycle .0)) (runsIn (now task) (now period) (now worst) runs) ≡ true ⌝ }
     ensures { λ r. ⌜ Derived (now (tasks .entry)) (now (releases .entry)) (now (deadlines .entry)) (walkRuns (cycle .0) (runsIn (now (task .entry)) (now (period .entry)) (now (worst .entry)) runs)) (now (tasks .exit)) (now (releases .exit)) (now (deadlines .exit)) (r .count) (r .steps) ⌝ }
+    ensures { λ r. ⌜ r .steps ≤ suc mostFrames * runs ⌝ }
 {
     let limit = (cycle.0 + 1) * CELLS;
     let size = leaves(runs);

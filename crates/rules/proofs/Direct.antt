@@ -1,4 +1,4 @@
--- Direct: the walk of rules 4.16 to 4.19 finds the pairs of rule 4.7, in their order, as far as it has room; and it makes no more steps than
+-- Direct: the walk of rules 13.1 to 13.4 finds the pairs of rule 4.7, in their order, as far as it has room; and it makes no more steps than
 -- its room times the number of runs, whatever the bus period.
 use mathlib.Core.Path.{_≡_, refl, sym, ap, ap₂, _∙_}
 use mathlib.Core.Bool.{Bool, true, false, cond, _&&_}

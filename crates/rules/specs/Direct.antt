@@ -1,4 +1,4 @@
--- docs/RULES.md, rules 4.16 to 4.19: the pairs found directly. From one pair the walk goes straight to the next, which it finds from the runs'
+-- docs/RULES.md, rules 13.1 to 13.4: the pairs found directly. From one pair the walk goes straight to the next, which it finds from the runs'
 -- periods; no multiple in between is looked at, and the steps are counted. That it finds the pairs of rule 4.7: `proofs/Direct`.
 use mathlib.Core.Bool.{Bool, true, false, cond, _&&_}
 use mathlib.Core.List.{List, [], _∷_, map, foldr}
@@ -11,7 +11,7 @@ use Rattle.rules.specs.Limits.{mostFrames, mostTasks}
 use Rattle.rules.specs.Traffic.{Run}
 use Rattle.rules.specs.Frames.{Pair}
 
--- Rule 4.16: a run's first deadline behind d.
+-- Rule 13.1: a run's first deadline behind d.
 unfoldable pub deadlineAfter : ℕ → Run → ℕ
 deadlineAfter d r = d - d % r .period + r .period
 
@@ -22,7 +22,7 @@ placeOf d t = d * mostTasks + t
 abbrev pub behindAll : ℕ → ℕ
 behindAll cycle = placeOf (suc cycle) 0
 
--- Rule 4.17: behind the place of deadline d and task t a run comes next at d still, where it ends at d and its task comes behind t; else at
+-- Rule 13.2: behind the place of deadline d and task t a run comes next at d still, where it ends at d and its task comes behind t; else at
 -- its next deadline. The next place of all is the first of theirs, if it is in the cycle.
 unfoldable pub isStillAhead : ℕ → ℕ → Run → Bool
 isStillAhead d t r = divides (r .period) d && ltb t (r .task)
@@ -33,7 +33,7 @@ nextOf d t r = placeOf (cond (isStillAhead d t r) d (deadlineAfter d r)) (r .tas
 unfoldable pub nextPlace : ℕ → List Run → ℕ → ℕ → ℕ
 nextPlace cycle rs d t = foldr min (behindAll cycle) (map (nextOf d t) rs)
 
--- Rule 4.18: the runs of task t that end at d; each has a message there. Their pair is released with the last of these.
+-- Rule 13.3: the runs of task t that end at d; each has a message there. Their pair is released with the last of these.
 unfoldable pub isDue : ℕ → ℕ → Run → Bool
 isDue d t r = divides (r .period) d && eqb (r .task) t
 
@@ -57,7 +57,7 @@ nothingFound = record { found = []; steps = 0 }
 unfoldable pub foundThen : List Run → ℕ → ℕ → Walk → Walk
 foundThen rs d t rest = record { found = pairAt rs d t ∷ rest .found; steps = length (dueAt rs d t) + rest .steps }
 
--- Rule 4.19: from place to place, until the cycle ends or as many pairs are found as there is room for.
+-- Rule 13.4: from place to place, until the cycle ends or as many pairs are found as there is room for.
 unfoldable pub walkRunsFrom : ℕ → ℕ → List Run → ℕ → ℕ → Walk
 walkRunsFrom zero cycle rs d t = nothingFound
 walkRunsFrom (suc room) cycle rs d t =

@@ -48,14 +48,14 @@ add-steps c =
     let c1 = c .before .before .before .before .before in
     let c2 = c1 .before .before .before .before in
     let w = walked-turn _ _ _ _ _ _ _ _ _ (c2 .loop .inv .0) (c2 .loop .inv .1) (omega arith) refl (c1 .before .before .task-no .ensures) (c1 .meet .ensures) (c .before .put .ensures) (c2 .loop .inv .2) in
-    omega (arith, steps-few _ _ _ _ _ _ _ _ _ (c2 .loop .inv .0) w)
+    omega (arith, steps-few _ _ _ _ _ _ _ _ _ w, c2 .loop .inv .0 .few, c2 .loop .inv .0 .small)
 
 returns : tie.Need-returns Inv-loop μ-loop
 returns c =
     let c1 = c .before .before .before .before .before .before in
     let c2 = c1 .before .before .before .before in
     let w = walked-turn _ _ _ _ _ _ _ _ _ (c2 .loop .inv .0) (c2 .loop .inv .1) (omega arith) refl (c1 .before .before .task-no .ensures) (c1 .meet .ensures) (c .before .before .put .ensures) (c2 .loop .inv .2) in
-    walked-full _ _ _ _ _ _ _ _ _ w (omega arith)
+    (walked-full _ _ _ _ _ _ _ _ _ w (omega arith), steps-few _ _ _ _ _ _ _ _ _ w)
 
 loop-less : tie.Need-loop-less Inv-loop μ-loop
 loop-less c =
@@ -75,7 +75,9 @@ loop-again c =
     )
 
 returns-2 : tie.Need-returns-2 Inv-loop μ-loop
-returns-2 c = walked-all _ _ _ _ _ _ _ _ _ (c .before .loop .inv .1) (c .before .loop .inv .0) (omega arith)
+returns-2 c =
+    let w = c .before .loop .inv .1 in
+    (walked-all _ _ _ _ _ _ _ _ _ w (c .before .loop .inv .0) (omega arith), steps-few _ _ _ _ _ _ _ _ _ w)
 
 pub derive-spec : {M : Type 1} → statement M
 derive-spec =

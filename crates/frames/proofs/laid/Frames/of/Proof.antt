@@ -22,7 +22,7 @@ returns c =
     let runs = lent (s .args .t1) in
     let cycle = s .args .period .0 in
     let goes = fair-go cycle runs (lent-fair (s .args .t1) cycle (s .pre .1 .1)) in
-    laid-is (pairsOf (messages cycle runs)) (c .derive .ensures) (frames-direct cycle runs goes) ∙ ap framesLaid (lent-pairs (s .args .t1) cycle)
+    laid-is (pairsOf (messages cycle runs)) (c .derive .ensures .0) (frames-direct cycle runs goes) ∙ ap framesLaid (lent-pairs (s .args .t1) cycle)
 
 pub of-spec : {M : Type 1} → statement M
 of-spec = tie.close (tie.spec derive-requires returns)
