@@ -240,19 +240,19 @@ pub fn near_limit_plan(rng: &mut Rng) -> Draft {
     }
 }
 
-/// Two nodes; task i of node 0 has `frames[i]` frames in a period of 720,720 ticks.
-fn plan_with_frames(frames: &[u32]) -> Draft {
-    let period = 720_720;
+/// Has many divisors.
+const DIVISIBLE: u32 = 720_720;
+
+/// Two nodes; task i of node 0 runs `rates[i]` times in the period, and a task of node 1 reads all.
+fn plan_with_rates(period: u32, rates: &[u16]) -> Draft {
     let mut draft = job_a();
     draft.bits = loose_bits();
     draft.modes = [0, 1].map(|module| Mode { module, period, switch_period: period }).to_vec();
-    draft.tasks = frames.iter().map(|_| Task { module: 0, size: 1, worst_time: 1 }).collect();
+    draft.tasks = rates.iter().map(|_| Task { module: 0, size: 1, worst_time: 1 }).collect();
     draft.tasks.push(Task { module: 1, size: 1, worst_time: 1 });
-    draft.invocations = (0..)
-        .zip(frames)
-        .map(|(task, &rate)| Invocation { mode: 0, task, rate: rate as u16 })
-        .collect();
-    let consumer = frames.len() as u8;
+    let runs = (0..).zip(rates);
+    draft.invocations = runs.map(|(task, &rate)| Invocation { mode: 0, task, rate }).collect();
+    let consumer = rates.len() as u8;
     draft.connections = (0..consumer).map(|producer| Connection { producer, consumer }).collect();
     draft
 }
@@ -263,16 +263,16 @@ fn frames_near_limit(rng: &mut Rng) -> Draft {
     while left > 0 && frames.len() < MOST_TASKS - 1 {
         let most = if frames.len() + 2 == MOST_TASKS { left } else { left.min(30) };
         let some = rng.between(1, most);
-        if 720_720_u32.is_multiple_of(some) {
-            frames.push(some);
+        if DIVISIBLE.is_multiple_of(some) {
+            frames.push(some as u16);
             left -= some;
         }
     }
-    plan_with_frames(&frames)
+    plan_with_rates(DIVISIBLE, &frames)
 }
 
 fn extreme_bits(rng: &mut Rng) -> Draft {
-    let mut draft = plan_with_frames(&[1, 2, 3]);
+    let mut draft = plan_with_rates(DIVISIBLE, &[1, 2, 3]);
     let largest_payload = rng.often_extreme(1, 254);
     draft.bits = Bits {
         kbits: rng.often_extreme(1, 100_000),
@@ -313,7 +313,7 @@ fn control_near_period(rng: &mut Rng) -> Draft {
 /// Periods whose common multiple does not fit into a machine number.
 fn long_common_multiple(rng: &mut Rng) -> Draft {
     let primes = [999_983, 999_979, 999_961, 999_959, 999_953, 999_931, 65_537, 65_536];
-    let mut draft = plan_with_frames(&[1; 8]);
+    let mut draft = plan_with_rates(DIVISIBLE, &[1; 8]);
     draft.nodes = 2;
     draft.modules = (0..9).map(|module| Module { node: u8::from(module == 8) }).collect();
     draft.modes = (0..9)
@@ -329,20 +329,12 @@ fn long_common_multiple(rng: &mut Rng) -> Draft {
     draft
 }
 
-/// Two nodes; so many tasks of node 0 run so often in a period, and the first of them once in it in
-/// another mode: so P is that period, and each quick run has as many messages as its rate.
+/// In another mode the first task runs once in the period: so P is the period, and a run has as many
+/// messages as its rate.
 pub fn quick_runs(period: u32, rates: &[u16]) -> Draft {
-    let mut draft = job_a();
-    draft.bits = loose_bits();
-    draft.modes = [0, 0, 1].map(|module| Mode { module, period, switch_period: period }).to_vec();
-    draft.tasks = rates.iter().map(|_| Task { module: 0, size: 1, worst_time: 1 }).collect();
-    draft.tasks.push(Task { module: 1, size: 1, worst_time: 1 });
-    let quick = (0..).zip(rates);
-    draft.invocations = quick.map(|(task, &rate)| Invocation { mode: 0, task, rate }).collect();
-    let consumer = rates.len() as u8;
-    draft.invocations.push(Invocation { mode: 1, task: 0, rate: 1 });
-    draft.invocations.push(Invocation { mode: 2, task: consumer, rate: 1 });
-    draft.connections = (0..consumer).map(|producer| Connection { producer, consumer }).collect();
+    let mut draft = plan_with_rates(period, rates);
+    draft.modes.push(Mode { module: 0, period, switch_period: period });
+    draft.invocations.push(Invocation { mode: 2, task: 0, rate: 1 });
     draft
 }
 
