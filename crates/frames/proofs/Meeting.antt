@@ -19,8 +19,8 @@ use Rattle.laws.proofs.Orders.{le-or-lt}
 use Rattle.laws.proofs.Divisors.{divides-true, divides-is}
 use Rattle.rules.specs.Traffic.{Run}
 use Rattle.rules.specs.Direct.{placeOf, isDue, dueAt}
-use Rattle.rules.proofs.Grid.{ends, latest, next-divides}
-use Rattle.rules.proofs.Direct.{Goes}
+use Rattle.rules.proofs.Grid.{ends, latest}
+use Rattle.rules.proofs.Direct.{Goes, ends-none}
 use Rattle.tree.specs.Tree.{Grown, Raised}
 use Rattle.frames.specs.Walk.{runAt, runsIn, isFair, Ready, keyOf, limitOf, Planted, Waits, Waiting, CellMet}
 use Rattle.tree.proofs.Trees.{AtLeaf, root-under, root-leaf}
@@ -61,15 +61,6 @@ module _ (task period worst : List ℕ) where
       record { place = f .0; positive = f .1; within = f .2; slow = f .3 }
 
   -- ---- the greatest release of a place
-
-  ends-zero : (i d t : ℕ) → (divides (getD period i 0) d ≡ true → getD task i 0 ≡ t → ⊥) → ends (runAt task period worst i) d t ≡ 0
-  unfolding runAt
-  ends-zero i d t h = which (tested (divides (getD period i 0) d)) (tested (eqb (getD task i 0) t))
-    where
-      which : (divides (getD period i 0) d ≡ true) ⊎ (divides (getD period i 0) d ≡ false) → (eqb (getD task i 0) t ≡ true) ⊎ (eqb (getD task i 0) t ≡ false) → ends (runAt task period worst i) d t ≡ 0
-      which (inl a) (inl b) = absurd (h a (eqb-true (getD task i 0) t b))
-      which (inl a) (inr b) = rw (a, b)
-      which (inr a) b = rw a
 
   ends-here : (i d t : ℕ) → getD period i 0 ∣ d → getD task i 0 ≡ t → ends (runAt task period worst i) d t ≡ suc (d - getD period i 0 + getD worst i 0)
   unfolding runAt
@@ -176,28 +167,8 @@ module _ (task period worst : List ℕ) where
 
     -- a run whose message comes later has none at this place
     none-ends : {lo hi i key : ℕ} (d t : ℕ) (w : Waits task period lo hi i key) → hi ≤ placeOf d t → placeOf d t < placeOf (w .next) (getD task i 0) → ends (runAt task period worst i) d t ≡ 0
-    none-ends {lo} {hi} {i} {key} d t w h l =
-        ends-zero i d t
-        (λ a e.
-        let f : placeOf (w .next) (getD task i 0) < hi + 32 * getD period i 0 = w .first in
-        let b : divides (getD period i 0) d ≡ eqb (w .next) d = next-divides {d = d} d (record { multiple = w .multiple; reached = omega arith; first = omega arith }) (omega arith) (omega arith) in
-        let n : w .next ≡ d = eqb-true (w .next) d (sym b ∙ a) in
-        omega arith)
-
-    -- no message waits before a root, so there is nothing at the places before it
-    pub nothing-before : {lo : ℕ} {tree : List ℕ} (d t : ℕ) → Ready task period worst runs size cycle → Waiting task period runs size cycle lo lo tree → lo ≤ placeOf d t → suc (placeOf d t) * 64 ≤ getD tree 1 0
-        → latest (runsIn task period worst runs) d t ≡ 0
-    unfolding runsIn
-    nothing-before {lo} {tree} d t r w h l =
-        let z : latest (tab (runAt task period worst) 0 runs) d t ≤ 0 = latest-under d t 0 0 runs (λ i a b. none i (omega arith)) in
-        omega arith
-      where
-        none : (i : ℕ) → i < runs → ends (runAt task period worst i) d t ≤ 0
-        none i b =
-            let u : getD tree 1 0 ≤ getD tree (size + i) 0 = root-under (w .whole) i (omega (arith, r .few)) in
-            let v : getD tree (size + i) 0 ≡ keyOf (w .each i b .next) (getD task i 0) i = w .each i b .is in
-            let e : ends (runAt task period worst i) d t ≡ 0 = none-ends d t (w .each i b) h (omega (arith, u, v, r .few, r .small)) in
-            omega arith
+    unfolding runAt
+    none-ends {i = i} d t w h l = ends-none (runAt task period worst i) (w .next) d t (w .multiple) l (omega (arith, w .first))
 
     module _ (d t : ℕ) where
       -- the run's message at this place is still to be taken

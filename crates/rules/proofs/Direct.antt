@@ -116,18 +116,21 @@ next-unique {d} {t} {r} {x} {y} a b = which (le-or-lt x y) (le-or-lt y x)
     which (inl p) (inr q) = let h : r .period + x ≤ y = apart (r .period) x y (a .multiple) (b .multiple) q in absurd (omega (arith, a .behind, b .first))
     which (inr p) q = let h : r .period + y ≤ x = apart (r .period) y x (b .multiple) (a .multiple) p in absurd (omega (arith, b .behind, a .first))
 
--- between the two the run has no message
-none-between : {d t : ℕ} {r : Run} {x : ℕ} (y : ℕ) → IsNext d t r x → placeOf d t < y → y < placeOf x (r .task) → ends r (y / mostTasks) (y % mostTasks) ≡ 0
-none-between {d} {t} {r} {x} y n a b = which (tested (divides (r .period) (y / mostTasks))) (tested (eqb (r .task) (y % mostTasks)))
+-- at a place behind which a deadline of the run comes in less than a period, the run has no message
+pub ends-none : (r : Run) (x d t : ℕ) → r .period ∣ x → placeOf d t < placeOf x (r .task) → placeOf x (r .task) < placeOf d t + mostTasks * r .period → ends r d t ≡ 0
+ends-none r x d t m a b = which (tested (divides (r .period) d)) (tested (eqb (r .task) t))
   where
-    which : (divides (r .period) (y / mostTasks) ≡ true) ⊎ (divides (r .period) (y / mostTasks) ≡ false)
-        → (eqb (r .task) (y % mostTasks) ≡ true) ⊎ (eqb (r .task) (y % mostTasks) ≡ false) → ends r (y / mostTasks) (y % mostTasks) ≡ 0
+    which : (divides (r .period) d ≡ true) ⊎ (divides (r .period) d ≡ false) → (eqb (r .task) t ≡ true) ⊎ (eqb (r .task) t ≡ false) → ends r d t ≡ 0
     which (inl p) (inl q) =
-        let e : r .task ≡ y % mostTasks = eqb-true (r .task) (y % mostTasks) q in
-        let h : r .period + y / mostTasks ≤ x = apart (r .period) (y / mostTasks) x (divides-true (r .period) (y / mostTasks) p) (n .multiple) (omega arith) in
-        absurd (omega (arith, n .first))
+        let e : r .task ≡ t = eqb-true (r .task) t q in
+        let h : r .period + d ≤ x = apart (r .period) d x (divides-true (r .period) d p) m (omega arith) in
+        absurd (omega arith)
     which (inl p) (inr q) = rw (p, q)
     which (inr p) q = rw p
+
+-- so it has none between a place and its next one
+none-between : {d t : ℕ} {r : Run} {x : ℕ} (y : ℕ) → IsNext d t r x → placeOf d t < y → y < placeOf x (r .task) → ends r (y / mostTasks) (y % mostTasks) ≡ 0
+none-between {r = r} {x} y n a b = ends-none r x (y / mostTasks) (y % mostTasks) (n .multiple) (omega arith) (omega (arith, n .first))
 
 -- at it the run has one
 some-at : (r : Run) (d : ℕ) → r .period ∣ d → 0 < ends r d (r .task)
@@ -184,10 +187,6 @@ unfolding nextPlace
 next-step cycle d t r rs = refl
 
 module _ (cycle d t : ℕ) (short : t < mostTasks) where
-  next-within : (rs : List Run) → nextPlace cycle rs d t ≤ behindAll cycle
-  next-within [] = rw (next-none cycle d t) (omega arith)
-  next-within (r ∷ rs) = rw (next-step cycle d t r rs) (omega (arith, next-within rs))
-
   -- it is the least of theirs
   pub next-least : {b : ℕ} {rs : List Run} → b ≤ behindAll cycle → All (λ r. b ≤ nextOf d t r) rs → b ≤ nextPlace cycle rs d t
   next-least h empty = rw (next-none cycle d t) h

@@ -4,16 +4,15 @@ use mathlib.Core.Path.{_≡_, refl, sym, ap, ap₂, _∙_, subst}
 use mathlib.Core.Bool.{Bool, true, false, cond, _&&_}
 use mathlib.Core.List.{List, [], _∷_, _++_, append-assoc}
 use mathlib.Core.Logic.{_⊎_, inl, inr}
-use native.Mathlib.Nat.{eq-or-lt-of-le, zero-max, max-zero, suc-max-suc, suc-mul, eq-zero-or-pos, div-zero, div-mul-cancel, le-div-iff-mul-le, mul-le-mul-right, mul-pos, dvd-mul-left, ne-of-lt, eq-zero-of-zero-dvd, zero-mul, dvd-sub, le-of-dvd}
+use native.Mathlib.Nat.{eq-or-lt-of-le, zero-max, max-zero, suc-max-suc, suc-mul, eq-zero-or-pos, div-zero, div-mul-cancel, le-div-iff-mul-le, mul-le-mul-right, mul-pos, dvd-mul-left, ne-of-lt, eq-zero-of-zero-dvd, zero-mul}
 use native.Mathlib.Omega.{arith}
 use borrow.Author.Tests.{eq-eqb, ne-eqb, eqb-true, ltb-true}
 use lib.Dec.{eqb, ltb}
-use Prim.Native.Nat.{ℕ, zero, suc, _+_, _*_, _-_, _/_, _≤_, _<_, _∣_, max, compare, Ordering, Ordering·lt, Ordering·gt}
+use Prim.Native.Nat.{ℕ, zero, suc, _+_, _*_, _-_, _/_, _≤_, _<_, max, compare, Ordering, Ordering·lt, Ordering·gt}
 use Rattle.laws.specs.Lists.{all, tab}
 use Rattle.laws.specs.Numbers.{divides}
 use Rattle.laws.proofs.Lists.{tested, true-false, both-left, both-right}
 use Rattle.laws.proofs.Orders.{compare-less, compare-more, compare-same}
-use Rattle.laws.proofs.Tests.{by-same, by-divides, by-eq}
 use Rattle.laws.proofs.Divisors.{divides-true, divides-is}
 use Rattle.rules.specs.Traffic.{Run, Message, message, messagesOf, messages}
 use Rattle.rules.specs.Frames.{Pair, pairOf, thenBy, pairOrder, merged, withPair, pairsOf}
@@ -319,24 +318,3 @@ module _ (period : ℕ) where
   pairs-grid n rs h =
       pairs-best (runs-within n rs h)
       ∙ grid-same (best (messages period rs)) (latest rs) n 1 period (λ d t a b c. runs-best rs d t a (omega arith))
-
--- ---- from deadline to deadline
-
--- x is the first multiple of the period that is not before d
-pub record Next (period d x : ℕ) : Type 0 where
-  pub multiple : period ∣ x
-  pub reached : d ≤ x
-  pub first : x < d + period
-
-pub next-divides : {period d x : ℕ} (y : ℕ) → Next period d x → d ≤ y → y ≤ x → divides period y ≡ eqb x y
-next-divides {period} {d} {x} y f h w = by-same (by-divides period y) (by-eq x y) to (λ e. rw (← e) (f .multiple))
-  where
-    to : period ∣ y → x ≡ y
-    to g = which (eq-zero-or-pos (x - y))
-      where
-        which : (x - y ≡ 0) ⊎ (0 < x - y) → x ≡ y
-        which (inl z) = omega arith
-        which (inr p) =
-            let l : period ≤ x - y = le-of-dvd p (dvd-sub period (f .multiple) g) in
-            let k : x < d + period = f .first in
-            absurd (omega arith)

@@ -503,6 +503,7 @@ ownEntries =
     ∷ notMade (file (recordsMany 256)) plenty 9 0  -- 9
     ∷ notMade (file (recordsMany 255)) plenty 12 254  -- 256 pairs are allowed
     ∷ walks planA 4 5  -- a step for each message
+    ∷ walks (file recordsJ) 4 4  -- three tasks at one deadline
     ∷ walks (file (recordsMany 65535)) 257 257  -- one pair too many ends it, whatever P
     ∷ walks (file (changed (changed (changed recordsA 7 2 1) 9 2 60000) 10 2 60000 ++ (rec 7 (1 ∷ 0 ∷ []) ∷ []))) 257 514  -- two runs end at each deadline
     ∷ notMade (planAWith 0 3 3) plenty 10 0  -- 10: a message
