@@ -69,7 +69,7 @@ module _ (task period worst : List ℕ) (runs size cycle : ℕ) where
   -- ---- the walk
 
   module _ (tasks₀ releases₀ deadlines₀ : List ℕ) where
-    -- The pairs of the places up to that of `deadline` and `task`, the last one taken, are stored; what the rules' walk finds from there on,
+    -- The pairs of the places up to that of `deadline` and the task `number`, the last one taken, are stored; what the rules' walk finds from there on,
     -- with the places that are left, is the rest of what it finds, and its steps are the rest of all steps.
     pub record Walked (tasks releases deadlines tree : List ℕ) (root count steps : ℕ) : Type 0 where
       pub deadline : ℕ
