@@ -185,7 +185,6 @@ module _ (task period worst : List ℕ) where
         pub counted : (i : ℕ) → i < runs → suc (placeOf d t) * 64 ≤ getD tree (size + i) 0 → ends (runAt task period worst i) d t ≤ best
         pub under : best ≤ latest (runsIn task period worst runs) d t
         pub so-far : taken + ahead tree ≡ length (dueAt (runsIn task period worst runs) d t)
-        pub few : taken ≤ runs
 
       -- a run has a message at this place exactly where it waits with it
       due-ahead : {tree : List ℕ} → Ready task period worst runs size cycle → Waiting task period runs size cycle (placeOf d t) (placeOf d t) tree → t < 32 → (i : ℕ) → i < runs
@@ -223,7 +222,6 @@ module _ (task period worst : List ℕ) where
             counted = counted;
             under = omega arith;
             so-far = sym (as-many (runAt task period worst) (λ k. k) (isDue d t) (isAhead tree) 0 runs (λ k a b. due-ahead r w short k (omega arith)) ∙ sym (zero-add (ahead tree)));
-            few = omega arith;
           }
         where
           later : {i key : ℕ} → Waits task period (placeOf d t) (placeOf d t) i key → Waits task period (placeOf d t) (suc (placeOf d t)) i key
@@ -235,9 +233,10 @@ module _ (task period worst : List ℕ) where
               let z : ends (runAt task period worst i) d t ≡ 0 = none-ends d t (w .each i h) (omega arith) (omega (arith, v, r .few, r .small)) in
               omega arith
 
-      due-few : length (dueAt (runsIn task period worst runs) d t) ≤ runs
+      -- no more are taken than there are runs
+      pub taken-few : {tree : List ℕ} {root best taken : ℕ} → Taking tree root best taken → taken ≤ runs
       unfolding runsIn dueAt
-      due-few = omega (arith, length-keep (isDue d t) (tab (runAt task period worst) 0 runs), length-tab (runAt task period worst) 0 runs)
+      taken-few g = omega (arith, g .so-far, length-keep (isDue d t) (tab (runAt task period worst) 0 runs), length-tab (runAt task period worst) 0 runs)
 
       -- the run at the root ends at this place
       pub record Ending (root i : ℕ) : Type 0 where
@@ -337,7 +336,6 @@ module _ (task period worst : List ℕ) where
                 counted = λ k h a. counted k h a (le-or-lt k i) (le-or-lt i k);
                 under = omega (arith, g .under, top, eb, em, is-end);
                 so-far = omega (arith, g .so-far, one-taken);
-                few = omega (arith, g .so-far, one-taken, due-few);
               }
             where
               is-end : ends (runAt task period worst i) d t ≡ suc (d - getD period i 0 + getD worst i 0)

@@ -14,8 +14,9 @@ use Rattle.rules.specs.Direct.{walkRuns}
 use Rattle.rules.specs.Table.{recordBytes, FrameRow, zeroRow, Made, make}
 use Rattle.rules.specs.Checker.{Checked, check}
 
--- An entry: how many messages a plan has; how many pairs the walk over its runs finds, and in how many steps; what 1 to 5 say of a plan; a record that 4 refuses; what is made of a plan in a room, the table and the frame rows, or
--- the refusal; a table that passes, with the frame rows, or the refusal; how many rows are lent, the refusal, and the rows left.
+-- An entry: how many messages a plan has; how many pairs the walk over its runs finds, and in how many steps; what 1 to 5 say of a plan; a
+-- record that 4 refuses; what is made of a plan in a room, the table and the frame rows, or the refusal; a table that passes, with the frame
+-- rows, or the refusal; how many rows are lent, the refusal, and the rows left.
 pub data Entry : Type 0 where
   hasMessages : (plan : List ℕ) (number : ℕ) → Entry
   walks : (plan : List ℕ) (found steps : ℕ) → Entry

@@ -329,8 +329,8 @@ fn long_common_multiple(rng: &mut Rng) -> Draft {
     draft
 }
 
-/// In another mode the first task runs once in the period: so P is the period, and a run has as many
-/// messages as its rate.
+/// A plan with these rates whose first task also runs once in the period, in another mode: so P is the
+/// period, and a run has as many messages as its rate.
 pub fn quick_runs(period: u32, rates: &[u16]) -> Draft {
     let mut draft = plan_with_rates(period, rates);
     draft.modes.push(Mode { module: 0, period, switch_period: period });

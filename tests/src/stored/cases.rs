@@ -2,6 +2,7 @@
 
 use crate::generate::PLENTY;
 use crate::plan;
+use crate::vectors::bytes;
 use crate::{FrameRow, MOST_FRAMES, Refusal, check, make};
 
 /// What stands in a lent buffer.
@@ -111,13 +112,21 @@ fn hex(bytes: &[u8]) -> String {
 }
 
 /// The three words in front of a vector's arrow, and the answer behind it.
-pub fn vector(line: &str) -> ([&str; 3], &str) {
+fn vector(line: &str) -> ([&str; 3], &str) {
     let (given, answer) = line.split_once(" -> ").expect("an arrow");
     let words: Vec<&str> = given.split(' ').collect();
     (words.try_into().expect("three words"), answer)
 }
 
-/// A number of bytes lent, plenty where the vector leaves it open.
-pub fn room(word: &str) -> usize {
-    word.parse().unwrap_or(PLENTY)
+/// A vector `PLAN ROWS ROOM -> ..`; plenty of room where it is left open.
+pub fn made(line: &str) -> Case {
+    let ([plan, rows, room], answer) = vector(line);
+    let room = room.parse().unwrap_or(PLENTY);
+    Case::made(&bytes(plan), rows.parse().expect("a number of rows"), room, answer)
+}
+
+/// A vector `PLAN TABLE ROWS -> ..`.
+pub fn checked(line: &str) -> Case {
+    let ([plan, table, rows], answer) = vector(line);
+    Case::checked(&bytes(plan), &bytes(table), rows.parse().expect("a number of rows"), answer)
 }

@@ -1,7 +1,6 @@
 //! Plans: those of the vectors, each read and its table made, and our own, read.
 
-use super::cases::Case;
-use super::requests::made;
+use super::cases::{Case, made};
 
 const VECTORS: &str = include_str!("../../vectors/make.txt");
 

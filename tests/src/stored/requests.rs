@@ -1,7 +1,7 @@
 //! The vectors of the requests: plans whose tables are made, and tables that are checked.
 
-use super::cases::{Case, room, vector};
-use crate::vectors::{REQUESTS, bytes, named};
+use super::cases::{Case, checked, made};
+use crate::vectors::{REQUESTS, named};
 
 pub fn all() -> Vec<Case> {
     REQUESTS.iter().flat_map(|text| named(text)).filter_map(case).collect()
@@ -14,14 +14,4 @@ fn case([comment, word, given]: [&str; 3]) -> Option<Case> {
         "check" => Some(checked(given).called(comment)),
         _ => None,
     }
-}
-
-pub fn made(line: &str) -> Case {
-    let ([plan, rows, lent], answer) = vector(line);
-    Case::made(&bytes(plan), rows.parse().expect("a number of rows"), room(lent), answer)
-}
-
-pub fn checked(line: &str) -> Case {
-    let ([plan, table, rows], answer) = vector(line);
-    Case::checked(&bytes(plan), &bytes(table), rows.parse().expect("a number of rows"), answer)
 }

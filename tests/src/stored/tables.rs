@@ -1,9 +1,8 @@
 //! Tables that are checked: the vectors, job A's table damaged, jobs, tables as long as memory has
 //! places and longer, seeded ones.
 
-use super::cases::Case;
+use super::cases::{Case, checked};
 use super::jobs;
-use super::requests::checked;
 use crate::MOST_FRAMES;
 use crate::generate::{Draft, Made, Rng, TableDraft, check_case, job_a};
 use crate::plan::{Connection, Invocation, Task};

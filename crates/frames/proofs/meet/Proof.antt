@@ -4,7 +4,7 @@ use native.Mathlib.Nat.{le-of-dvd}
 use native.Mathlib.Omega.{arith}
 use Prim.Native.Nat.{suc, _-_, _*_}
 use Rattle.rules.specs.Direct.{placeOf}
-use Rattle.frames.proofs.Meeting.{Taking, taking-start, ending, root-rises, taking-turn, taking-end}
+use Rattle.frames.proofs.Meeting.{Taking, taking-start, taken-few, ending, root-rises, taking-turn, taking-end}
 use borrow.Author.Needs.{needs}
 use Rattle.frames.proofs.meet.Statement.{statement}
 use Rattle.frames.proofs.meet.Tie as tie
@@ -56,7 +56,7 @@ raise-requires c κs =
 add-taken : tie.Need-add-taken Inv-loop μ-loop
 add-taken c =
     let c1 = c .before .before .before .before .before .before .before .before in
-    omega (arith, c1 .loop .inv .few, c1 .before .before .before .pre .0 .few, c1 .before .before .before .pre .0 .small)
+    omega (arith, taken-few _ _ _ _ _ _ _ _ (c1 .loop .inv), c1 .before .before .before .pre .0 .few, c1 .before .before .before .pre .0 .small)
 
 loop-less : tie.Need-loop-less Inv-loop μ-loop
 loop-less c =
