@@ -52,6 +52,7 @@ enum {
     OLBIOTHAR_BEFORE_RELEASE = 25,      /* record of the table */
     OLBIOTHAR_AFTER_DEADLINE = 26,      /* record of the table */
     OLBIOTHAR_GAP_BROKEN = 27,          /* record of the table */
+    OLBIOTHAR_NO_GAP_AT_END = 28,       /* record of the table: its last row */
     OLBIOTHAR_NOT_BEGUN = 40,           /* module; 0 at a tick */
     OLBIOTHAR_NOT_AWAITED = 41,         /* task */
     OLBIOTHAR_RESULT_TOO_LARGE = 42,    /* task */
@@ -92,7 +93,7 @@ olbiothar_answer olbiothar_make(const uint8_t *plan, size_t plan_length, olbioth
  * one board and there were no bus. Of other nodes nothing is said here.
  *
  * number 0: it passes (`place` is 0). The rows are the frames by number, with their starts in this table, then zero rows to the end.
- * number 1 to 11 (the plan's) and 20 to 27 (the table's): every row is zero.
+ * number 1 to 11 (the plan's) and 20 to 28 (the table's): every row is zero.
  * number 19: the rows are as they were.
  */
 olbiothar_answer olbiothar_check(const uint8_t *plan, size_t plan_length, const uint8_t *table, size_t table_length,
@@ -172,7 +173,7 @@ typedef struct olbiothar_starting {
 /* Begins a station with a plan, a table and a mode for each module.
  *
  * number 0: `station` has begun; its next tick is time 0.
- * number 1 to 11 and 20 to 27: what olbiothar_check gives for plan and table. number 40: of the 16 places, the lowest whose module
+ * number 1 to 11 and 20 to 28: what olbiothar_check gives for plan and table. number 40: of the 16 places, the lowest whose module
  *   is given no mode of its own, or that is given one behind the plan's modules. `station` is then a station not begun, all zero.
  */
 olbiothar_begun olbiothar_begin(const uint8_t *plan, size_t plan_length, const uint8_t *table, size_t table_length,

@@ -50,6 +50,8 @@ pub enum Refusal {
     AfterDeadline { record: u64 },
     /// 27: a data row starts too soon behind the row before it.
     GapBroken { record: u64 },
+    /// 28: the last data row stops too late for the gap before the next cycle.
+    NoGapAtEnd { record: u64 },
     /// 40: a starting mode is not one of its module's; or, at a tick, the station has not begun.
     NotBegun { module: u64 },
     /// 41: a result where none is awaited.
@@ -90,6 +92,7 @@ impl Refusal {
             25 => Refusal::BeforeRelease { record: place },
             26 => Refusal::AfterDeadline { record: place },
             27 => Refusal::GapBroken { record: place },
+            28 => Refusal::NoGapAtEnd { record: place },
             40 => Refusal::NotBegun { module: place },
             41 => Refusal::NotAwaited { task: place },
             42 => Refusal::ResultTooLarge { task: place },
@@ -124,6 +127,7 @@ impl Refusal {
             Refusal::BeforeRelease { .. } => 25,
             Refusal::AfterDeadline { .. } => 26,
             Refusal::GapBroken { .. } => 27,
+            Refusal::NoGapAtEnd { .. } => 28,
             Refusal::NotBegun { .. } => 40,
             Refusal::NotAwaited { .. } => 41,
             Refusal::ResultTooLarge { .. } => 42,
@@ -145,7 +149,8 @@ impl Refusal {
             | Refusal::WrongTime { record }
             | Refusal::BeforeRelease { record }
             | Refusal::AfterDeadline { record }
-            | Refusal::GapBroken { record } => record,
+            | Refusal::GapBroken { record }
+            | Refusal::NoGapAtEnd { record } => record,
             Refusal::NoBusTask
             | Refusal::PeriodDoesNotDivide
             | Refusal::PeriodOffResolution

@@ -68,8 +68,9 @@ static olbiothar_station begun_by_hand(void) {
     /* Mode 1 has the messages at 20000, 40000 and 60000, mode 0 those at 30000 and 60000. */
     const uint32_t deadlines[] = {20000, 30000, 40000, 60000}, modes[] = {2, 1, 2, 3};
     for (size_t pair = 0; pair < 4; pair++) {
-        s.pair_deadlines[pair] = s.pair_stops[pair] = deadlines[pair];
-        s.pair_starts[pair] = deadlines[pair] - 96;
+        s.pair_deadlines[pair] = deadlines[pair];
+        s.pair_stops[pair] = pair < 3 ? deadlines[pair] : 59990;
+        s.pair_starts[pair] = s.pair_stops[pair] - 96;
         s.pair_modes[pair] = modes[pair];
     }
     s.play.running[0] = MODE, s.play.running[1] = 2;

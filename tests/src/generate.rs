@@ -109,7 +109,7 @@ fn any_table(rng: &mut Rng, made: &mut Made) -> Vec<u8> {
         return made.table.bytes();
     }
     for _ in 0..rng.pick(&[1, 1, 1, 2]) {
-        let rule = rng.between(21, 27);
+        let rule = rng.between(21, 28);
         break_table_rule(rng, made, rule);
     }
     let mut bytes = made.table.bytes();

@@ -31,7 +31,8 @@ fn place_frames(bus: &Bus, frames: &mut [FrameRow]) -> Result<[u16; MOST_FRAMES]
     let mut order = [0; MOST_FRAMES];
     let mut candidates = BinaryHeap::with_capacity(frames.len());
     let mut not_yet = frames.len();
-    let mut end = bus.period;
+    // The next cycle's first frame starts at the bus period; C is at least a gap and at most the period.
+    let mut end = bus.period - bus.gap;
     for place in order[..frames.len()].iter_mut().rev() {
         // A candidate's deadline is not before the end, so only without one the end can fall.
         if candidates.is_empty() {

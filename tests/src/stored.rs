@@ -23,11 +23,16 @@ fn stored(path: &str, bytes: Vec<u8>) -> Stored {
 
 pub fn all() -> Vec<Stored> {
     let plan = job_a().bytes();
+    let table = table_of(&plan);
     let mut files = vec![
         stored("docs/examples/job-a.plan", plan.clone()),
         stored("crates/bustable/stdin", plan.clone()),
-        stored("crates/bustable/stdout", table_of(&plan)),
+        stored("crates/bustable/stdout", table.clone()),
     ];
+    for program in ["checktable", "playstation"] {
+        files.push(stored(&format!("crates/{program}/data/plan"), plan.clone()));
+        files.push(stored(&format!("crates/{program}/data/table"), table.clone()));
+    }
     files.extend(vectors());
     files
 }

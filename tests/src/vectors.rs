@@ -12,10 +12,11 @@ use crate::program::{Program, Shown};
 use crate::station::{Modes, Results};
 use crate::{FrameRow, MOST_MODULES, MOST_NODES, MOST_TASKS, Refusal};
 
+pub const ASK_02: &str = include_str!("../vectors/ask-02.txt");
 pub const ASK_03: &str = include_str!("../vectors/ask-03.txt");
 
-/// A file for each request that has landed.
-pub const REQUESTS: [&str; 1] = [ASK_03];
+/// A file for each request that has landed, in the order of landing.
+pub const REQUESTS: [&str; 2] = [ASK_03, ASK_02];
 
 const PLENTY: usize = 4_096;
 const OLD_BYTE: u8 = 0xa5;

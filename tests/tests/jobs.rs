@@ -9,7 +9,7 @@ const TABLE_A: [&[u8]; 7] = [
     &[0x12, 0, 0x20, 0x4e, 0, 0, 0xc0, 0x4d, 0, 0, 0x20, 0x4e, 0, 0],
     &[0x12, 0, 0x30, 0x75, 0, 0, 0xd0, 0x74, 0, 0, 0x30, 0x75, 0, 0],
     &[0x12, 0, 0x40, 0x9c, 0, 0, 0xe0, 0x9b, 0, 0, 0x40, 0x9c, 0, 0],
-    &[0x12, 0, 0x60, 0xea, 0, 0, 0, 0xea, 0, 0, 0x60, 0xea, 0, 0],
+    &[0x12, 0, 0x60, 0xea, 0, 0, 0xf6, 0xe9, 0, 0, 0x56, 0xea, 0, 0],
     &[0],
 ];
 
@@ -55,9 +55,9 @@ fn a_the_whole_table() {
 #[test]
 fn b_worst_time() {
     let mut plan = job_a();
-    plan.tasks[0].worst_time = 19_904;
+    plan.tasks[0].worst_time = 19_894;
     assert!(made(&plan).is_ok());
-    plan.tasks[0].worst_time = 19_905;
+    plan.tasks[0].worst_time = 19_895;
     assert_eq!(made(&plan), refused(12, 3));
 }
 
@@ -94,6 +94,14 @@ fn h_gap() {
 #[test]
 fn i_deadline() {
     assert_eq!(checked(&job_a(), &moved(2, 39_905, 40_001)), refused(26, 4));
+}
+
+#[test]
+fn gap_at_the_end() {
+    assert_eq!(checked(&job_a(), &moved(3, 59_894, 59_990)), Ok(()));
+    assert_eq!(checked(&job_a(), &moved(3, 59_895, 59_991)), refused(28, 5));
+    assert_eq!(checked(&job_a(), &moved(3, 59_904, 60_000)), refused(28, 5));
+    assert_eq!(checked(&job_a(), &moved(3, 59_905, 60_001)), refused(26, 5));
 }
 
 #[test]

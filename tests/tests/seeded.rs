@@ -4,8 +4,8 @@
 use reference::bus::{Bus, derive};
 use reference::checker::DataRow;
 use reference::generate::{
-    self, CheckCase, History, MakeCase, PLENTY, PlayCase, Rng, Size, break_table_rule, made_plan,
-    move_rows, starting_modes,
+    self, CheckCase, History, Made, MakeCase, PLENTY, PlayCase, Rng, Size, break_table_rule,
+    made_plan, move_rows, starting_modes,
 };
 use reference::plan::{self, Plan};
 use reference::{FrameRow, Refusal, Row, Station, check, make};
@@ -81,7 +81,7 @@ fn check_cases() {
             assert_rows_refused(&rows, refusal);
         }
     }
-    assert_reached(&counts, (0..=11).chain([19]).chain(20..=27));
+    assert_reached(&counts, (0..=11).chain([19]).chain(20..=28));
 }
 
 /// Rows moved within their windows pass; a table with any fault does not.
@@ -94,14 +94,30 @@ fn moved_tables() {
         let mut made = made_plan(rng, &size);
         move_rows(rng, &mut made);
         assert_eq!(checked(&made.plan, &made.table.bytes()), Ok(()), "seed {seed}");
+        assert_apart(&made);
         let good = made.table.clone();
-        let rule = rng.between(21, 27);
+        let rule = rng.between(21, 28);
         break_table_rule(rng, &mut made, rule);
         let answer = checked(&made.plan, &made.table.bytes());
         count(&mut counts, &answer);
         assert_eq!(answer.is_ok(), made.table == good, "seed {seed}, rule {rule}");
     }
-    assert_reached(&counts, 21..=27);
+    assert_reached(&counts, 21..=28);
+}
+
+/// No two frames of two cycles are closer than the gap.
+fn assert_apart(made: &Made) {
+    let control = made.table.control.iter().map(|row| (row.start, row.stop));
+    let data = made.table.data.iter().map(|row| (row.start, row.stop));
+    let cycle: Vec<(u32, u32)> = control.chain(data).collect();
+    let next = cycle.iter().map(|(start, stop)| (start + made.bus.period, stop + made.bus.period));
+    let frames: Vec<(u32, u32)> = cycle.iter().copied().chain(next).collect();
+    for (index, one) in frames.iter().enumerate() {
+        for other in &frames[..index] {
+            let (first, second) = (one.min(other), one.max(other));
+            assert!(first.1 + made.bus.gap <= second.0, "{one:?} and {other:?}");
+        }
+    }
 }
 
 #[test]
@@ -148,7 +164,7 @@ fn frames_word_by_word(plan: &Plan, bus: &Bus) -> Vec<FrameRow> {
 fn starts_word_by_word(bus: &Bus, frames: &[FrameRow]) -> Result<Vec<FrameRow>, usize> {
     let mut placed = frames.to_vec();
     let mut left: Vec<usize> = (0..frames.len()).collect();
-    let mut end = i64::from(bus.period);
+    let mut end = i64::from(bus.period) - i64::from(bus.gap);
     while let Some(greatest) = left.iter().map(|&number| frames[number].deadline).max() {
         end = end.min(i64::from(greatest));
         let candidates =
@@ -188,7 +204,7 @@ fn play_cases() {
             }
         }
     }
-    assert_reached(&counts, (20..=27).chain([0, 40]));
+    assert_reached(&counts, (20..=28).chain([0, 40]));
     assert_reached(&ticks, [0, 41, 42, 43, 44]);
 }
 

@@ -28,6 +28,7 @@ use Rattle.answers.specs.declared.Refusal.the-variants.{
   BeforeRelease,
   AfterDeadline,
   GapBroken,
+  NoGapAtEnd,
   NotBegun,
   NotAwaited,
   ResultTooLarge,
@@ -61,6 +62,7 @@ cases =
     ∷ (λ p. BeforeRelease (record { 0 = p }))
     ∷ (λ p. AfterDeadline (record { 0 = p }))
     ∷ (λ p. GapBroken (record { 0 = p }))
+    ∷ (λ p. NoGapAtEnd (record { 0 = p }))
     ∷ (λ p. NotBegun (record { 0 = p }))
     ∷ (λ p. NotAwaited (record { 0 = p }))
     ∷ (λ p. ResultTooLarge (record { 0 = p }))
@@ -97,6 +99,7 @@ found (WrongTime _) = refl
 found (BeforeRelease _) = refl
 found (AfterDeadline _) = refl
 found (GapBroken _) = refl
+found (NoGapAtEnd _) = refl
 found (NotBegun _) = refl
 found (NotAwaited _) = refl
 found (ResultTooLarge _) = refl

@@ -28,6 +28,7 @@ use Rattle.answers.specs.declared.Refusal.the-variants.{
   BeforeRelease,
   AfterDeadline,
   GapBroken,
+  NoGapAtEnd,
   NotBegun,
   NotAwaited,
   ResultTooLarge,
@@ -59,6 +60,7 @@ numberOf (WrongTime _) = 24  -- stop is not start plus sending time, or start is
 numberOf (BeforeRelease _) = 25  -- start before release
 numberOf (AfterDeadline _) = 26  -- stop after deadline
 numberOf (GapBroken _) = 27  -- start before the stop plus gap of the row before
+numberOf (NoGapAtEnd _) = 28  -- the last stop plus gap above P
 numberOf (NotBegun _) = 40  -- starting modes that do not fit, or a station not begun
 numberOf (NotAwaited _) = 41  -- a result where none is awaited
 numberOf (ResultTooLarge _) = 42  -- a result that needs more bytes than the message has
@@ -89,6 +91,7 @@ placeOf (WrongTime k) = k .0
 placeOf (BeforeRelease k) = k .0
 placeOf (AfterDeadline k) = k .0
 placeOf (GapBroken k) = k .0
+placeOf (NoGapAtEnd k) = k .0
 placeOf (NotBegun home) = home .0
 placeOf (NotAwaited task) = task .0
 placeOf (ResultTooLarge task) = task .0

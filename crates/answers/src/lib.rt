@@ -28,7 +28,7 @@ pub enum Refusal {
     NoRoom(FrameNo),
     BufferTooShort(ByteCount),
     TooFewRows,
-    // 20 to 27: the checker.
+    // 20 to 28: the checker.
     BadTableRecords(Offset),
     WrongHeader,
     WrongControlRow(RecordNo),
@@ -37,6 +37,7 @@ pub enum Refusal {
     BeforeRelease(RecordNo),
     AfterDeadline(RecordNo),
     GapBroken(RecordNo),
+    NoGapAtEnd(RecordNo),
     // 40 to 44: the played station.
     NotBegun(ModuleNo),
     NotAwaited(TaskNo),
@@ -78,6 +79,7 @@ impl Refusal {
             Refusal::BeforeRelease(_) => 25,
             Refusal::AfterDeadline(_) => 26,
             Refusal::GapBroken(_) => 27,
+            Refusal::NoGapAtEnd(_) => 28,
             Refusal::NotBegun(_) => 40,
             Refusal::NotAwaited(_) => 41,
             Refusal::ResultTooLarge(_) => 42,
@@ -112,6 +114,7 @@ impl Refusal {
             Refusal::BeforeRelease(record) => record.0,
             Refusal::AfterDeadline(record) => record.0,
             Refusal::GapBroken(record) => record.0,
+            Refusal::NoGapAtEnd(record) => record.0,
             Refusal::NotBegun(home) => home.place(),
             Refusal::NotAwaited(task) => task.place(),
             Refusal::ResultTooLarge(task) => task.place(),

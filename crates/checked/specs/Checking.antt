@@ -48,10 +48,10 @@ unfoldable pub PassesExactly : Verdict → List ℕ → List ℕ → ℕ → Typ
 PassesExactly a plan table lent = (a ≡ Fine) ↔ ((mostFrames ≤ lent) × MayPass plan table)
 
 -- The answer refuses exactly by the first fault: 19 where too few rows are lent, else the plan's or the table's first; 20 exactly
--- where the table first breaks the record rules; 21 to 27 exactly where that rule is the first that is broken, at its lowest record.
+-- where the table first breaks the record rules; 21 to 28 exactly where that rule is the first that is broken, at its lowest record.
 pub record RefusesExactly (a : Verdict) (plan table : List ℕ) (lent : ℕ) : Type 0 where
   pub first :
       (n p : ℕ) →
       (heard a ≡ refuse n p) ↔ (((lent < mostFrames) × (n ≡ 19) × (p ≡ mostFrames)) ⊎ ((mostFrames ≤ lent) × CheckFault plan table n p))
   pub unread : (p : ℕ) → (heard a ≡ refuse 20 p) ↔ ((mostFrames ≤ lent) × UnreadAt plan table p)
-  pub rule : (i p : ℕ) → i < 7 → (heard a ≡ refuse (21 + i) p) ↔ ((mostFrames ≤ lent) × BrokenAt plan table i p)
+  pub rule : (i p : ℕ) → i < 8 → (heard a ≡ refuse (21 + i) p) ↔ ((mostFrames ≤ lent) × BrokenAt plan table i p)

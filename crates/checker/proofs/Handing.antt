@@ -63,7 +63,7 @@ module _ (p : Plan) (line : Line) (ready : (p ≡ layOut (seen p)) × (line ≡ 
 
     module _ (whole : reading .outcome ≡ Whole) (j : Judgement)
         (right : Right true (line .releases) (line .frames) (lineJudged line (tables.seen (reading .table))) (framesOn line) (tables.seen (reading .table)) j) where
-      -- 21 to 27
+      -- 21 to 28
       pub on-refused : (why : Refusal) → j .verdict ≡ Refused why → r ≡ noPassing why → Passes r (tablePassed (seen p) table)
       unfolding tablePassed
       on-refused why q e =

@@ -211,7 +211,7 @@ module _ (plan table : List ℕ) (lent : ℕ) (early : Bool) (r : Checked) where
           judged-refused early lent (BadTableRecords at) r (lentPassed plan table lent) e
           (enough-is plan table lent enough ∙ broken-refused p laid (b .0) (at .0) (b .1))
 
-      -- 21 to 27
+      -- 21 to 28
       judged-is : (p : Plan) (rs : List Rec) → fileLaid plan ≡ ok p → records tableFollows 20 table ≡ ok rs
           → lentPassed plan table lent ≡ _>>_ (judged (layoutOf p) (tableOf rs)) (ok (passedOf p (tableOf rs)))
       unfolding checkFiles

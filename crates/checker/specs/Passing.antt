@@ -48,7 +48,7 @@ pub record Passes (r : Passing) (rule : Res Passed) : Type 0 where
   pub line : r .line ≡ lineFor rule
   pub starts : r .starts ≡ startsFor rule
 
--- refusals 20 to 27 of a table file by a plan that is laid out
+-- refusals 20 to 28 of a table file by a plan that is laid out
 unfoldable pub tablePassed : rules.Plan → List ℕ → Res Passed
 tablePassed p table = do
   rs ← records tableFollows 20 table

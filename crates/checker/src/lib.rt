@@ -22,7 +22,7 @@ use table::read::Outcome;
 use table::read::read_table;
 use units::Frame;
 
-// A table file by a plan file, where `lent` frame rows are lent: 19 before all, 1 to 11 of the plan, 20 to 27 of the table; of these 25 only
+// A table file by a plan file, where `lent` frame rows are lent: 19 before all, 1 to 11 of the plan, 20 to 28 of the table; of these 25 only
 // where `early_too`. The frame rows have the table's starts also where a rule behind 23 refuses it.
 pub fn judged(plan: &[u8], table: &[u8], lent: usize, early_too: bool) -> Checked
     ensures { λ r. ⌜ Judged «early_too» lent r (lentPassed (now (plan .entry)) (now (table .entry)) lent) ⌝ }
@@ -113,7 +113,7 @@ fn unpassed(why: Refusal) -> Passing
     }
 }
 
-// A table file by a plan with its line: 20 to 27.
+// A table file by a plan with its line: 20 to 28.
 fn passed_on(p: Plan, line: Line, table: &[u8]) -> Passing
     requires { ⌜ (p ≡ layOut (seen p)) × (line ≡ lineOf (seen p)) × Drawn (seen p) ⌝ }
     ensures { λ r. ⌜ Passes r (tablePassed (seen p) (now (table .entry))) ⌝ }

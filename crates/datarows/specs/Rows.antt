@@ -1,4 +1,4 @@
--- Rules 7.24 to 7.27 on the data row at a place, of arrays: that the row does not break the rule.
+-- Rules 7.24 to 7.27 on the data row at a place, of arrays, and 7.28 on all of them: that the row does not break the rule.
 use mathlib.Core.Bool.{Bool, _&&_}
 use mathlib.Core.List.{List}
 use lib.Dec.{eqb, leb}
@@ -24,3 +24,7 @@ dueKept stops deadlines k = leb (getD stops k 0) (getD deadlines k 0)
 -- 7.27: the start is not before the stop plus gap of the row before it; before the first row stands the last control row, with the stop `last`
 unfoldable pub gapKept : List ℕ → List ℕ → ℕ → ℕ → ℕ → Bool
 gapKept starts stops last gap k = leb (beforeIn stops last k + gap) (getD starts k 0)
+
+-- 7.28: the stop plus gap of the last of `count` rows is not above P
+unfoldable pub lastKept : List ℕ → ℕ → ℕ → ℕ → ℕ → Bool
+lastKept stops last gap period count = leb (beforeIn stops last count + gap) period

@@ -1,4 +1,4 @@
-// Rules 7.24 to 7.27: each looks at the data rows in their order, with what the plan asks of a row's frame or the stop of the row before it.
+// Rules 7.24 to 7.28: each looks at the data rows in their order, with what the plan asks of a row's frame or the stop of the row before it.
 ghost use mathlib.Core.Path.{_≡_};
 ghost use mathlib.Core.Bool.{_&&_};
 ghost use lib.Dec.{eqb};
@@ -8,7 +8,7 @@ ghost use Rattle.laws.specs.Numbers as laws;
 ghost use Rattle.rules.specs.Limits.{mostFrames, mostTasks};
 ghost use Rattle.naming.specs.Places.{lookIn, beforeIn};
 ghost use Rattle.places.specs.Found.{foundOf};
-ghost use Rattle.datarows.specs.Rows.{timeKept, releaseKept, dueKept, gapKept};
+ghost use Rattle.datarows.specs.Rows.{timeKept, releaseKept, dueKept, gapKept, lastKept};
 use figures::divides;
 use places::Found;
 use times::Span;
@@ -161,4 +161,18 @@ pub fn first_crowded<'a>(
         k += 1;
     }
     Found::Nothing
+}
+
+// Rule 7.28: the gap lies between the stop of the last row and the next cycle, which begins at P. `last` is as in 7.27.
+pub fn gap_at_end(
+    stops: &[u32; Frame::MOST],
+    last: Ticks,
+    gap: Ticks,
+    period: Ticks,
+    count: usize,
+) -> bool
+    requires { ⌜ count ≤ mostFrames ⌝ }
+    ensures { λ r. ⌜ r ≡ lastKept (now (stops .entry)) (last .0) (gap .0) (period .0) count ⌝ }
+{
+    later(stop_before(stops, count, last), gap).0 <= wide(period).0
 }

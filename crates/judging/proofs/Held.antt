@@ -3,26 +3,26 @@ use mathlib.Core.Path.{_≡_, refl, sym, ap, _∙_}
 use mathlib.Core.Bool.{Bool}
 use mathlib.Core.List.{List}
 use mathlib.Core.Option.{Option, none, some}
-use native.Mathlib.Nat.{zero-add}
+use native.Mathlib.Nat.{zero-add, le-refl}
 use native.Mathlib.Omega.{arith}
 use lib.ListN.{length, getD, replicate, length-replicate}
 use borrow.Author.Tests.{lt-ltb}
 use Prim.Native.Nat.{ℕ, zero, suc, _+_, _≤_, _<_}
 use Rattle.rules.specs.Limits.{mostFrames}
-use Rattle.laws.specs.Res.{Res, at, _>>_}
+use Rattle.laws.specs.Res.{Res, at, unless, _>>_}
 use Rattle.laws.specs.Lists.{firstBad, tab, upTo, lastD}
 use Rattle.laws.specs.Loops.{stores}
 use Rattle.laws.proofs.Lists.{length-tab}
 use Rattle.laws.proofs.Loops.{stores-at, firstBad-upTo-passes}
 use Rattle.rules.specs.Frames.{ControlRow, noControlRow}
-use Rattle.rules.specs.Checker.{Row, nameOf, rowOf, rowAt, stopBefore, firstRow, rowsKeep}
+use Rattle.rules.specs.Checker.{Row, nameOf, rowOf, rowAt, stopBefore, firstRow, lastRow, rowsKeep}
 use Rattle.table.specs.declared.Table.{Table}
 use Rattle.judging.specs.declared.Bounds.{Bounds}
 use Rattle.naming.specs.Places.{Numbered, lookIn, beforeIn, numberOf, numberAt, isNew}
 use Rattle.table.specs.Memory.{rowSeen, seen}
 use Rattle.table.specs.Rows.{controlIn, dataIn}
-use Rattle.datarows.specs.Rows.{timeKept, releaseKept, dueKept, gapKept}
-use Rattle.judging.specs.Judged.{timesInOrder, inOrder, namesNew, timeFits, releaseFits, dueFits, gapFits, timesJudged, rowsJudged, frameIn, framesIn, timeIn}
+use Rattle.datarows.specs.Rows.{timeKept, releaseKept, dueKept, gapKept, lastKept}
+use Rattle.judging.specs.Judged.{timesInOrder, inOrder, namesNew, timeFits, releaseFits, dueFits, gapFits, endFits, timesJudged, rowsJudged, frameIn, framesIn, timeIn}
 use Rattle.laws.proofs.Turns.{same-bad}
 use Rattle.laws.proofs.Arrays.{last-tab}
 use Rattle.judging.proofs.NamedFrames.{named-frame, named-task, row-at, new-names, new-within}
@@ -85,14 +85,14 @@ module _ (tasks releases deadlines times : List ℕ) (frames : ℕ) (n : Numbere
   unfolding dueKept dueFits rowSeen dataIn rowOf nameOf
   due-same k h = rw (seen-at k h)
 
-  before-same : (k : ℕ) → k < t .rows → beforeIn (t .stops) last k ≡ stopBefore (seen t) k
+  before-same : (k : ℕ) → k ≤ t .rows → beforeIn (t .stops) last k ≡ stopBefore (seen t) k
   unfolding seen lastStop rowSeen dataIn rowOf
   before-same zero h = isLast
-  before-same (suc k) h = sym (ap (λ (r : Row). r .stop) (seen-at k (omega arith)))
+  before-same (suc k) h = sym (ap (λ (r : Row). r .stop) (seen-at k h))
 
   gap-same : (k : ℕ) → k < t .rows → gapKept (t .starts) (t .stops) last (b .gap .0) k ≡ gapFits b (seen t) k
   unfolding gapKept gapFits rowSeen dataIn rowOf
-  gap-same k h = rw (seen-at k h, before-same k h)
+  gap-same k h = rw (seen-at k h, before-same k (omega arith))
 
   first-row : firstRow (seen t) ≡ 1 + t .controls
   unfolding firstRow seen
@@ -101,6 +101,18 @@ module _ (tasks releases deadlines times : List ℕ) (frames : ℕ) (n : Numbere
   row-count : length (seen t .rows) ≡ t .rows
   unfolding seen
   row-count = length-tab (rowSeen t) 0 (t .rows)
+
+  end-same : lastKept (t .stops) last (b .gap .0) (b .period .0) (t .rows) ≡ endFits b (seen t)
+  unfolding lastKept endFits
+  end-same = rw (row-count, before-same (t .rows) (le-refl (t .rows)))
+
+  last-row : lastRow (seen t) ≡ t .controls + t .rows
+  unfolding lastRow seen
+  last-row =
+      rw (
+        length-tab (controlIn (t .«control_nodes») (t .«control_starts») (t .«control_stops»)) 0 (t .controls),
+        length-tab (rowSeen t) 0 (t .rows),
+      )
 
   -- a rule by places is the rule by rows
   rows-keep : (number : ℕ) (here there : ℕ → Bool) → ((k : ℕ) → k < t .rows → here k ≡ there k)
@@ -124,11 +136,15 @@ module _ (tasks releases deadlines times : List ℕ) (frames : ℕ) (n : Numbere
   abbrev crowded : Option ℕ
   crowded = firstBad (gapKept (t .starts) (t .stops) last (b .gap .0)) (upTo (t .rows))
 
+  -- what rule 28 says
+  abbrev ending : Res (Unit {0})
+  ending = unless 28 (t .controls + t .rows) (lastKept (t .stops) last (b .gap .0) (b .period .0) (t .rows))
+
   module _ (e : unnamed ≡ none) where
     all-named : (k : ℕ) → k < t .rows → getD numbered k 0 < frames
     all-named k h = new-within numbered frames k (firstBad-upTo-passes (isNew numbered frames) (t .rows) k e h)
 
-    by-rules : timesInOrder (1 + t .controls) mistimed early late crowded
+    by-rules : timesInOrder (1 + t .controls) mistimed early late crowded ending
         ≡ timesJudged (framesIn tasks releases deadlines frames) (timeIn times) b (seen t)
     unfolding timesJudged
     by-rules =
@@ -137,10 +153,12 @@ module _ (tasks releases deadlines times : List ℕ) (frames : ℕ) (n : Numbere
           rows-keep 25 (releaseKept (t .starts) releases numbered) (releaseFits (framesIn tasks releases deadlines frames) (seen t)) (λ k h. release-same k h (all-named k h)),
           rows-keep 26 (dueKept (t .stops) (t .deadlines)) (dueFits (seen t)) due-same,
           rows-keep 27 (gapKept (t .starts) (t .stops) last (b .gap .0)) (gapFits b (seen t)) gap-same,
+          last-row,
+          end-same,
         )
 
-  -- Rules 23 to 27 by places are rules 23 to 27.
-  pub rows-judged : inOrder (1 + t .controls) unnamed mistimed early late crowded
+  -- Rules 23 to 28 by places are rules 23 to 28.
+  pub rows-judged : inOrder (1 + t .controls) unnamed mistimed early late crowded ending
       ≡ rowsJudged (framesIn tasks releases deadlines frames) (timeIn times) b (seen t)
   unfolding rowsJudged seen
   rows-judged =
@@ -150,7 +168,7 @@ module _ (tasks releases deadlines times : List ℕ) (frames : ℕ) (n : Numbere
       (new-names tasks releases deadlines frames n (rowSeen t) (t .rows) numbered number-given (seen t) refl))
     where
       here : (o : Option ℕ) → unnamed ≡ o
-          → inOrder (1 + t .controls) o mistimed early late crowded
+          → inOrder (1 + t .controls) o mistimed early late crowded ending
           ≡ _>>_ (at 23 (1 + t .controls) o) (timesJudged (framesIn tasks releases deadlines frames) (timeIn times) b (seen t))
       here none e = by-rules e
       here (some k) e = refl

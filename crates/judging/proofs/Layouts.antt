@@ -17,7 +17,7 @@ use Rattle.laws.proofs.Members.{All, pairs-getD, all-getD, all-member, all-of-m
 use Rattle.rules.specs.Plan.{Plan}
 use Rattle.rules.specs.Frames.{Pair, pairs, ControlRow, noControlRow, layoutOf}
 use Rattle.rules.specs.LatestRelease.{noPair, timeAlone}
-use Rattle.rules.specs.Checker.{Row, nameOf, rowOf, TableRead, noRow, headerRight, controlKept, gapKept, judged}
+use Rattle.rules.specs.Checker.{Row, nameOf, rowOf, TableRead, noRow, headerRight, controlKept, gapKept, lastKept, judged}
 use Rattle.rules.proofs.PairsOf.{Before, before-case}
 use Rattle.rules.proofs.SingleRows.{OpensAlone, Single, opensSame, singleNew, singleTime, singleRelease, singleDeadline, singleJudged, judged-single}
 use Rattle.judging.specs.declared.Bounds.{Bounds}
@@ -27,14 +27,14 @@ use Rattle.table.specs.Memory.{controlNodeOf, controlStartOf, controlStopOf, ta
 use Rattle.table.specs.Rows.{controlIn, dataIn}
 use Rattle.line.specs.Line.{lineOf}
 use Rattle.line.proofs.Drawn.{Drawn, frameOf, controlOf, frame-drawn, frames-drawn, controls-drawn, time-drawn}
-use Rattle.judging.specs.Judged.{headerFits, controlFits, samePair, namesNew, timeFits, releaseFits, dueFits, gapFits, timesJudged, rowsJudged, judgedFor, frameIn, framesIn, timeIn, controlsOn, framesOn, boundsOn, lineJudged, Right}
+use Rattle.judging.specs.Judged.{headerFits, controlFits, samePair, namesNew, timeFits, releaseFits, dueFits, gapFits, endFits, timesJudged, rowsJudged, judgedFor, frameIn, framesIn, timeIn, controlsOn, framesOn, boundsOn, lineJudged, Right}
 
 -- ---- the parts of a layout
 
 -- a table whose rows hold one pair each, judged by times that are right for the pairs
 judged-parts : (p : Plan) (t : TableRead) (time : ℕ → ℕ) → Single t → All (λ f. timeAlone (layoutOf p) f ≡ time (f .task)) (layoutOf p .pairs)
     → judgedFor (layoutOf p .control) (layoutOf p .pairs) time (boundsOn (lineOf p)) t ≡ judged (layoutOf p) t
-unfolding judgedFor rowsJudged timesJudged headerFits controlFits samePair namesNew timeFits releaseFits dueFits gapFits boundsOn lineOf headerRight controlKept gapKept singleJudged opensSame singleNew singleTime singleRelease singleDeadline layoutOf
+unfolding judgedFor rowsJudged timesJudged headerFits controlFits samePair namesNew timeFits releaseFits dueFits gapFits endFits boundsOn lineOf headerRight controlKept gapKept lastKept singleJudged opensSame singleNew singleTime singleRelease singleDeadline layoutOf
 judged-parts p t time single right = sym (judged-single (layoutOf p) (λ f. refl) t single time right)
 
 -- ---- a table laid out and seen again

@@ -11,7 +11,7 @@ use lib.ListN.{length, getD, replicate}
 use borrow.Author.Tests.{eqb-true, le-leb}
 use Prim.Native.Nat.{ℕ, _+_, _≤_, _<_}
 use Rattle.rules.specs.Limits.{mostFrames}
-use Rattle.laws.specs.Res.{Res, ok, refuse, at, _>>_}
+use Rattle.laws.specs.Res.{Res, ok, refuse, at, unless, _>>_}
 use Rattle.laws.specs.Lists.{firstBad, tab, upTo}
 use Rattle.laws.specs.Loops.{stores}
 use Rattle.laws.proofs.Res.{refuse≢ok}
@@ -28,7 +28,7 @@ use Rattle.naming.specs.Places.{lookIn, beforeIn, Numbered, numberAt, isNew, sp
 use Rattle.places.specs.Found.{foundOf}
 use Rattle.table.specs.Memory.{rowSeen, seen}
 use Rattle.table.specs.Rows.{controlIn, dataIn}
-use Rattle.datarows.specs.Rows.{timeKept, releaseKept, dueKept, gapKept}
+use Rattle.datarows.specs.Rows.{timeKept, releaseKept, dueKept, gapKept, lastKept}
 use Rattle.judging.specs.Judged.{headerFits, controlFits, rowsJudged, judgedFor, headerSame, controlsSame, frameIn, framesIn, timeIn, NoneEarly, Right, inOrder, onlyWhere, Among}
 use Rattle.answers.specs.Refusals.{heard}
 use Rattle.places.specs.Found.{placeIn}
@@ -66,9 +66,9 @@ pub among-at : (room : ℕ) (s : Found) {k : ℕ} → Among room s → s ≡ At 
 among-at room s h e = rw e at h
 
 -- where nothing is refused, the first rule refuses nothing
-first-kept : (first : ℕ) (a b c d e : Option ℕ) → inOrder first a b c d e ≡ ok tt → a ≡ none
-first-kept first none b c d e h = refl
-first-kept first (some k) b c d e h = refuse≢ok h
+first-kept : (first : ℕ) (a b c d e : Option ℕ) (end : Res (Unit {0})) → inOrder first a b c d e end ≡ ok tt → a ≡ none
+first-kept first none b c d e end h = refl
+first-kept first (some k) b c d e end h = refuse≢ok h
 
 -- ---- judgements
 
@@ -76,7 +76,7 @@ module _ {says : Res (Unit {0})} (frames : List Pair) (t : TableRead) {early : B
   pub right-refused : {n p : ℕ} → says ≡ refuse n p → heard (j .verdict) ≡ refuse n p → Right early releases count says frames t j
   right-refused e h = record { verdict = λ _. h ∙ sym e; starts = λ q. refuse≢ok (sym e ∙ q) }
 
--- ---- rules 23 to 27
+-- ---- rules 23 to 28
 
 module _ (tasks releases deadlines times : List ℕ) (frames : ℕ) (n : Numbered tasks deadlines frames) (b : Bounds) (t : Table)
     (room : t .rows ≤ mostFrames) {named : List ℕ}
@@ -101,16 +101,22 @@ module _ (tasks releases deadlines times : List ℕ) (frames : ℕ) (n : Numbere
   abbrev gapOk : ℕ → ℕ → Bool
   gapOk last = gapKept (t .starts) (t .stops) last (b .gap .0)
 
+  abbrev endOk : ℕ → Bool
+  endOk last = lastKept (t .stops) last (b .gap .0) (b .period .0) (t .rows)
+
   abbrev firstOf : (ℕ → Bool) → Option ℕ
   firstOf test = firstBad test (upTo (t .rows))
 
-  whole : rowsJudged wanted (timeIn times) b (seen t)
-      ≡ inOrder (1 + t .controls) (firstOf nameOk) (firstOf timeOk) (firstOf releaseOk) (firstOf dueOk) (firstOf (gapOk (beforeIn (t .«control_stops») 0 (t .controls))))
-  whole =
-      sym (rw numbered (rows-judged tasks releases deadlines times frames n b t room (beforeIn (t .«control_stops») 0 (t .controls)) (last-stop t)))
-
   abbrev firstCrowded : Option ℕ
   firstCrowded = firstOf (gapOk (beforeIn (t .«control_stops») 0 (t .controls)))
+
+  abbrev ending : Res (Unit {0})
+  ending = unless 28 (t .controls + t .rows) (endOk (beforeIn (t .«control_stops») 0 (t .controls)))
+
+  whole : rowsJudged wanted (timeIn times) b (seen t)
+      ≡ inOrder (1 + t .controls) (firstOf nameOk) (firstOf timeOk) (firstOf releaseOk) (firstOf dueOk) firstCrowded ending
+  whole =
+      sym (rw numbered (rows-judged tasks releases deadlines times frames n b t room (beforeIn (t .«control_stops») 0 (t .controls)) (last-stop t)))
 
   -- where every row names a frame of its own, and no frame is early by number, no row is early
   none-early : firstOf nameOk ≡ none → NoneEarly releases (spread named (t .starts) (t .rows)) frames → firstOf releaseOk ≡ none
@@ -126,38 +132,39 @@ module _ (tasks releases deadlines times : List ℕ) (frames : ℕ) (n : Numbere
 
   -- rule 25 by the scan of rows, or by the starts by number
   looked-at : (early : Bool) → (early ≡ true) ⊎ NoneEarly releases (spread named (t .starts) (t .rows)) frames
-      → inOrder (1 + t .controls) (firstOf nameOk) (firstOf timeOk) (onlyWhere early (firstOf releaseOk)) (firstOf dueOk) firstCrowded
-      ≡ inOrder (1 + t .controls) (firstOf nameOk) (firstOf timeOk) (firstOf releaseOk) (firstOf dueOk) firstCrowded
+      → inOrder (1 + t .controls) (firstOf nameOk) (firstOf timeOk) (onlyWhere early (firstOf releaseOk)) (firstOf dueOk) firstCrowded ending
+      ≡ inOrder (1 + t .controls) (firstOf nameOk) (firstOf timeOk) (firstOf releaseOk) (firstOf dueOk) firstCrowded ending
   looked-at true h = refl
   looked-at false (inl e) = true-false (sym e)
   looked-at false (inr h) = here (firstOf nameOk) refl
     where
       here : (o : Option ℕ) → firstOf nameOk ≡ o
-          → inOrder (1 + t .controls) o (firstOf timeOk) none (firstOf dueOk) firstCrowded
-          ≡ inOrder (1 + t .controls) o (firstOf timeOk) (firstOf releaseOk) (firstOf dueOk) firstCrowded
+          → inOrder (1 + t .controls) o (firstOf timeOk) none (firstOf dueOk) firstCrowded ending
+          ≡ inOrder (1 + t .controls) o (firstOf timeOk) (firstOf releaseOk) (firstOf dueOk) firstCrowded ending
       here none e = rw (none-early e h)
       here (some k) e = refl
 
   -- what the scans found, and what their order makes of it
   pub rows-right : {sa sb sc sd se : Found} {early : Bool} → sa ≡ foundOf (firstOf nameOk) → sb ≡ foundOf (firstOf timeOk)
       → sc ≡ foundOf (onlyWhere early (firstOf releaseOk)) → sd ≡ foundOf (firstOf dueOk)
-      → {last : ℕ} → last ≡ beforeIn (t .«control_stops») 0 (t .controls) → se ≡ foundOf (firstOf (gapOk last)) → (j : Judgement)
-      → heard (j .verdict) ≡ inOrder (1 + t .controls) (placeIn sa) (placeIn sb) (placeIn sc) (placeIn sd) (placeIn se)
+      → {last : ℕ} → last ≡ beforeIn (t .«control_stops») 0 (t .controls) → se ≡ foundOf (firstOf (gapOk last))
+      → {ends : Bool} → ends ≡ endOk last → {end : Res (Unit {0})} → end ≡ unless 28 (t .controls + t .rows) ends → (j : Judgement)
+      → heard (j .verdict) ≡ inOrder (1 + t .controls) (placeIn sa) (placeIn sb) (placeIn sc) (placeIn sd) (placeIn se) end
       → j .starts ≡ spread named (t .starts) (t .rows) → Right early releases frames (rowsJudged wanted (timeIn times) b (seen t)) wanted (seen t) j
   unfolding seen rowSeen dataIn rowOf nameOf
-  rows-right {sa} {sb} {sc} {sd} {se} {early} fa fb fc fd {last} isLast fe j says spreads =
+  rows-right {sa} {sb} {sc} {sd} {se} {early} fa fb fc fd {last} isLast fe {ends} isEnd {end} isSaid j says spreads =
       record {
         verdict = λ h. says ∙ as-found ∙ looked-at early (rw spreads at h) ∙ sym whole;
         starts = λ passed.
             let all-named : firstOf nameOk ≡ none
-            = first-kept (1 + t .controls) (firstOf nameOk) (firstOf timeOk) (firstOf releaseOk) (firstOf dueOk) firstCrowded (sym whole ∙ passed) in
+            = first-kept (1 + t .controls) (firstOf nameOk) (firstOf timeOk) (firstOf releaseOk) (firstOf dueOk) firstCrowded ending (sym whole ∙ passed) in
             spreads ∙ starts-laid tasks releases deadlines frames n (rowSeen t) (t .rows) named
             (λ k l. rw numbered (number-given tasks releases deadlines times frames n b t room (beforeIn (t .«control_stops») 0 (t .controls)) (last-stop t) k l))
             (λ k. refl) (t .starts) (λ k l. refl) (λ k l. firstBad-upTo-passes nameOk (t .rows) k all-named l);
       }
     where
-      as-found : inOrder (1 + t .controls) (placeIn sa) (placeIn sb) (placeIn sc) (placeIn sd) (placeIn se)
-          ≡ inOrder (1 + t .controls) (firstOf nameOk) (firstOf timeOk) (onlyWhere early (firstOf releaseOk)) (firstOf dueOk) firstCrowded
+      as-found : inOrder (1 + t .controls) (placeIn sa) (placeIn sb) (placeIn sc) (placeIn sd) (placeIn se) end
+          ≡ inOrder (1 + t .controls) (firstOf nameOk) (firstOf timeOk) (onlyWhere early (firstOf releaseOk)) (firstOf dueOk) firstCrowded ending
       as-found =
           rw (
             spot-found (firstOf nameOk) fa,
@@ -165,6 +172,8 @@ module _ (tasks releases deadlines times : List ℕ) (frames : ℕ) (n : Numbere
             spot-found (onlyWhere early (firstOf releaseOk)) fc,
             spot-found (firstOf dueOk) fd,
             spot-found (firstOf (gapOk last)) fe,
+            isSaid,
+            isEnd,
             isLast,
           )
 

@@ -1,4 +1,4 @@
--- Refusals 21 to 27 over the parts that they look at: the fixed control rows, the frames by number, the sending time of each task's
+-- Refusals 21 to 28 over the parts that they look at: the fixed control rows, the frames by number, the sending time of each task's
 -- message, and the numbers of the bus. Of a row only the pair that opens it is looked at. `judged` of the rules is this for the parts of a
 -- layout and a table whose rows hold no other pair (proofs/Layouts.antt).
 use mathlib.Core.Path.{_≡_}
@@ -25,6 +25,7 @@ use Rattle.rules.specs.Checker.{
   sameName,
   namedIn,
   stopBefore,
+  lastRow,
   rowsKeep,
   rowHolding,
 }
@@ -75,15 +76,20 @@ dueFits t k = leb (rowAt t k .stop) (rowAt t k .opens .deadline)
 unfoldable pub gapFits : Bounds → TableRead → ℕ → Bool
 gapFits b t k = leb (stopBefore t k + b .gap .0) (rowAt t k .start)
 
--- Refusals 24 to 27, on the data rows.
+-- Rule 28: the last row stops no later than the gap before P.
+unfoldable pub endFits : Bounds → TableRead → Bool
+endFits b t = leb (stopBefore t (length (t .rows)) + b .gap .0) (b .period .0)
+
+-- Refusals 24 to 28, on the data rows.
 unfoldable pub timesJudged : List Pair → (ℕ → ℕ) → Bounds → TableRead → Res (Unit {0})
 timesJudged frames time b t = do
   rowsKeep 24 t (timeFits frames time b t)
   rowsKeep 25 t (releaseFits frames t)
   rowsKeep 26 t (dueFits t)
   rowsKeep 27 t (gapFits b t)
+  unless 28 (lastRow t) (endFits b t)
 
--- Refusals 23 to 27.
+-- Refusals 23 to 28.
 unfoldable pub rowsJudged : List Pair → (ℕ → ℕ) → Bounds → TableRead → Res (Unit {0})
 rowsJudged frames time b t = do
   rowsKeep 23 t (namesNew frames t)
@@ -134,18 +140,19 @@ abbrev pub Among : ℕ → Found → Type 0
 Among n (At k) = k < n
 Among n Nothing = Unit {0}
 
--- refusals 24 to 27, and 23 to 27, by the first row that breaks each; the first row is record `first`
-abbrev pub timesInOrder : ℕ → Option ℕ → Option ℕ → Option ℕ → Option ℕ → Res (Unit {0})
-timesInOrder first mistimed early late crowded = do
+-- refusals 24 to 28, and 23 to 28, by the first row that breaks each; the first row is record `first`, and `end` is what 28 says
+abbrev pub timesInOrder : ℕ → Option ℕ → Option ℕ → Option ℕ → Option ℕ → Res (Unit {0}) → Res (Unit {0})
+timesInOrder first mistimed early late crowded end = do
   at 24 first mistimed
   at 25 first early
   at 26 first late
   at 27 first crowded
+  end
 
-abbrev pub inOrder : ℕ → Option ℕ → Option ℕ → Option ℕ → Option ℕ → Option ℕ → Res (Unit {0})
-inOrder first unnamed mistimed early late crowded = do
+abbrev pub inOrder : ℕ → Option ℕ → Option ℕ → Option ℕ → Option ℕ → Option ℕ → Res (Unit {0}) → Res (Unit {0})
+inOrder first unnamed mistimed early late crowded end = do
   at 23 first unnamed
-  timesInOrder first mistimed early late crowded
+  timesInOrder first mistimed early late crowded end
 
 -- what a scan would find, only where it is made
 abbrev pub onlyWhere : Bool → Option ℕ → Option ℕ

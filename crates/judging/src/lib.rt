@@ -1,9 +1,10 @@
-// The judgement of a table: rules 21 to 27, rule by rule, at the lowest record at fault.
+// The judgement of a table: rules 21 to 28, rule by rule, at the lowest record at fault.
 ghost use mathlib.Core.Path.{_≡_};
 ghost use mathlib.Core.Bool.{_&&_};
 ghost use lib.Dec.{eqb};
 ghost use Prim.Native.Nat.{_+_, _≤_, _<_};
 ghost use Rattle.laws.specs.Lists.{firstBad, upTo};
+ghost use Rattle.laws.specs.Res.{unless};
 ghost use Rattle.rules.specs.Limits.{mostNodes, mostFrames};
 ghost use Rattle.naming.specs.Places.{Numbered, beforeIn};
 ghost use Rattle.places.specs.Found.{foundOf};
@@ -19,6 +20,7 @@ use datarows::first_crowded;
 use datarows::first_early;
 use datarows::first_late;
 use datarows::first_mistimed;
+use datarows::gap_at_end;
 use line::Line;
 use naming::first_unnamed;
 use naming::numbers;
@@ -150,7 +152,17 @@ fn early_in<'a>(
     Found::Nothing
 }
 
-// The record `first + k` of the first row at fault: `first` is the first data row's.
+// Rule 28: `last` is the record of the last row.
+fn end_judged(kept: bool, last: RecordNo) -> Verdict
+    ensures { λ r. ⌜ heard r ≡ unless 28 (last .0) kept ⌝ }
+{
+    if kept {
+        return Verdict::Fine;
+    }
+    Verdict::Refused(Refusal::NoGapAtEnd(last))
+}
+
+// The record `first + k` of the first row at fault, where `first` is the first data row's; `end` where no row is.
 fn rows_judged(
     first: usize,
     unnamed: Found,
@@ -158,10 +170,11 @@ fn rows_judged(
     early: Found,
     late: Found,
     crowded: Found,
+    end: Verdict,
 ) -> Verdict
     requires { ⌜ first ≤ 1 + mostNodes ⌝ }
     requires { ⌜ Among mostFrames unnamed × (Among mostFrames mistimed × (Among mostFrames early × (Among mostFrames late × Among mostFrames crowded))) ⌝ }
-    ensures { λ r. ⌜ heard r ≡ inOrder first (placeIn unnamed) (placeIn mistimed) (placeIn early) (placeIn late) (placeIn crowded) ⌝ }
+    ensures { λ r. ⌜ heard r ≡ inOrder first (placeIn unnamed) (placeIn mistimed) (placeIn early) (placeIn late) (placeIn crowded) (heard end) ⌝ }
 {
     if let Found::At(k) = unnamed {
         return Verdict::Refused(Refusal::NoNewFrame(RecordNo(first + k)));
@@ -178,10 +191,10 @@ fn rows_judged(
     if let Found::At(k) = crowded {
         return Verdict::Refused(Refusal::GapBroken(RecordNo(first + k)));
     }
-    Verdict::Fine
+    end
 }
 
-// Rules 23 to 27; 25 only where `early_too`.
+// Rules 23 to 28; 25 only where `early_too`.
 fn by_rows<'a>(
     t: Table,
     tasks: &'a [u8; Frame::MOST],
@@ -212,8 +225,10 @@ fn by_rows<'a>(
     let late = first_late(&t.stops, &t.deadlines, rows);
     let last = last_stop(&t.control_stops, t.controls);
     let crowded = first_crowded(&t.starts, &t.stops, last, bounds.gap, rows);
+    let ends = gap_at_end(&t.stops, last, bounds.gap, bounds.period, rows);
+    let end = end_judged(ends, RecordNo(t.controls + rows));
     Judgement {
-        verdict: rows_judged(1 + t.controls, unnamed, mistimed, early, late, crowded),
+        verdict: rows_judged(1 + t.controls, unnamed, mistimed, early, late, crowded, end),
         starts: starts_by_frame(&named, &t.starts, rows),
     }
 }

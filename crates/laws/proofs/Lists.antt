@@ -10,7 +10,7 @@ use native.Mathlib.Omega.{arith}
 use lib.ListN.{length, getD, set, take, replicate, length-append}
 use lib.Seq.{take-suc}
 use Prim.Native.Nat.{ℕ, zero, suc, _+_, _≤_, _<_, zero-le, suc-le-suc}
-use Rattle.laws.specs.Lists.{consIf, keep, any, all, tab, upTo, joined}
+use Rattle.laws.specs.Lists.{consIf, keep, any, all, tab, upTo, joined, lastD}
 use Rattle.laws.specs.Loops.{padTo}
 
 -- ---- passed and failed tests
@@ -65,6 +65,20 @@ module _ {A : Type 0} where
 
   pub map-snoc : {B : Type 0} (f : A → B) (l : List A) (x : A) → map f (l ++ (x ∷ [])) ≡ map f l ++ (f x ∷ [])
   map-snoc f l x = map-append f l (x ∷ [])
+
+  -- ---- the last element
+
+  pub last-append : (l m : List A) (d : A) → lastD (l ++ m) d ≡ lastD m (lastD l d)
+  last-append [] m d = refl
+  last-append (x ∷ l) m d = last-append l m x
+
+  pub last-map : {B : Type 0} (f : A → B) (l : List A) (d : A) → lastD (map f l) (f d) ≡ f (lastD l d)
+  last-map f [] d = refl
+  last-map f (x ∷ l) d = last-map f l x
+
+  pub last-getD : (x : A) (l : List A) (d : A) → getD (x ∷ l) (length l) d ≡ lastD l x
+  last-getD x [] d = refl
+  last-getD x (y ∷ l) d = last-getD y l d
 
 -- ---- keep, any, all
 

@@ -10,7 +10,7 @@ use lib.Dec.{eqb}
 use lib.ListN.{length, getD, take}
 use borrow.Author.Tests.{eqb-true, eqb-false, ne-eqb, not-true}
 use Prim.Native.Nat.{ℕ, zero, suc, _+_, _≤_, _<_, zero-le, suc-le-suc}
-use Rattle.laws.specs.Lists.{consIf, keep, any, firstBad, joined, tab, upTo}
+use Rattle.laws.specs.Lists.{consIf, keep, any, firstBad, joined, lastD, tab, upTo}
 use Rattle.laws.proofs.Lists.{true-false, keep-yes, keep-no, neither-left, neither-right, length-upTo}
 use Rattle.laws.proofs.Loops.{firstBad-passes}
 
@@ -197,6 +197,28 @@ module _ {A : Type 0} where
     chain-getD d (link a r) zero w = a
     chain-getD d (link a r) (suc k) w = chain-getD d r k (le-of-suc-le-suc w)
 
+    pub chain-of-places : (l : List A) (d : A) → ((k : ℕ) → suc k < length l → R (getD l k d) (getD l (suc k) d)) → Chain R l
+    chain-of-places [] d h = no-link
+    chain-of-places (x ∷ []) d h = last-link
+    chain-of-places (x ∷ y ∷ l) d h =
+        link (h 0 (suc-le-suc (suc-le-suc zero-le))) (chain-of-places (y ∷ l) d (λ k w. h (suc k) (suc-le-suc w)))
+
+    -- a chain goes on in another if its last stands in R to the other's first
+    pub chain-append : {l m : List A} (d : A) → Chain R l → Chain R m → (0 < length m → R (lastD l d) (getD m 0 d)) → Chain R (l ++ m)
+    chain-append d no-link c h = c
+    chain-append d last-link no-link h = last-link
+    chain-append d last-link last-link h = link (h (suc-le-suc zero-le)) last-link
+    chain-append d last-link (link a r) h = link (h (suc-le-suc zero-le)) (link a r)
+    chain-append d (link a r) c h = link a (chain-append d r c h)
+
+    -- where R leads on through every element that has P, neighbours stand for all
+    pub chain-pairs : {P : A → Type 0} {l : List A} → ((x y z : A) → R x y → P y → R y z → R x z) → All P l → Chain R l → Pairs R l
+    chain-pairs through empty no-link = alone
+    chain-pairs through (also p empty) last-link = before empty alone
+    chain-pairs through (also p (also q r)) (link {x} {y} a c) =
+        let rest = chain-pairs through (also q r) c in
+        before (also a (all-weaker (λ z b. through x y z a q b) (pairs-head rest))) rest
+
 -- ---- map
 
 module _ {A B : Type 0} {P : B → Type 0} (f : A → B) where
@@ -235,6 +257,11 @@ module _ {A B : Type 0} (f : A → B) where
   pub pairs-map : {R : B → B → Type 0} {l : List A} → Pairs (λ x y. R (f x) (f y)) l → Pairs R (map f l)
   pairs-map alone = alone
   pairs-map {R} (before {x} a r) = before (all-map {P = R (f x)} f a) (pairs-map r)
+
+  pub chain-map : {R : B → B → Type 0} {l : List A} → Chain (λ x y. R (f x) (f y)) l → Chain R (map f l)
+  chain-map no-link = no-link
+  chain-map last-link = last-link
+  chain-map (link a r) = link a (chain-map r)
 
 -- ---- lists made by tab, upTo and joined
 

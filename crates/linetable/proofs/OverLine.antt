@@ -5,11 +5,11 @@ use mathlib.Core.Logic.{_⊎_, inl, inr}
 use native.Mathlib.Nat.{le-refl, eq-or-lt-of-le}
 use native.Mathlib.Omega.{arith}
 use lib.ListN.{length, getD}
-use Prim.Native.Nat.{ℕ, suc, _≤_, _<_}
+use Prim.Native.Nat.{ℕ, suc, _-_, _≤_, _<_}
 use Rattle.laws.specs.Lists.{tab}
 use Rattle.laws.proofs.Members.{All, empty, also, all-of-members, pairs-getD}
 use Rattle.rules.specs.Plan.{Plan}
-use Rattle.rules.specs.Frames.{Pair, pairs, layoutOf}
+use Rattle.rules.specs.Frames.{Pair, pairs, cycleEnd, layoutOf}
 use Rattle.rules.specs.LatestRelease.{noPair, numberedFrom, place, timeAlone, latestRelease}
 use Rattle.rules.proofs.PairsOf.{before-case}
 use Rattle.rules.proofs.RuleSteps.{length-numbered, numbered-distinct, place-same}
@@ -46,10 +46,10 @@ module _ (p : Plan) (d : Drawn p) where
   numbered-all k (also q r) = also q (numbered-all (suc k) r)
 
   -- the latest-release rule as the arrays have it
-  pub rule-is : place (line.lineOf p .resolution .0) (line.lineOf p .gap .0) (line.lineOf p .floor .0) (timeOf (line.lineOf p .times)) (line.lineOf p .frames) (line.lineOf p .period .0)
+  pub rule-is : place (line.lineOf p .resolution .0) (line.lineOf p .gap .0) (line.lineOf p .floor .0) (timeOf (line.lineOf p .times)) (line.lineOf p .frames) (line.lineOf p .period .0 - line.lineOf p .gap .0)
       (numberedFrom 0 (tab (frameAt (line.lineOf p .tasks) (line.lineOf p .releases) (line.lineOf p .deadlines)) 0 (line.lineOf p .frames))) []
       ≡ latestRelease (layoutOf p)
-  unfolding line.lineOf latestRelease layoutOf pairs
+  unfolding line.lineOf latestRelease layoutOf cycleEnd pairs
   rule-is =
       let l = layoutOf p in
       let time = timeOf (line.lineOf p .times) in

@@ -6,7 +6,7 @@ use native.Mathlib.Omega.{arith}
 use borrow.Author.Tests.{le-leb, lt-leb}
 use lib.ListN.{length, getD, drop, replicate, length-map}
 use lib.Seq.{sets, sets-eq}
-use Prim.Native.Nat.{ℕ, _+_, _≤_, _<_}
+use Prim.Native.Nat.{ℕ, _+_, _-_, _≤_, _<_}
 use Rattle.rules.specs.Limits.{mostFrames}
 use Rattle.laws.specs.Res.{Res, ok, refuse}
 use Rattle.laws.specs.Lists.{tab}
@@ -86,10 +86,10 @@ module _ (l : Layout) where
       let z : NotPlaced (record { 0 = f }) ≡ All = sym (ap (λ (p : Placing). p .outcome) q) ∙ o in
       let y : _≡_ {A = ℕ} 0 1 = cc in absurd (omega arith)
 
--- the latest-release rule over the arrays of a line
-abbrev pub ruleOver : Line → Res (List Placed)
-ruleOver line =
-    place (line .resolution .0) (line .gap .0) (line .floor .0) (timeOf (line .times)) (line .frames) (line .period .0)
+-- the latest-release rule over the arrays of a line, from an end on
+abbrev pub ruleOver : Line → ℕ → Res (List Placed)
+ruleOver line end =
+    place (line .resolution .0) (line .gap .0) (line .floor .0) (timeOf (line .times)) (line .frames) end
     (numberedFrom 0 (tab (frameAt (line .tasks) (line .releases) (line .deadlines)) 0 (line .frames))) []
 
 module _ (line : Line) (s : Stands line) where
@@ -120,10 +120,10 @@ module _ (line : Line) (s : Stands line) where
   pub deadlines-rising : (i j : ℕ) → i ≤ j → j < line .frames → getD (line .deadlines) i 0 ≤ getD (line .deadlines) j 0
   deadlines-rising = rw (s .is) (deadlines-rise (s .plan) drawn-of)
 
-  module _ (placing : Placing) (q : placing ≡ laid (ruleOver line)) where
+  module _ (placing : Placing) {end : ℕ} (isEnd : end ≡ line .period .0 - line .gap .0) (q : placing ≡ laid (ruleOver line end)) where
     pub placing-is : placing ≡ laid (latestRelease (layoutOf (s .plan)))
     placing-is =
-        let e : ruleOver line ≡ latestRelease (layoutOf (s .plan)) = rw (s .is) (rule-is (s .plan) drawn-of) in
+        let e : ruleOver line end ≡ latestRelease (layoutOf (s .plan)) = rw (isEnd, s .is) (rule-is (s .plan) drawn-of) in
         q ∙ ap laid e
 
     -- 12: a frame found no room

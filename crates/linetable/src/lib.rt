@@ -101,7 +101,7 @@ pub fn placed_table(line: Line, buf: &mut [u8]) -> Making
         &line.times,
         line.frames,
         rule,
-        line.period,
+        placing::before(line.period, line.gap),
     );
     let outcome = placing.outcome;
     match outcome {

@@ -31,7 +31,7 @@ pub extern "C" fn olbiothar_make(plan: &[u8], rows: &mut [Frame], table: &mut [u
     made(making.answer)
 }
 
-// A table file by its plan: refusals 19, 1 to 11 and 20 to 27, or that it passes. Rule 25 is decided by the scan of the lent rows; only where
+// A table file by its plan: refusals 19, 1 to 11 and 20 to 28, or that it passes. Rule 25 is decided by the scan of the lent rows; only where
 // that finds an early row are all rules looked at by value, for the lowest record.
 #[no_mangle]
 pub extern "C" fn olbiothar_check(plan: &[u8], table: &[u8], rows: &mut [Frame]) -> Answer

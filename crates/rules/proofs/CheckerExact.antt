@@ -1,4 +1,4 @@
--- CheckerExact: each test of 21 to 27 means its rule, so the checker passes exactly the tables that keep all of them, and gives a number
+-- CheckerExact: each test of 21 to 28 means its rule, so the checker passes exactly the tables that keep all of them, and gives a number
 -- exactly where its rule is the first that is broken, at the lowest record.
 use mathlib.Core.Path.{_≡_, refl, sym, ap, _∙_, subst}
 use mathlib.Core.Bool.{Bool, true, false}
@@ -50,6 +50,8 @@ use Rattle.rules.specs.Checker.{
   deadlineKept,
   stopBefore,
   gapKept,
+  lastKept,
+  lastRow,
   rowsKeep,
   shaped,
   timed,
@@ -73,6 +75,7 @@ use Rattle.rules.specs.Obeys.{
   IsReleased,
   IsInTime,
   IsSpaced,
+  EndsInTime,
   ObeysTable,
   rowsAsk,
   tableRules,
@@ -256,7 +259,12 @@ module _ (l : Layout) (sorted : Pairs Before (l .pairs)) (t : TableRead) where
   unfolding gapKept
   gap-means k = by-le (stopBefore t k + l .gap) (rowAt t k .start)
 
-  -- the rules of the shape, 21 to 24, and of the times, 25 to 27
+  -- 28
+  last-means : Tests (lastKept l t) (EndsInTime l t)
+  unfolding lastKept
+  last-means = by-le (stopBefore t (length (t .rows)) + l .gap) (l .period)
+
+  -- the rules of the shape, 21 to 24, and of the times, 25 to 28
   abbrev pub shapeRules : List Rule
   shapeRules = take 4 (tableRules l t)
 
@@ -278,7 +286,8 @@ module _ (l : Layout) (sorted : Pairs Before (l .pairs)) (t : TableRead) where
   timed-exact named =
       exact-then (exact-rule (rowsAsk 25 t (IsReleased l t)) (releaseKept l t) (λ k w. release-means k (named .each k w))) λ h₂₅.
       exact-then (exact-rule (rowsAsk 26 t (IsInTime t)) (deadlineKept t) (λ k w. deadline-means k)) λ h₂₆.
-      exact-rule (rowsAsk 27 t (IsSpaced l t)) (gapKept l t) (λ k w. gap-means k)
+      exact-then (exact-rule (rowsAsk 27 t (IsSpaced l t)) (gapKept l t) (λ k w. gap-means k)) λ h₂₇.
+      exact-once 28 (lastRow t) last-means
 
   pub judged-exact : Exact (judged l t) (tableRules l t)
   unfolding judged
@@ -298,7 +307,10 @@ module _ (l : Layout) (sorted : Pairs Before (l .pairs)) (t : TableRead) where
             record { each = h .released },
             (
               record { each = h .inTime },
-              (record { each = h .spaced }, tt),
+              (
+                record { each = h .spaced },
+                (record { each = λ k w. h .ends }, tt),
+              ),
             ),
           ),
         ),
@@ -316,6 +328,7 @@ module _ (l : Layout) (sorted : Pairs Before (l .pairs)) (t : TableRead) where
         released = h .1 .1 .1 .1 .0 .each;
         inTime = h .1 .1 .1 .1 .1 .0 .each;
         spaced = h .1 .1 .1 .1 .1 .1 .0 .each;
+        ends = h .1 .1 .1 .1 .1 .1 .1 .0 .each 0 (omega arith);
       }
 
 -- ---- plan and table
@@ -427,7 +440,7 @@ module _ (plan table : List ℕ) (rows : List FrameRow) where
 -- ---- each number for itself
 
 pub rules-count-up : (l : Layout) (t : TableRead) → CountUp 21 (tableRules l t)
-rules-count-up l t = (refl, (refl, (refl, (refl, (refl, (refl, (refl, tt)))))))
+rules-count-up l t = (refl, (refl, (refl, (refl, (refl, (refl, (refl, (refl, tt))))))))
 
 module _ (plan table : List ℕ) where
   fault-twenty : (p : ℕ) → CheckFault plan table 20 p → UnreadAt plan table p
@@ -437,7 +450,7 @@ module _ (plan table : List ℕ) where
   fault-twenty p (ofTable {q} {l} {rs} a b c f) =
       absurd (omega (arith, judged-gives l (tableOf rs) .number 20 p (judged-exact l (sorted-pairs q l b) (tableOf rs) .refused 20 p f)))
 
-  fault-rule : (i p : ℕ) → i < 7 → CheckFault plan table (21 + i) p → BrokenAt plan table i p
+  fault-rule : (i p : ℕ) → i < 8 → CheckFault plan table (21 + i) p → BrokenAt plan table i p
   fault-rule i p w (ofPlan e) = absurd (omega (arith, plan-gives plan .number (21 + i) p e))
   fault-rule i p w (ofLayout {q} a e) = absurd (omega (arith, layout-gives q .number (21 + i) p e))
   fault-rule i p w (ofRecords a b e f) = absurd (omega (arith, e))
@@ -446,7 +459,7 @@ module _ (plan table : List ℕ) where
       let r = fault-of-rule noRule 21 i p (tableRules l t) (rules-count-up l t) w f in
       record { read = q; isRead = a; laid = l; isLaid = b; rows = rs; areRows = c; kept = r .0; broken = r .1 }
 
-  rule-fault : (i p : ℕ) → i < 7 → BrokenAt plan table i p → CheckFault plan table (21 + i) p
+  rule-fault : (i p : ℕ) → i < 8 → BrokenAt plan table i p → CheckFault plan table (21 + i) p
   rule-fault i p w h =
       ofTable (h .isRead) (h .isLaid) (h .areRows)
       (rule-of-fault noRule 21 i p (tableRules (h .laid) (tableOf (h .rows))) w (h .kept, h .broken))
@@ -467,8 +480,8 @@ module _ (plan table : List ℕ) (rows : List FrameRow) where
     λ h. checker-refuses plan table rows 20 p .1 (inr (h .0, ofRecords (h .1 .isRead) (h .1 .isLaid) refl (h .1 .unread))),
   )
 
-  -- 21 to 27: the rules before are kept, and this one is broken, first there
-  pub rule-exact : (i p : ℕ) → i < 7 → (check plan table rows .answer ≡ refuse (21 + i) p) ↔ ((mostFrames ≤ length rows) × BrokenAt plan table i p)
+  -- 21 to 28: the rules before are kept, and this one is broken, first there
+  pub rule-exact : (i p : ℕ) → i < 8 → (check plan table rows .answer ≡ refuse (21 + i) p) ↔ ((mostFrames ≤ length rows) × BrokenAt plan table i p)
   rule-exact i p w = (
     λ e. let f = faults (21 + i) p (omega arith) e in (f .0, fault-rule plan table i p w (f .1)),
     λ h. checker-refuses plan table rows (21 + i) p .1 (inr (h .0, rule-fault plan table i p w (h .1))),

@@ -8,12 +8,12 @@ use Rattle.rules.specs.Traffic.{moduleNode, taskNode, invokes, leaves, i
 use Rattle.rules.specs.Traffic.{sendersOn, controlPayload, isSendingNode, sendingNodes, runOf, ofBusTask, busRuns, withRun}
 use Rattle.rules.specs.Traffic.{periodOfRuns, busPeriod, withMode, ofSender, switchGrid, message, messagesOf, messages, basic, isMessage, has}
 use Rattle.rules.specs.Frames.{pairOf, pairOrder, merged, withPair, pairsOf, pairs, pairSize, hasOf, bytesIn, isModeIn, block, payload}
-use Rattle.rules.specs.Frames.{ticksOfBits, sendingTime, gapTime, controlFrom, controlRows, controlEnd, someBusTask, messageFits, controlFits}
+use Rattle.rules.specs.Frames.{ticksOfBits, sendingTime, gapTime, cycleEnd, controlFrom, controlRows, controlEnd, someBusTask, messageFits, controlFits}
 use Rattle.rules.specs.Frames.{payloadsFit, rowTime, layoutOf, layout}
 use Rattle.rules.specs.Direct.{deadlineAfter, isStillAhead, nextOf, nextPlace, isDue, dueAt, releaseFor, pairAt, foundThen, walkRunsFrom, walkRuns}
 use Rattle.rules.specs.LatestRelease.{numberedFrom, withDeadline, greatestDeadline, isCandidate, isLater, latestOf, isOther, lowered, taken, startOf, fits, place, timeAlone, latestRelease}
 use Rattle.rules.specs.Table.{recordBytes, heldIn, pairsIn, alone, isNumber, dataRow, headerBytes, controlBytes, dataBytes, tableBytes, startFor, rowsFrom, rowsThenZero, madeTable, tableFor, make}
-use Rattle.rules.specs.Checker.{controlRowOf, dataRowOf, tableOf, headerRight, controlAt, rowAt, sameControl, controlKept, nameOf, rowOf, isPairOf, sameName, heldBefore, isNew, namedIn, pairsOfRow, namesNew, timeKept, isReleasedBy, releaseKept, isDueFrom, deadlineKept, gapKept, firstRow, rowsKeep, shaped, timed, judged, checkFiles, holdsPair, rowHolding, checkedRow, check}
+use Rattle.rules.specs.Checker.{controlRowOf, dataRowOf, tableOf, headerRight, controlAt, rowAt, sameControl, controlKept, nameOf, rowOf, isPairOf, sameName, heldBefore, isNew, namedIn, pairsOfRow, namesNew, timeKept, isReleasedBy, releaseKept, isDueFrom, deadlineKept, gapKept, lastKept, firstRow, lastRow, rowsKeep, shaped, timed, judged, checkFiles, holdsPair, rowHolding, checkedRow, check}
 use Rattle.rules.specs.Jobs.{lentRows, lentBytes, zeroRows, bytesOf, file, changed, recordsA, planA, planAWith, framesA, tableA, rowsA, tableAWith, framesB, recordsJ, tableJ, framesJ, recordsS, recordsMany, recordsCounted, plenty, documentJobs, limits, tableAtC, tableCoarse, tableGap, tableEqual, tableRounded, tableLeast, tableEarly, tableTwoFaults, tableInGap, tableOff, framesOfFour, framesAtC, ownEntries, entries, holds}
 
 -- all that the jobs compute with
@@ -24,11 +24,11 @@ unfolding euclid gcd lcm ceil up down kinds known fields bodyLength planFollows 
     isRepeat invocationKeeps firstMode firstInvocation rule5 readPlan moduleNode taskNode invokes leaves isBusTask busTasks
     livesIn isSending standsOn sendersOn controlPayload isSendingNode sendingNodes runOf ofBusTask busRuns withRun periodOfRuns
     busPeriod withMode ofSender switchGrid message messagesOf messages pairOrder merged withPair pairsOf pairs pairOf basic isMessage has pairSize hasOf bytesIn isModeIn block payload rowTime
-    ticksOfBits sendingTime gapTime controlFrom controlRows controlEnd someBusTask messageFits controlFits payloadsFit layoutOf
+    ticksOfBits sendingTime gapTime cycleEnd controlFrom controlRows controlEnd someBusTask messageFits controlFits payloadsFit layoutOf
     layout deadlineAfter isStillAhead nextOf nextPlace isDue dueAt releaseFor pairAt foundThen walkRunsFrom walkRuns numberedFrom withDeadline greatestDeadline isCandidate isLater latestOf isOther lowered taken startOf fits
     place timeAlone latestRelease recordBytes heldIn pairsIn alone isNumber dataRow headerBytes controlBytes dataBytes tableBytes startFor rowsFrom
     rowsThenZero madeTable tableFor make controlRowOf dataRowOf tableOf headerRight controlAt rowAt sameControl controlKept
-    nameOf rowOf isPairOf sameName heldBefore isNew namedIn pairsOfRow namesNew timeKept isReleasedBy releaseKept isDueFrom deadlineKept gapKept firstRow rowsKeep shaped timed judged checkFiles
+    nameOf rowOf isPairOf sameName heldBefore isNew namedIn pairsOfRow namesNew timeKept isReleasedBy releaseKept isDueFrom deadlineKept gapKept lastKept firstRow lastRow rowsKeep shaped timed judged checkFiles
     holdsPair rowHolding checkedRow check lentRows lentBytes zeroRows bytesOf file changed recordsA planA planAWith framesA tableA rowsA tableAWith
     framesB recordsJ tableJ framesJ recordsS recordsMany recordsCounted plenty documentJobs limits tableAtC tableCoarse tableGap tableEqual tableRounded tableLeast tableEarly tableTwoFaults tableInGap
     tableOff framesOfFour framesAtC ownEntries entries

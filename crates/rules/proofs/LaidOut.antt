@@ -3,18 +3,23 @@
 use mathlib.Core.Path.{_≡_, refl, ap}
 use mathlib.Core.Bool.{true}
 use mathlib.Core.List.{List, [], _∷_}
-use native.Mathlib.Nat.{dvd-trans, le-of-dvd, pos-of-dvd-of-pos, div-mul-le-self, mul-le-mul-right}
+use native.Mathlib.Nat.{le-refl, dvd-trans, dvd-sub, dvd-mul-left, le-of-dvd, pos-of-dvd-of-pos, div-mul-le-self, mul-le-mul-right}
 use native.Mathlib.Omega.{arith}
 use borrow.Author.Tests.{eqb-true, eq-eqb}
 use lib.ListN.{length}
 use Prim.Native.Nat.{ℕ, suc, _+_, _*_, _/_, _≤_, _<_, _∣_, zero-le, suc-le-suc}
 use Rattle.laws.specs.Res.{ok}
 use Rattle.laws.specs.Lists.{keep, any, lastD, upTo}
+use Rattle.laws.specs.Numbers.{ceil, up}
 use Rattle.laws.proofs.Lists.{both-left, any-upTo-true, length-keep, length-upTo}
 use Rattle.laws.proofs.Members.{
   All,
   empty,
   also,
+  Chain,
+  no-link,
+  last-link,
+  link,
   all-weaker,
   all-member,
   all-of-members,
@@ -32,7 +37,7 @@ use Rattle.laws.proofs.Members.{
 use Rattle.rules.specs.Limits.{mostFrames}
 use Rattle.rules.specs.Plan.{Plan, noMode, theMode, theTask}
 use Rattle.rules.specs.Traffic.{Run, runOf, ofBusTask, busRuns, invokes, isBusTask, busTasks, livesIn, isSending, isSendingNode, sendingNodes, ofSender, switchGrid, busPeriod, message, messagesOf, messages, basic, controlPayload}
-use Rattle.rules.specs.Frames.{Pair, pairOf, pairs, sendingTime, gapTime, ControlRow, noControlRow, controlFrom, controlRows, controlEnd, someBusTask, payloadsFit, Layout, layoutOf, layout}
+use Rattle.rules.specs.Frames.{Pair, pairOf, pairs, sendingTime, gapTime, cycleEnd, ticksOfBits, ControlRow, noControlRow, controlFrom, controlRows, controlEnd, someBusTask, payloadsFit, Layout, layoutOf, layout}
 use Rattle.rules.proofs.Period.{switch-grid}
 use Rattle.rules.proofs.PairsOf.{plan-pairs}
 use Rattle.rules.proofs.PlanExact.{some-means, payloads-mean, layout-exact}
@@ -160,6 +165,20 @@ module _ (p : Plan) where
       (record { node = h; start = omega arith; stop = last-later (stop + gapTime (p .bus)) ns row (omega arith) })
       (control-from (stop + gapTime (p .bus)) row a)
 
+  -- each starts a gap behind the stop of the one before it
+  chain-from : (start : ℕ) (ns : List ℕ) → Chain (λ a b. a .stop + gapTime (p .bus) ≤ b .start) (controlFrom p start ns)
+  unfolding controlFrom
+  chain-from start [] = no-link
+  chain-from start (n ∷ []) = last-link
+  chain-from start (n ∷ m ∷ ns) =
+      let next = start + sendingTime (p .bus) (controlPayload p n) + gapTime (p .bus) in
+      link {y = record { node = m; start = next; stop = next + sendingTime (p .bus) (controlPayload p m) }} (le-refl next)
+      (chain-from next (m ∷ ns))
+
+  pub control-chain : Chain (λ a b. a .stop + gapTime (p .bus) ≤ b .start) (controlRows p)
+  unfolding controlRows
+  control-chain = chain-from 0 (sendingNodes p)
+
   nodes-there : All (λ n. n < p .nodes) (sendingNodes p)
   unfolding sendingNodes
   nodes-there = all-keep (isSendingNode p) (all-upTo (p .nodes))
@@ -186,3 +205,17 @@ module _ (p : Plan) where
   pub gap-within : gapTime (p .bus) ≤ controlEnd p
   unfolding controlEnd
   gap-within = omega arith
+
+-- ---- the end of a cycle
+
+module _ (p : Plan) {l : Layout} (h : LaidOut p l) where
+  -- nothing is cut off: the gap fits into P
+  pub end-whole : cycleEnd (p .bus) (busPeriod p) + gapTime (p .bus) ≡ busPeriod p
+  unfolding cycleEnd
+  end-whole = omega (arith, gap-within p, h .room)
+
+  pub end-on-grid : p .bus .resolution ∣ cycleEnd (p .bus) (busPeriod p)
+  unfolding cycleEnd gapTime ticksOfBits up
+  end-on-grid =
+      let ticks = ceil (p .bus .gap * 1000) (p .bus .rate) in
+      dvd-sub (p .bus .resolution) (h .onGrid) (dvd-mul-left (p .bus .resolution) (ceil ticks (p .bus .resolution)))

@@ -3,6 +3,7 @@ pub mod BodyNumbers
 pub mod CheckerExact
 pub mod Direct
 pub mod FollowsTold
+pub mod Gaps
 pub mod Grid
 pub mod Jobs
 pub mod LaidOut

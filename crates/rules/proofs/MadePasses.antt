@@ -41,14 +41,14 @@ use Rattle.rules.specs.Table.{
 use Rattle.rules.specs.Checker.{nameOf, rowOf, tableOf, Passed, checkFiles, checkedRow, check}
 use Rattle.rules.specs.Obeys.{AreRecords, pairAt, ObeysTable, MayPass, stopOf, RowPlacedWell, numbersIn, PlacedWell}
 use Rattle.rules.proofs.PlanKept.{PlanKept, readable-kept}
-use Rattle.rules.proofs.LaidOut.{LaidOut, laid-out, period-kept, PairKept, pairs-kept, control-kept, control-count, gap-within}
+use Rattle.rules.proofs.LaidOut.{LaidOut, laid-out, period-kept, PairKept, pairs-kept, control-kept, control-count, gap-within, end-whole}
 use Rattle.rules.proofs.PairsOf.{Before, plan-pairs}
 use Rattle.rules.proofs.Placing.{placed-well}
 use Rattle.rules.proofs.TableBytes.{ControlFits, DataFits, TableFits, tableRead, tableRecords, table-written, table-read}
 use Rattle.rules.proofs.WellPlaced.{rowPlaced, tablePlaced, well-obeys, well-rows}
 use Rattle.rules.proofs.CheckerExact.{passed-passes, lent-enough}
 
--- The table of these rows passes: its bytes are records, and what they say is the rows as placed; these keep 21 to 27, and the frame rows
+-- The table of these rows passes: its bytes are records, and what they say is the rows as placed; these keep 21 to 28, and the frame rows
 -- that the checker takes from them are those of the placing.
 pub record Passes (l : Layout) (rows : List PlacedRow) : Type 0 where
   pub read : List Rec
@@ -141,13 +141,13 @@ module _ (p : Plan) (k : PlanKept p) (h : LaidOut p (layoutOf p)) (rows : List P
   sorted = plan-pairs p .sorted
 
   passes : Passes l rows
-  unfolding layoutOf controlEnd
+  unfolding layoutOf controlEnd basic
   passes =
       record {
         read = tableRecords l rows;
         areRows = table-written l rows table-fits;
         is = table-read l rows ∙ read-placed;
-        obeys = well-obeys l sorted rows well (omega arith) count;
+        obeys = well-obeys l sorted rows well (omega arith) (h .room) (omega (arith, end-whole p h)) count;
         sameRows = well-rows l sorted rows well;
       }
 

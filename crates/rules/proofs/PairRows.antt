@@ -1,10 +1,10 @@
--- PairRows: the rows of a table that keeps 21 to 27, whatever its layout. They stand one behind the other, behind the control rows, and the
+-- PairRows: the rows of a table that keeps 21 to 28, whatever its layout. They stand one behind the other, behind the control rows, and the
 -- row that is found for a pair holds it. Where no row is empty and there are as many rows as pairs, each pair is in a row.
 use mathlib.Core.Path.{_≡_, refl, sym, ap, _∙_, subst}
 use mathlib.Core.Bool.{Bool, true, false}
 use mathlib.Core.List.{List, [], _∷_, List·Memᴰ, List·Memᴰ·head}
 use mathlib.Core.Logic.{_⊎_, inl, inr}
-use native.Mathlib.Nat.{not-suc-le-zero, le-of-suc-le-suc, eq-or-lt-of-le, zero-lt-suc}
+use native.Mathlib.Nat.{not-suc-le-zero, le-of-suc-le-suc, zero-lt-suc}
 use native.Mathlib.Omega.{arith}
 use borrow.Author.Tests.{ltb-true, ltb-false}
 use lib.Dec.{ltb}
@@ -12,7 +12,25 @@ use lib.ListN.{length, length-map, getD}
 use Prim.Native.Nat.{ℕ, zero, suc, _+_, _≤_, _<_, suc-le-suc}
 use Rattle.laws.specs.Lists.{lastD, upTo}
 use Rattle.laws.proofs.Lists.{true-false, tested, length-upTo}
-use Rattle.laws.proofs.Members.{all-weaker, all-member, all-map, all-upTo, any-member, any-among, pairs-map, source, pigeonhole, Differ}
+use Rattle.laws.proofs.Members.{
+  All,
+  Chain,
+  all-weaker,
+  all-member,
+  all-getD,
+  all-of-places,
+  all-map,
+  all-upTo,
+  any-member,
+  any-among,
+  pairs-map,
+  pairs-getD,
+  chain-of-places,
+  chain-pairs,
+  source,
+  pigeonhole,
+  Differ,
+}
 use Rattle.laws.proofs.Places.{pairs-tab}
 use Rattle.laws.proofs.Tests.{Tests, by-and, by-eq}
 use Rattle.rules.specs.Frames.{Pair, noControlRow, Layout}
@@ -21,26 +39,35 @@ use Rattle.rules.specs.Obeys.{pairAt, Names, Holds, NamesAll, noName, on
 
 -- ---- one behind the other
 
-module _ (l : Layout) (tr : TableRead) (obeys : ObeysTable l tr)
-    (lasts : (r : ℕ) → r < length (tr .rows) → rowAt tr r .start < rowAt tr r .stop) where
+-- no row stops before it starts, and the one starts a gap behind the stop of the other
+abbrev pub Lasts : Row → Type 0
+Lasts r = r .start ≤ r .stop
+
+abbrev pub Follows : ℕ → Row → Row → Type 0
+Follows gap r s = r .stop + gap ≤ s .start
+
+module _ (l : Layout) (tr : TableRead) (obeys : ObeysTable l tr) where
+  pub rows-last : All Lasts (tr .rows)
+  unfolding rowAt
+  rows-last =
+      all-of-places (tr .rows) noRow (λ r w. let n = obeys .names r w in omega (arith, obeys .time r w .stop (n .pairs) (n .names)))
+
+  pub rows-chain : Chain (Follows (l .gap)) (tr .rows)
+  unfolding rowAt
+  rows-chain = chain-of-places (tr .rows) noRow (λ k w. obeys .spaced (suc k) w)
+
   pub rows-apart : (j r : ℕ) → j < r → r < length (tr .rows) → rowAt tr j .stop ≤ rowAt tr r .start
-  rows-apart j zero h w = absurd (not-suc-le-zero h)
-  rows-apart j (suc r) h w =
-      let next : rowAt tr r .stop ≤ rowAt tr (suc r) .start = omega (arith, obeys .spaced (suc r) w) in
-      which next (rows-apart j r) (eq-or-lt-of-le (le-of-suc-le-suc h))
-    where
-      which : rowAt tr r .stop ≤ rowAt tr (suc r) .start → (j < r → r < length (tr .rows) → rowAt tr j .stop ≤ rowAt tr r .start)
-          → (j ≡ r) ⊎ (j < r) → rowAt tr j .stop ≤ rowAt tr (suc r) .start
-      which next rest (inl e) = rw e next
-      which next rest (inr k) =
-          let here : r < length (tr .rows) = omega arith in
-          omega (arith, rest k here, lasts r here)
+  unfolding rowAt
+  rows-apart j r h w =
+      let apart = chain-pairs {P = Lasts} (λ x y z a p b. omega arith) rows-last rows-chain in
+      omega (arith, pairs-getD noRow apart j r h w)
 
   pub row-behind : (r : ℕ) → r < length (tr .rows) → lastD (tr .control) noControlRow .stop + l .gap ≤ rowAt tr r .start
+  unfolding rowAt
   row-behind zero w = obeys .spaced 0 w
   row-behind (suc r) w =
       let first : 0 < length (tr .rows) = omega arith in
-      omega (arith, obeys .spaced 0 first, lasts 0 first, rows-apart 0 (suc r) (zero-lt-suc r) w)
+      omega (arith, obeys .spaced 0 first, all-getD noRow rows-last 0 first, rows-apart 0 (suc r) (zero-lt-suc r) w)
 
 -- ---- the row that holds a pair
 

@@ -11,7 +11,7 @@ use Rattle.laws.specs.Lists.{joined}
 use Rattle.laws.proofs.Members.{All, empty, also, all-weaker, all-of-members, all-unmap, member-getD}
 use Rattle.rules.specs.Plan.{Plan, theTask}
 use Rattle.rules.specs.Traffic.{basic, busPeriod}
-use Rattle.rules.specs.Frames.{Pair, pairs, sendingTime, gapTime, controlEnd, Layout, layoutOf}
+use Rattle.rules.specs.Frames.{Pair, pairs, sendingTime, gapTime, cycleEnd, controlEnd, Layout, layoutOf}
 use Rattle.rules.specs.LatestRelease.{numberedFrom, Placed, noPair, place, timeAlone, latestRelease}
 use Rattle.rules.specs.Table.{
   DataRow,
@@ -103,12 +103,13 @@ numbered-all k (also q r) = also q (numbered-all (suc k) r)
 module _ (p : Plan) (kept : PlanKept p) where
   -- the rule with these times
   pub rule-alone : latestRelease (layoutOf p)
-      ≡ place (p .bus .resolution) (gapTime (p .bus)) (controlEnd p) (pairTime p) (length (pairs p)) (busPeriod p) (numberedFrom 0 (pairs p)) []
+      ≡ place (p .bus .resolution) (gapTime (p .bus)) (controlEnd p) (pairTime p) (length (pairs p)) (cycleEnd (p .bus) (busPeriod p))
+      (numberedFrom 0 (pairs p)) []
   unfolding latestRelease layoutOf basic pairs
   rule-alone =
       let left = numberedFrom 0 (pairs p) in
       rw (← length-numbered 0 (pairs p))
-      (place-same (p .bus .resolution) (gapTime (p .bus)) (controlEnd p) (timeAlone (layoutOf p)) (pairTime p) (busPeriod p) left
+      (place-same (p .bus .resolution) (gapTime (p .bus)) (controlEnd p) (timeAlone (layoutOf p)) (pairTime p) (cycleEnd (p .bus) (busPeriod p)) left
       (numbered-distinct 0 (pairs p))
       (numbered-all 0 (all-of-members (pairs p) (time-alone p kept))))
 

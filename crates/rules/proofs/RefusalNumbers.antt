@@ -1,4 +1,4 @@
--- Which refusals each part can give: reading a plan 1 to 5, laying it out 6 to 11, reading a table 20, judging it 21 to 27.
+-- Which refusals each part can give: reading a plan 1 to 5, laying it out 6 to 11, reading a table 20, judging it 21 to 28.
 use mathlib.Core.Bool.{Bool}
 use mathlib.Core.List.{List}
 use native.Mathlib.Omega.{arith}
@@ -36,7 +36,9 @@ use Rattle.rules.specs.Checker.{
   releaseKept,
   deadlineKept,
   gapKept,
+  lastKept,
   firstRow,
+  lastRow,
   shaped,
   timed,
   judged,
@@ -76,28 +78,29 @@ layout-gives p =
     (gives-then (gives-unless 10 0 (payloadsFit p) (lit≤ tt) (lit≤ tt))
     (gives-then (gives-unless 11 0 (leb (controlEnd p) (basic p .period)) (lit≤ tt) (lit≤ tt)) (gives-ok (layoutOf p)))))))
 
-rows-give : (n : ℕ) (t : TableRead) (test : ℕ → Bool) → T (leb 21 n) → T (leb n 27) → Gives 21 27 (rowsKeep n t test)
+rows-give : (n : ℕ) (t : TableRead) (test : ℕ → Bool) → T (leb 21 n) → T (leb n 28) → Gives 21 28 (rowsKeep n t test)
 unfolding rowsKeep
 rows-give n t test a b = gives-at n (firstRow t) (firstBad test (upTo (length (t .rows)))) (lit≤ a) (lit≤ b)
 
-shaped-gives : (l : Layout) (t : TableRead) → Gives 21 27 (shaped l t)
+shaped-gives : (l : Layout) (t : TableRead) → Gives 21 28 (shaped l t)
 unfolding shaped
 shaped-gives l t =
     gives-then (gives-unless 21 0 (headerRight l t) (lit≤ tt) (lit≤ tt))
     (gives-then (gives-at 22 1 (firstBad (controlKept l t) (upTo (length (t .control)))) (lit≤ tt) (lit≤ tt))
     (gives-then (rows-give 23 t (namesNew l t) tt tt) (rows-give 24 t (timeKept l t) tt tt)))
 
-timed-gives : (l : Layout) (t : TableRead) → Gives 21 27 (timed l t)
+timed-gives : (l : Layout) (t : TableRead) → Gives 21 28 (timed l t)
 unfolding timed
 timed-gives l t =
     gives-then (rows-give 25 t (releaseKept l t) tt tt)
-    (gives-then (rows-give 26 t (deadlineKept t) tt tt) (rows-give 27 t (gapKept l t) tt tt))
+    (gives-then (rows-give 26 t (deadlineKept t) tt tt)
+    (gives-then (rows-give 27 t (gapKept l t) tt tt) (gives-unless 28 (lastRow t) (lastKept l t) (lit≤ tt) (lit≤ tt))))
 
-pub judged-gives : (l : Layout) (t : TableRead) → Gives 21 27 (judged l t)
+pub judged-gives : (l : Layout) (t : TableRead) → Gives 21 28 (judged l t)
 unfolding judged
 judged-gives l t = gives-then (shaped-gives l t) (timed-gives l t)
 
-pub passed-gives : (plan table : List ℕ) → Gives 1 27 (checkFiles plan table)
+pub passed-gives : (plan table : List ℕ) → Gives 1 28 (checkFiles plan table)
 unfolding checkFiles
 passed-gives plan table =
     gives-bind (gives-within (lit≤ tt) (lit≤ tt) (plan-gives plan)) λ p.

@@ -44,7 +44,9 @@ use Rattle.rules.specs.Checker.{
   isDueFrom,
   deadlineKept,
   gapKept,
+  lastKept,
   firstRow,
+  lastRow,
   rowsKeep,
   shaped,
   timed,
@@ -91,7 +93,7 @@ singleRelease pairs t k = leb (namedIn pairs (rowAt t k .opens) .release) (rowAt
 unfoldable pub singleDeadline : TableRead → ℕ → Bool
 singleDeadline t k = leb (rowAt t k .stop) (rowAt t k .opens .deadline)
 
--- refusals 21 to 27 over them, where a task has one time
+-- refusals 21 to 28 over them, where a task has one time
 unfoldable pub singleJudged : Layout → (ℕ → ℕ) → TableRead → Res (Unit {0})
 singleJudged l time t = do
   unless 21 0 (headerRight l t)
@@ -101,6 +103,7 @@ singleJudged l time t = do
   rowsKeep 25 t (singleRelease (l .pairs) t)
   rowsKeep 26 t (singleDeadline t)
   rowsKeep 27 t (gapKept l t)
+  unless 28 (lastRow t) (lastKept l t)
 
 -- ---- rule by rule
 
@@ -185,11 +188,11 @@ module _ (l : Layout) (apart : (f : Pair) → l .together (f ∷ []) ≡ true) (
       (λ k w. time-single l t single k w time
       (time-named k w (firstBad-upTo-passes (namesNew l t) (length (t .rows)) k named w)))
 
-  -- refusals 24 to 27
+  -- refusals 24 to 28
   abbrev rowsTimed : Res (Unit {0})
   rowsTimed =
       _>>_ (rowsKeep 24 t (singleTime l time t)) (_>>_ (rowsKeep 25 t (singleRelease (l .pairs) t))
-      (_>>_ (rowsKeep 26 t (singleDeadline t)) (rowsKeep 27 t (gapKept l t))))
+      (_>>_ (rowsKeep 26 t (singleDeadline t)) (_>>_ (rowsKeep 27 t (gapKept l t)) (unless 28 (lastRow t) (lastKept l t)))))
 
   times-judged : rowsKeep 23 t (namesNew l t) ≡ ok tt → _>>_ (rowsKeep 24 t (timeKept l t)) (timed l t) ≡ rowsTimed
   unfolding timed

@@ -24,11 +24,11 @@ use Rattle.rules.specs.OneBoard.{modeNow, sinceMode, periodNow, runEnds,
 use Rattle.rules.proofs.Jobs.{everything}
 
 -- Job A with a period of 60, run periods of 30 and 20 and a worst time of 3, and a mode c that invokes nothing, on a bus where a
--- message takes 4 ticks, a control frame and the gap 1 each. Task 1, on node 1, consumes task 0.
-plan : List ℕ
-plan =
+-- message takes 4 ticks, a control frame 1, eight bits of gap 1. Task 1, on node 1, consumes task 0.
+planWith : ℕ → List ℕ
+planWith gap =
     file
-    (rec 1 (8000 ∷ 0 ∷ 0 ∷ 254 ∷ 8 ∷ 1 ∷ [])
+    (rec 1 (8000 ∷ 0 ∷ 0 ∷ 254 ∷ gap ∷ 1 ∷ [])
     ∷ rec 2 (2 ∷ [])
     ∷ rec 3 (0 ∷ [])
     ∷ rec 3 (1 ∷ [])
@@ -43,6 +43,9 @@ plan =
     ∷ rec 6 (2 ∷ 1 ∷ 1 ∷ [])
     ∷ rec 7 (0 ∷ 1 ∷ [])
     ∷ [])
+
+plan : List ℕ
+plan = planWith 8
 
 -- a table with its four data rows, each of 4 ticks, at these starts
 row : ℕ → ℕ → Rec
@@ -318,7 +321,7 @@ jobK =
     ∷ refuses 43 0 [] []
     ∷ []
 
--- Rows that stop at their deadlines, the last at P.
+-- Rows that stop at their deadlines, the last at P, where no gap is asked for.
 lateTable : List ℕ
 lateTable = rows 16 26 36 56
 
@@ -390,7 +393,8 @@ tickAt clock (ok b) =
 pub jobs : List Bool
 jobs =
     playedFrom (begin plan earlyTable modeA) jobK
-    ∷ playedFrom (begin plan lateTable modeA) lateJob
+    ∷ playedFrom (begin (planWith 0) lateTable modeA) lateJob
+    ∷ isRefused (begin plan lateTable modeA) 28 5
     ∷ isRefused (begin plan (rows 2 8 23 43) modeA) 25 2
     ∷ isRefused (begin plan earlyTable (givenAt (0 is 2 ∷ 1 is 2 ∷ []))) 40 0
     ∷ isRefused (begin plan earlyTable (givenAt (0 is 3 ∷ []))) 40 1
@@ -404,7 +408,7 @@ pub isTrue : Bool → Bool
 isTrue b = b
 
 opened : Unit {0}
-unfolding everything plan row rows earlyTable numbers truths boards sheets at grid places listed laid frozen frozenKept
+unfolding everything planWith plan row rows earlyTable numbers truths boards sheets at grid places listed laid frozen frozenKept
     givenAt inputOf accepted sameRow answersRow ticks quietly act acts playedFrom modeA jobK lateTable lateJob zeroKept atTime
     tickAt jobs isTrue modeNow sinceMode periodNow runEnds resultWithin value isRun periodAmong periodIn passedPair passedRow
     keptOf stateAtStart homeNode runPeriod taskAge runAge isRunning isAwaited resultAwaited resultFits isLastChance

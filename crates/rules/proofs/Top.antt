@@ -11,13 +11,15 @@ use Prim.Native.Nat.{ℕ, _+_, _≤_, _<_}
 use Rattle.laws.specs.Res.{Res, ok, refuse}
 use Rattle.laws.specs.Faults.{AllKept}
 use Rattle.rules.specs.Limits.{mostFrames}
+use Rattle.rules.specs.Records.{Rec, records, tableFollows}
 use Rattle.rules.specs.Plan.{Plan, readPlan}
 use Rattle.rules.specs.Traffic.{taskNode, busPeriod, switchGrid, basic}
-use Rattle.rules.specs.Frames.{pairOf, pairs, Layout, layoutOf, layout}
+use Rattle.rules.specs.Frames.{pairOf, pairs, gapTime, Layout, layoutOf, layout}
 use Rattle.rules.specs.LatestRelease.{Placed, latestRelease}
 use Rattle.rules.specs.RuleSteps.{RuleGives}
 use Rattle.rules.specs.Table.{FrameRow, make}
-use Rattle.rules.specs.Checker.{check}
+use Rattle.rules.specs.Checker.{tableOf, check}
+use Rattle.rules.specs.Gaps.{GapsKept}
 use Rattle.rules.specs.Obeys.{MayPass, BrokenAt, MakesTable, RuleRefuses}
 use Rattle.rules.specs.ObeysPlan.{ReadsAs, layoutRules}
 use Rattle.rules.specs.Playing.{Input}
@@ -33,6 +35,7 @@ use Rattle.rules.proofs.RuleSteps as steps
 use Rattle.rules.proofs.CheckerExact.{checker-exact, rule-exact}
 use Rattle.rules.proofs.MadePasses.{made-checks}
 use Rattle.rules.proofs.Room.{make-exact, twelve-exact}
+use Rattle.rules.proofs.Gaps.{frames-apart}
 use Rattle.rules.proofs.AllowedExact.{history-told}
 use Rattle.rules.proofs.TransparentTold.{shown-told, shown-told-own}
 
@@ -74,8 +77,8 @@ pub it-passes-exactly : (plan table : List ℕ) (rows : List FrameRow)
     → (check plan table rows .answer ≡ ok tt) ↔ ((mostFrames ≤ length rows) × MayPass plan table)
 it-passes-exactly = checker-exact
 
--- It gives one of 21 to 27 exactly when all before it are kept and this one is broken, at its lowest record.
-pub it-refuses-exactly : (plan table : List ℕ) (rows : List FrameRow) (i p : ℕ) → i < 7
+-- It gives one of 21 to 28 exactly when all before it are kept and this one is broken, at its lowest record.
+pub it-refuses-exactly : (plan table : List ℕ) (rows : List FrameRow) (i p : ℕ) → i < 8
     → (check plan table rows .answer ≡ refuse (21 + i) p) ↔ ((mostFrames ≤ length rows) × BrokenAt plan table i p)
 it-refuses-exactly = rule-exact
 
@@ -93,6 +96,11 @@ no-room-exactly = twelve-exact
 pub what-is-made-passes : (plan : List ℕ) (rows : List FrameRow) (buffer : List ℕ) (n : ℕ) → make plan rows buffer .answer ≡ ok n
     → (lent : List FrameRow) → mostFrames ≤ length lent → check plan (take n (make plan rows buffer .buffer)) lent .answer ≡ ok tt
 what-is-made-passes = made-checks
+
+-- In a table that passes no two frames, of one cycle or of different ones, stand closer than the gap time.
+pub frames-stand-apart : (plan table : List ℕ) (rows : List FrameRow) → check plan table rows .answer ≡ ok tt
+    → (p : Plan) → readPlan plan ≡ ok p → (rs : List Rec) → records tableFollows 20 table ≡ ok rs → GapsKept (gapTime (p .bus)) (tableOf rs)
+frames-stand-apart = frames-apart
 
 -- ---- Demand 3: what boards show
 

@@ -12,8 +12,8 @@ use Rattle.laws.specs.Lists.{upTo}
 use Rattle.laws.specs.Numbers.{ceil}
 use Rattle.laws.proofs.Lists.{both, true-false}
 use Rattle.laws.proofs.Divisors.{ceil-enough, up-enough}
-use Rattle.laws.proofs.Members.{All, empty, also, all-weaker, all-member, all-getD, all-of-places, Pairs, alone, before as then}
-use Rattle.laws.proofs.Members.{pairs-getD, member-getD, member-tab, keep-member, keep-passes}
+use Rattle.laws.proofs.Members.{All, empty, also, all-weaker, all-member, all-getD, all-of-places}
+use Rattle.laws.proofs.Members.{pairs-getD, chain-pairs, member-getD, member-tab, keep-member, keep-passes}
 use Rattle.laws.proofs.Orders.{compare-case}
 use Rattle.laws.proofs.Places.{member-place, member-some}
 use Rattle.laws.proofs.Tests.{by-same, by-itself}
@@ -29,7 +29,7 @@ use Rattle.rules.specs.Station.{Kept, keptOf, passedPair, passedRow, hom
 use Rattle.rules.specs.Obeys.{pairAt, NamesAll, noName, oneName, ObeysTable}
 use Rattle.rules.proofs.Period.{period, switch-grid}
 use Rattle.rules.proofs.PlanKept.{PlanKept, BusKept, ModeKept, TaskKept}
-use Rattle.rules.proofs.LaidOut.{LaidOut, sender, period-kept, pairs-kept, control-kept}
+use Rattle.rules.proofs.LaidOut.{LaidOut, sender, period-kept, pairs-kept, control-kept, control-chain}
 use Rattle.rules.proofs.Sent.{RunAmong, run-in, has-means, sent-pair, pair-release}
 use Rattle.rules.proofs.Payload.{time-alone}
 use Rattle.rules.proofs.PairRows.{rows-apart, row-behind, RidesIn, rides, pair-row}
@@ -111,23 +111,7 @@ pub record NodeRow (rows : List ControlRow) (n : ℕ) : Type 0 where
 abbrev pub Lasts : ControlRow → Type 0
 Lasts r = r .start < r .stop
 
-abbrev pub Follows : ControlRow → ControlRow → Type 0
-Follows a b = a .stop ≤ b .start
-
 module _ (p : Plan) where
-  control-later : (low start : ℕ) (ns : List ℕ) → low ≤ start → All (λ r. low ≤ r .start) (controlFrom p start ns)
-  unfolding controlFrom
-  control-later low start [] h = empty
-  control-later low start (n ∷ ns) h =
-      also h (control-later low (start + sendingTime (p .bus) (controlPayload p n) + gapTime (p .bus)) ns (omega arith))
-
-  control-apart : (start : ℕ) (ns : List ℕ) → Pairs Follows (controlFrom p start ns)
-  unfolding controlFrom
-  control-apart start [] = alone
-  control-apart start (n ∷ ns) =
-      let stop = start + sendingTime (p .bus) (controlPayload p n) in
-      then (control-later stop (stop + gapTime (p .bus)) ns (omega arith)) (control-apart (stop + gapTime (p .bus)) ns)
-
   control-lasts : BusKept (p .bus) → (start : ℕ) {ns : List ℕ} → All (λ n. 0 < controlPayload p n) ns → All Lasts (controlFrom p start ns)
   unfolding controlFrom
   control-lasts b start empty = empty
@@ -233,11 +217,13 @@ module _ (p : Plan) (kept : PlanKept p) {l : Layout} (laid : LaidOut p l) (tr : 
       rw rows (all-getD noControlRow (control-lasts p (kept .bus) 0 (senders-some p)) r v)
 
   control-rows-apart : (j r : ℕ) → j < r → r < length (tr .control) → controlAt (tr .control) j .stop ≤ controlAt (tr .control) r .start
-  unfolding controlAt controlRows
+  unfolding controlAt
   control-rows-apart j r h w =
       let rows = control-same p kept tr obeys in
       let v : r < length (controlRows p) = rw rows at w in
-      rw rows (pairs-getD noControlRow (control-apart p 0 (sendingNodes p)) j r h v)
+      let apart = chain-pairs {P = λ b. b .start ≤ b .stop} (λ x y z a b c. omega arith) (all-weaker (λ b k. k .start) (control-kept p)) (control-chain p) in
+      let far : controlAt (controlRows p) j .stop ≤ controlAt (controlRows p) r .start = omega (arith, pairs-getD noControlRow apart j r h v) in
+      rw rows far
 
   -- it stops before any data row starts
   control-row-early : (j r : ℕ) → j < length (tr .control) → r < length (tr .rows) → controlAt (tr .control) j .stop ≤ rowAt tr r .start
@@ -246,7 +232,7 @@ module _ (p : Plan) (kept : PlanKept p) {l : Layout} (laid : LaidOut p l) (tr : 
       let rows = control-same p kept tr obeys in
       let u : j < length (controlRows p) = rw rows at v in
       let early : controlAt (tr .control) j .stop ≤ controlEnd p = rw rows (all-getD noControlRow (control-kept p) j u .stop) in
-      let start : controlEnd p ≤ rowAt tr r .start = rw (← rows) (row-behind (layoutOf p) tr obeys (row-lasts p kept tr obeys) r w) in
+      let start : controlEnd p ≤ rowAt tr r .start = rw (← rows) (row-behind (layoutOf p) tr obeys r w) in
       omega arith
 
   -- ---- the row of each pair
@@ -262,7 +248,7 @@ module _ (p : Plan) (kept : PlanKept p) {l : Layout} (laid : LaidOut p l) (tr : 
   pairs-apart q r v w =
       let a = row-of q v in
       let b = row-of r w in
-      let apart = rows-apart (layoutOf p) tr obeys (row-lasts p kept tr obeys) in
+      let apart = rows-apart (layoutOf p) tr obeys in
       compare-case (a .0) (b .0)
       (λ h e. before (rw (a .1 .is, b .1 .is) (apart (a .0) (b .0) h (b .1 .holds .there))))
       (λ h e. oneRow (rw (a .1 .is, b .1 .is, h)) (rw (a .1 .is, b .1 .is, h)))

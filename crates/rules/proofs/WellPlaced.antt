@@ -1,4 +1,4 @@
--- WellPlaced: a table whose rows are placed well (`Obeys.PlacedWell`) keeps 21 to 27, whatever placed them and however many pairs a row
+-- WellPlaced: a table whose rows are placed well (`Obeys.PlacedWell`) keeps 21 to 28, whatever placed them and however many pairs a row
 -- holds; and the frame rows that the checker takes from it are those of the placing. Nothing here knows of bytes.
 use mathlib.Core.Path.{_≡_, refl, sym, ap, _∙_, subst}
 use mathlib.Core.Bool.{Bool, true, false, cond}
@@ -31,7 +31,7 @@ use Rattle.laws.proofs.Places.{member-joined}
 use Rattle.rules.specs.Frames.{Pair, noControlRow, Layout}
 use Rattle.rules.specs.LatestRelease.{Numbered, noPair, noNumbered}
 use Rattle.rules.specs.Table.{PlacedRow, pairOfNumbered, heldIn, pairsIn, isNumber, startFor, rowsFrom}
-use Rattle.rules.specs.Checker.{Named, Row, TableRead, rowAt, noRow as noTableRow, isPairOf, holdsPair, rowHolding, checkedRow}
+use Rattle.rules.specs.Checker.{Named, Row, TableRead, rowAt, stopBefore, noRow as noTableRow, isPairOf, holdsPair, rowHolding, checkedRow}
 use Rattle.rules.specs.Obeys.{
   pairAt,
   Names,
@@ -240,9 +240,16 @@ module _ (l : Layout) (sorted : Pairs Before (l .pairs)) where
           let start : rowAt t (suc j) .start ≡ put (suc j) .start = ap (λ (r : Row). r .start) (row-is (suc j) w) in
           rw (stop, start) (gap-between (well .spaced) j w)
 
-      -- where C lies a gap behind the last control row, and there are as many rows as pairs
-      pub well-obeys : length rows ≡ length (l .pairs) → ObeysTable l t
-      well-obeys count =
+      -- the last row stops by the end, or is a control row
+      ends : l .floor ≤ l .period → l .end + l .gap ≤ l .period → (n : ℕ) → n ≤ length rows → stopBefore t n + l .gap ≤ l .period
+      ends low closes zero w = omega (arith, behind)
+      ends low closes (suc j) w =
+          let stop : rowAt t j .stop ≡ stopOf l (put j) = ap (λ (r : Row). r .stop) (row-is j w) in
+          rw stop (omega (arith, row-well j w .byEnd))
+
+      -- where C lies a gap behind the last control row and within P, the end a gap before P, and there are as many rows as pairs
+      pub well-obeys : l .floor ≤ l .period → l .end + l .gap ≤ l .period → length rows ≡ length (l .pairs) → ObeysTable l t
+      well-obeys low closes count =
           record {
             header = record { period = refl; controls = refl; datas = count; controlRows = refl; dataRows = rows-count ∙ count };
             control = λ j w. refl;
@@ -251,6 +258,7 @@ module _ (l : Layout) (sorted : Pairs Before (l .pairs)) where
             released = λ j w. released j (rw rows-count at w);
             inTime = λ j w. in-time j (rw rows-count at w);
             spaced = λ j w. spaced j (rw rows-count at w);
+            ends = ends low closes (length (t .rows)) (omega (arith, rows-count));
           }
 
     -- ---- the frame rows

@@ -1,4 +1,4 @@
--- docs/RULES.md, section 7: the checker, refusals 20 to 27, and `check` with the lent rows, on every outcome (readings 17 to 21).
+-- docs/RULES.md, section 7: the checker, refusals 20 to 28, and `check` with the lent rows, on every outcome (readings 17 to 21).
 use mathlib.Core.Bool.{Bool, true, false, cond, not, _&&_}
 use mathlib.Core.List.{List, [], _∷_, map}
 use lib.Dec.{eqb, leb}
@@ -137,16 +137,24 @@ stopBefore t (suc k) = rowAt t k .stop
 unfoldable pub gapKept : Layout → TableRead → ℕ → Bool
 gapKept l t k = leb (stopBefore t k + l .gap) (rowAt t k .start)
 
+-- Refusal 28 (rule 7.28): the last row stops a gap or more before P, when the next cycle's first control row starts.
+unfoldable pub lastKept : Layout → TableRead → Bool
+lastKept l t = leb (stopBefore t (length (t .rows)) + l .gap) (l .period)
+
 -- the record of the first data row: the head is record 0, the control rows follow it (reading 6)
 unfoldable pub firstRow : TableRead → ℕ
 firstRow t = 1 + length (t .control)
+
+-- and that of the last
+unfoldable pub lastRow : TableRead → ℕ
+lastRow t = length (t .control) + length (t .rows)
 
 -- refusal n at the lowest data row that fails the test
 unfoldable pub rowsKeep : ℕ → TableRead → (ℕ → Bool) → Res (Unit {0})
 rowsKeep n t test = at n (firstRow t) (firstBad test (upTo (length (t .rows))))
 
--- Refusals 21 to 27 by rule 7.2: each over all its rows before the next, and at the lowest record that breaks it. First the shape of the
--- rows (21 to 24), then when they are sent (25 to 27).
+-- Refusals 21 to 28 by rule 7.2: each over all its rows before the next, and at the lowest record that breaks it. First the shape of the
+-- rows (21 to 24), then when they are sent (25 to 28).
 unfoldable pub shaped : Layout → TableRead → Res (Unit {0})
 shaped l t = do
   unless 21 0 (headerRight l t)
@@ -159,6 +167,7 @@ timed l t = do
   rowsKeep 25 t (releaseKept l t)
   rowsKeep 26 t (deadlineKept t)
   rowsKeep 27 t (gapKept l t)
+  unless 28 (lastRow t) (lastKept l t)
 
 unfoldable pub judged : Layout → TableRead → Res (Unit {0})
 judged l t = do
@@ -172,7 +181,7 @@ pub record Passed : Type 0 where
   pub layout : Layout
   pub table : TableRead
 
--- Rules 7.1 to 7.3: 1 to 11 of the plan, then 20 to 27 of the table; otherwise it passes.
+-- Rules 7.1 to 7.3: 1 to 11 of the plan, then 20 to 28 of the table; otherwise it passes.
 unfoldable pub checkFiles : List ℕ → List ℕ → Res Passed
 checkFiles plan table = do
   p ← readPlan plan

@@ -4,7 +4,7 @@ use mathlib.Core.Bool.{Bool, true, false, _&&_}
 use mathlib.Core.List.{List, [], _∷_, map, foldr}
 use lib.Dec.{eqb, leb}
 use lib.ListN.{length}
-use Prim.Native.Nat.{ℕ, _+_, _*_, max, compare, Ordering, Ordering·lt, Ordering·eq, Ordering·gt}
+use Prim.Native.Nat.{ℕ, _+_, _-_, _*_, max, compare, Ordering, Ordering·lt, Ordering·eq, Ordering·gt}
 use Rattle.laws.specs.Res.{Res, ok, _>>_, unless}
 use Rattle.laws.specs.Lists.{keep, any, all, lastD, upTo}
 use Rattle.laws.specs.Numbers.{divides, ceil, up, sum, greatest}
@@ -95,6 +95,10 @@ sendingTime b s = ticksOfBits b (8 * (b .overhead + max s (b .least)))
 unfoldable pub gapTime : Bus → ℕ
 gapTime b = ticksOfBits b (b .gap)
 
+-- Rule 5.1: where the rows of a cycle end at the latest: a gap before the next cycle begins.
+unfoldable pub cycleEnd : Bus → ℕ → ℕ
+cycleEnd b period = period - gapTime b
+
 pub record ControlRow : Type 0 where
   pub node : ℕ
   pub start : ℕ
@@ -163,7 +167,7 @@ layoutOf p =
       gap = gapTime (p .bus);
       grid = p .bus .resolution;
       floor = controlEnd p;
-      end = t .period;
+      end = cycleEnd (p .bus) (t .period);
       control = controlRows p;
       pairs = pairsOf (t .messages);
       time = rowTime p (t .messages);

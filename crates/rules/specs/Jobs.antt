@@ -156,7 +156,7 @@ tableA =
     ∷ 0x12 ∷ 0x00 ∷ 0x20 ∷ 0x4E ∷ 0x00 ∷ 0x00 ∷ 0xC0 ∷ 0x4D ∷ 0x00 ∷ 0x00 ∷ 0x20 ∷ 0x4E ∷ 0x00 ∷ 0x00
     ∷ 0x12 ∷ 0x00 ∷ 0x30 ∷ 0x75 ∷ 0x00 ∷ 0x00 ∷ 0xD0 ∷ 0x74 ∷ 0x00 ∷ 0x00 ∷ 0x30 ∷ 0x75 ∷ 0x00 ∷ 0x00
     ∷ 0x12 ∷ 0x00 ∷ 0x40 ∷ 0x9C ∷ 0x00 ∷ 0x00 ∷ 0xE0 ∷ 0x9B ∷ 0x00 ∷ 0x00 ∷ 0x40 ∷ 0x9C ∷ 0x00 ∷ 0x00
-    ∷ 0x12 ∷ 0x00 ∷ 0x60 ∷ 0xEA ∷ 0x00 ∷ 0x00 ∷ 0x00 ∷ 0xEA ∷ 0x00 ∷ 0x00 ∷ 0x60 ∷ 0xEA ∷ 0x00 ∷ 0x00
+    ∷ 0x12 ∷ 0x00 ∷ 0x60 ∷ 0xEA ∷ 0x00 ∷ 0x00 ∷ 0xF6 ∷ 0xE9 ∷ 0x00 ∷ 0x00 ∷ 0x56 ∷ 0xEA ∷ 0x00 ∷ 0x00
     ∷ 0x00 ∷ []
 
 -- job A's table as records, and with one record put in another's place
@@ -167,19 +167,19 @@ rowsA =
     ∷ rec 18 (0 ∷ 20000 ∷ 19904 ∷ 20000 ∷ [])
     ∷ rec 18 (0 ∷ 30000 ∷ 29904 ∷ 30000 ∷ [])
     ∷ rec 18 (0 ∷ 40000 ∷ 39904 ∷ 40000 ∷ [])
-    ∷ rec 18 (0 ∷ 60000 ∷ 59904 ∷ 60000 ∷ [])
+    ∷ rec 18 (0 ∷ 60000 ∷ 59894 ∷ 59990 ∷ [])
     ∷ []
 
 unfoldable pub tableAWith : ℕ → Rec → List ℕ
 tableAWith k r = file (set rowsA k r)
 
--- Job B: the same frames where the first task needs 19,904 ticks at worst.
+-- Job B: the same frames where the first task needs 19,894 ticks at worst.
 unfoldable pub framesB : List FrameRow
 framesB =
-    frameRow 0 19904 20000 19904
-    ∷ frameRow 0 19904 30000 29904
-    ∷ frameRow 0 39904 40000 39904
-    ∷ frameRow 0 59904 60000 59904
+    frameRow 0 19894 20000 19904
+    ∷ frameRow 0 19894 30000 29904
+    ∷ frameRow 0 39894 40000 39904
+    ∷ frameRow 0 59894 60000 59894
     ∷ []
 
 -- Job J: X, Y, Z and what consumes them (reading 36), and the table that passes though the rule refuses.
@@ -281,15 +281,15 @@ plenty = 120
 unfoldable pub documentJobs : List Entry
 documentJobs =
     hasMessages planA 5  -- A
-    ∷ made planA 75 tableA (framesA 19904 29904 39904 59904)
-    ∷ made (planAWith 7 2 19904) 75 tableA framesB  -- B
-    ∷ notMade (planAWith 7 2 19905) 75 12 3
+    ∷ made planA 75 tableA (framesA 19904 29904 39904 59894)
+    ∷ made (planAWith 7 2 19894) 75 tableA framesB  -- B
+    ∷ notMade (planAWith 7 2 19895) 75 12 3
     ∷ notMade planA 74 13 75  -- C
     ∷ notMade [] plenty 1 0  -- D
     ∷ notMade (planAWith 0 5 7) plenty 8 0  -- E
-    ∷ passes planA (tableAWith 2 (rec 18 (0 ∷ 20000 ∷ 1000 ∷ 1096 ∷ []))) (framesA 1000 29904 39904 59904)  -- G
+    ∷ passes planA (tableAWith 2 (rec 18 (0 ∷ 20000 ∷ 1000 ∷ 1096 ∷ []))) (framesA 1000 29904 39904 59894)  -- G
     ∷ fails planA (tableAWith 2 (rec 18 (0 ∷ 20000 ∷ 999 ∷ 1095 ∷ []))) 25 2
-    ∷ passes planA (tableAWith 3 (rec 18 (0 ∷ 30000 ∷ 20010 ∷ 20106 ∷ []))) (framesA 19904 20010 39904 59904)  -- H
+    ∷ passes planA (tableAWith 3 (rec 18 (0 ∷ 30000 ∷ 20010 ∷ 20106 ∷ []))) (framesA 19904 20010 39904 59894)  -- H
     ∷ fails planA (tableAWith 3 (rec 18 (0 ∷ 30000 ∷ 20005 ∷ 20101 ∷ []))) 27 3
     ∷ fails planA (tableAWith 4 (rec 18 (0 ∷ 40000 ∷ 39905 ∷ 40001 ∷ []))) 26 4  -- I
     ∷ notMade (file recordsJ) plenty 12 0  -- J
@@ -358,7 +358,7 @@ tableCoarse =
     ∷ rec 18 (1 ∷ 60 ∷ 56 ∷ 60 ∷ [])
     ∷ [])
 
--- a gap of one tick between neighbours; the later release is placed last
+-- a gap of one tick between neighbours, and behind the last; the later release is placed last
 unfoldable pub tableGap : List ℕ
 tableGap =
     file
@@ -367,8 +367,8 @@ tableGap =
     ∷ rec 18 (1 ∷ 15 ∷ 13 ∷ 15 ∷ [])
     ∷ rec 18 (1 ∷ 30 ∷ 28 ∷ 30 ∷ [])
     ∷ rec 18 (1 ∷ 45 ∷ 43 ∷ 45 ∷ [])
-    ∷ rec 18 (0 ∷ 60 ∷ 56 ∷ 57 ∷ [])
-    ∷ rec 18 (1 ∷ 60 ∷ 58 ∷ 60 ∷ [])
+    ∷ rec 18 (0 ∷ 60 ∷ 55 ∷ 56 ∷ [])
+    ∷ rec 18 (1 ∷ 60 ∷ 57 ∷ 59 ∷ [])
     ∷ [])
 
 -- among equal releases the larger number is placed last
@@ -381,7 +381,7 @@ tableEqual =
     ∷ rec 18 (1 ∷ 60 ∷ 58 ∷ 60 ∷ [])
     ∷ [])
 
--- job A at 7,000 kbit/s: every time is rounded up to a tick
+-- job A at 7,000 kbit/s: every time is rounded up to a tick, and ten bits of gap are two
 unfoldable pub tableRounded : List ℕ
 tableRounded =
     file
@@ -390,7 +390,7 @@ tableRounded =
     ∷ rec 18 (0 ∷ 20000 ∷ 19986 ∷ 20000 ∷ [])
     ∷ rec 18 (0 ∷ 30000 ∷ 29986 ∷ 30000 ∷ [])
     ∷ rec 18 (0 ∷ 40000 ∷ 39986 ∷ 40000 ∷ [])
-    ∷ rec 18 (0 ∷ 60000 ∷ 59986 ∷ 60000 ∷ [])
+    ∷ rec 18 (0 ∷ 60000 ∷ 59984 ∷ 59998 ∷ [])
     ∷ [])
 
 -- job A with a least payload of 10 bytes
@@ -402,7 +402,7 @@ tableLeast =
     ∷ rec 18 (0 ∷ 20000 ∷ 19856 ∷ 20000 ∷ [])
     ∷ rec 18 (0 ∷ 30000 ∷ 29856 ∷ 30000 ∷ [])
     ∷ rec 18 (0 ∷ 40000 ∷ 39856 ∷ 40000 ∷ [])
-    ∷ rec 18 (0 ∷ 60000 ∷ 59856 ∷ 60000 ∷ [])
+    ∷ rec 18 (0 ∷ 60000 ∷ 59846 ∷ 59990 ∷ [])
     ∷ [])
 
 -- job A with every row as early as its release and the row before it allow: a passing table whose rows stop long before their deadlines
@@ -429,7 +429,7 @@ tableTwoFaults =
     ∷ rec 18 (0 ∷ 60000 ∷ 40999 ∷ 41095 ∷ [])
     ∷ [])
 
--- a first row that begins inside the gap behind the control row
+-- a first row that begins inside the gap behind the control row, and a last row that stops at P
 unfoldable pub tableInGap : List ℕ
 tableInGap =
     file
@@ -477,10 +477,10 @@ ownEntries =
     made (file (recordsS 0 1 8 6)) plenty tableAtC framesAtC  -- C binds
     ∷ notMade (file (recordsS 8 1 8 6)) plenty 12 0
     ∷ made (file (recordsS 0 4 2 4)) plenty tableCoarse (framesOfFour 8 24 40 52 56)
-    ∷ made (file (recordsS 8 1 2 4)) plenty tableGap (framesOfFour 13 28 43 56 58)
+    ∷ made (file (recordsS 8 1 2 4)) plenty tableGap (framesOfFour 13 28 43 55 57)
     ∷ made (file (recordsS 0 1 2 1)) plenty tableEqual (frameRow 0 1 60 57 ∷ frameRow 1 1 60 58 ∷ [])
-    ∷ made (planAWith 0 0 7000) plenty tableRounded (framesA 19986 29986 39986 59986)
-    ∷ made (planAWith 0 2 10) plenty tableLeast (framesA 19856 29856 39856 59856)
+    ∷ made (planAWith 0 0 7000) plenty tableRounded (framesA 19986 29986 39986 59984)
+    ∷ made (planAWith 0 2 10) plenty tableLeast (framesA 19856 29856 39856 59846)
     ∷ notMade (planA ++ (0 ∷ [])) plenty 1 86  -- 1: behind the end record
     ∷ notMade (take 40 planA) plenty 1 40  -- 1: the file ends inside a body
     ∷ notMade (take 85 planA) plenty 1 85  -- 1: no end record
@@ -531,7 +531,10 @@ ownEntries =
     ∷ passes planA (tableAWith 5 (rec 18 (0 ∷ 60000 ∷ 41000 ∷ 41096 ∷ []))) (framesA 19904 29904 39904 41000)
     ∷ fails (file (changed (changed recordsA 9 2 3) 10 2 2)) (tableAWith 5 (rec 18 (0 ∷ 60000 ∷ 40999 ∷ 41095 ∷ []))) 25 5  -- the modes the other way round
     ∷ fails planA tableTwoFaults 25 5  -- a lower number goes before a lower record
-    ∷ fails (file (recordsS 8 1 2 4)) tableInGap 27 2  -- 27: the last control row counts
+    ∷ fails (file (recordsS 8 1 2 4)) tableInGap 27 2  -- 27: the last control row counts; 27 goes before 28
+    ∷ passes planA tableA (framesA 19904 29904 39904 59894)  -- the last stop and the gap come to P
+    ∷ fails planA (tableAWith 5 (rec 18 (0 ∷ 60000 ∷ 59895 ∷ 59991 ∷ []))) 28 5  -- 28: a tick more
+    ∷ fails planA (tableAWith 5 (rec 18 (0 ∷ 60000 ∷ 59904 ∷ 60000 ∷ []))) 28 5  -- 28: the row stops at P
     ∷ fails (file recordsJ) tableA 21 0
     ∷ []
 

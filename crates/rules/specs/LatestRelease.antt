@@ -93,7 +93,7 @@ unfoldable pub timeAlone : Layout → Pair → ℕ
 timeAlone l f = l .time (f ∷ [])
 
 -- The starts that the latest-release rule gives, by start; or refusal 12 at the number of the pair that it could not place. Rule 5.1: the
--- first end is that of the layout.
+-- first end is that of the layout, a gap before P.
 unfoldable pub latestRelease : Layout → Res (List Placed)
 latestRelease l =
     place (l .grid) (l .gap) (l .floor) (timeAlone l) (length (l .pairs)) (l .end) (numberedFrom 0 (l .pairs)) []

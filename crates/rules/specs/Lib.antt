@@ -8,6 +8,7 @@ pub mod LatestRelease
 pub mod RuleSteps
 pub mod Table
 pub mod Checker
+pub mod Gaps
 pub mod Jobs
 pub mod Playing
 pub mod Station

@@ -6,14 +6,14 @@ use mathlib.Core.Option.{Option, none, some}
 use lib.ListN.{length, getD, take}
 use Prim.Native.Nat.{ℕ, suc, _+_, _^_, _≤_, _<_, _∣_}
 use Rattle.laws.specs.Res.{ok, refuse}
-use Rattle.laws.specs.Faults.{Rule, BreaksAt, AllKept, FirstFault}
+use Rattle.laws.specs.Faults.{Rule, once, BreaksAt, AllKept, FirstFault}
 use Rattle.laws.specs.Lists.{joined}
 use Rattle.rules.specs.Records.{Rec, known, bodyLength, recordOf, tableFollows}
 use Rattle.rules.specs.Plan.{Plan, readPlan}
 use Rattle.rules.specs.Frames.{Pair, Layout, layout}
 use Rattle.rules.specs.LatestRelease.{Numbered, Placed, noPair, latestRelease}
 use Rattle.rules.specs.Table.{PlacedRow, heldIn, pairsIn, alone, tableBytes}
-use Rattle.rules.specs.Checker.{Named, TableRead, tableOf, controlAt, rowAt, stopBefore, firstRow, Passed, checkFiles}
+use Rattle.rules.specs.Checker.{Named, TableRead, tableOf, controlAt, rowAt, stopBefore, firstRow, lastRow, Passed, checkFiles}
 use Rattle.rules.specs.Playing.{modulePlaces, taskPlaces, Input}
 use Rattle.rules.specs.Station.{Kept, keptOf, State, stateAtStart, runPeriod, taskAge, runAge, Begun}
 
@@ -109,7 +109,11 @@ IsInTime t k = (n : Named) → Holds t k n → rowAt t k .stop ≤ n .deadline
 abbrev pub IsSpaced : Layout → TableRead → ℕ → Type 0
 IsSpaced l t k = stopBefore t k + l .gap ≤ rowAt t k .start
 
--- What a table must keep to pass: 21 to 27.
+-- 28: the last row stops a gap or more before P.
+abbrev pub EndsInTime : Layout → TableRead → Type 0
+EndsInTime l t = stopBefore t (length (t .rows)) + l .gap ≤ l .period
+
+-- What a table must keep to pass: 21 to 28.
 pub record ObeysTable (l : Layout) (t : TableRead) : Type 0 where
   pub header : HeaderIsRight l t
   pub control : (k : ℕ) → k < length (t .control) → IsFixed l t k
@@ -118,6 +122,7 @@ pub record ObeysTable (l : Layout) (t : TableRead) : Type 0 where
   pub released : (k : ℕ) → k < length (t .rows) → IsReleased l t k
   pub inTime : (k : ℕ) → k < length (t .rows) → IsInTime t k
   pub spaced : (k : ℕ) → k < length (t .rows) → IsSpaced l t k
+  pub ends : EndsInTime l t
 
 -- The same rules in order, with their numbers and the records of their first places.
 abbrev pub rowsAsk : ℕ → TableRead → (ℕ → Type 0) → Rule
@@ -132,10 +137,11 @@ tableRules l t =
     ∷ rowsAsk 25 t (IsReleased l t)
     ∷ rowsAsk 26 t (IsInTime t)
     ∷ rowsAsk 27 t (IsSpaced l t)
+    ∷ once 28 (lastRow t) (EndsInTime l t)
     ∷ []
 
 -- What the checker asks of plan and table: the plan passes 1 to 5 and is laid out by 6 to 11, the table reads as records (20) and
--- keeps 21 to 27.
+-- keeps 21 to 28.
 pub record MayPass (plan table : List ℕ) : Type 0 where
   pub read : Plan
   pub isRead : readPlan plan ≡ ok read
@@ -145,7 +151,7 @@ pub record MayPass (plan table : List ℕ) : Type 0 where
   pub areRows : AreRecords tableFollows 0 table rows
   pub obeys : ObeysTable laid (tableOf rows)
 
--- Number n at p is the first fault of plan and table: 1 to 5, 6 to 11, 20, then the first of 21 to 27 at its lowest record.
+-- Number n at p is the first fault of plan and table: 1 to 5, 6 to 11, 20, then the first of 21 to 28 at its lowest record.
 pub data CheckFault (plan table : List ℕ) (n p : ℕ) : Type 0 where
   ofPlan : readPlan plan ≡ refuse n p → CheckFault plan table n p
   ofLayout : {q : Plan} → readPlan plan ≡ ok q → layout q ≡ refuse n p → CheckFault plan table n p
@@ -168,7 +174,7 @@ pub record UnreadAt (plan table : List ℕ) (p : ℕ) : Type 0 where
 abbrev pub noRule : Rule
 noRule = record { number = 0; first = 0; places = 0; asks = λ k. Unit {0} }
 
--- The plan passes 1 to 11, the table reads as records and keeps the first i of the rules 21 to 27; the next, 21 + i, is broken, first
+-- The plan passes 1 to 11, the table reads as records and keeps the first i of the rules 21 to 28; the next, 21 + i, is broken, first
 -- at record p.
 pub record BrokenAt (plan table : List ℕ) (i p : ℕ) : Type 0 where
   pub read : Plan

@@ -83,6 +83,6 @@ module _ (resolution gap floor : ℕ) (sending : Pair → ℕ) where
     sticks : {e number : ℕ} {left : List Numbered} {done : List Placed} {outcome : Res (List Placed)}
         → Sticks e left number → refuse 12 number ≡ outcome → Steps e left done outcome
 
--- Rule 5.1: the rule on what a plan asks, from the end on, with every pair left.
+-- Rule 5.1: the rule on what a plan asks, from the end of its cycle on, with every pair left.
 abbrev pub RuleGives : Layout → Res (List Placed) → Type 0
 RuleGives l outcome = Steps (l .grid) (l .gap) (l .floor) (timeAlone l) (l .end) (numberedFrom 0 (l .pairs)) [] outcome

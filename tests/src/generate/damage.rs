@@ -3,6 +3,7 @@
 use super::draft::Draft;
 use super::random::Rng;
 use super::tables::Made;
+use crate::checker::DataRow;
 use crate::plan::{Connection, Mode};
 use crate::records::BODY_LENGTHS;
 use crate::{MOST_CONNECTIONS, MOST_INVOCATIONS, MOST_MODES, MOST_MODULES, MOST_TASKS};
@@ -217,7 +218,7 @@ fn narrow_windows(rng: &mut Rng, draft: &mut Draft) {
     }
 }
 
-/// Breaks rule 21 to 27 of a table, as a rule without breaking one before it.
+/// Breaks rule 21 to 28 of a table, as a rule without breaking one before it.
 pub fn break_table_rule(rng: &mut Rng, made: &mut Made, rule: u32) {
     match rule {
         21 => wrong_header(rng, made),
@@ -226,7 +227,8 @@ pub fn break_table_rule(rng: &mut Rng, made: &mut Made, rule: u32) {
         24 => wrong_times(rng, made),
         25 => move_to(rng, made, |window| window.release.checked_sub(window.step)),
         26 => move_to(rng, made, |window| (window.deadline - window.time).checked_add(window.step)),
-        _ => crowd(rng, made),
+        27 => crowd(rng, made),
+        _ => end_late(rng, made),
     }
 }
 
@@ -325,4 +327,17 @@ fn crowd(rng: &mut Rng, made: &mut Made) {
     let near = before.stop.wrapping_add(made.bus.gap).saturating_sub(made.bus.resolution);
     data[index].start = near - near % made.bus.resolution;
     data[index].stop = data[index].start.wrapping_add(time);
+}
+
+/// The last row leaves no gap before the next cycle, by one step or as far as its deadline lets it.
+fn end_late(rng: &mut Rng, made: &mut Made) {
+    let Some(&row) = made.table.data.last() else { return };
+    let Some((_, time)) = made.release_and_time(&row) else { return };
+    let step = made.bus.resolution;
+    let first = (made.bus.period - made.bus.gap - time) / step * step + step;
+    let last = (row.deadline - time) / step * step;
+    if first <= last {
+        let start = rng.pick(&[first, last]);
+        *made.table.data.last_mut().expect("a row") = DataRow { start, stop: start + time, ..row };
+    }
 }

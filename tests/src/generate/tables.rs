@@ -69,7 +69,7 @@ fn free_time(made: &Made, index: usize) -> (u32, u32) {
     let data = &made.table.data;
     let before = index.checked_sub(1).map(|before| data[before].stop + made.bus.gap);
     let behind = data.get(index + 1).map(|behind| behind.start - made.bus.gap);
-    (before.unwrap_or(made.bus.control_end), behind.unwrap_or(made.bus.period))
+    (before.unwrap_or(made.bus.control_end), behind.unwrap_or(made.bus.period - made.bus.gap))
 }
 
 fn move_row(rng: &mut Rng, made: &mut Made, index: usize, from: u32, to: u32) {

@@ -25,8 +25,8 @@ fn made() -> Vec<Case> {
     off_the_resolution.bits.resolution = 7;
     vec![
         make("A", &a),
-        make("B with 19904", &with_worst_time(19_904)),
-        make("B with 19905", &with_worst_time(19_905)),
+        make("B with 19894", &with_worst_time(19_894)),
+        make("B with 19895", &with_worst_time(19_895)),
         Case::make(&a.bytes(), MOST_FRAMES, 74).called("C"),
         Case::make(&[], MOST_FRAMES, PLENTY).called("D"),
         make("E", &off_the_resolution),
@@ -63,6 +63,8 @@ fn checked() -> Vec<Case> {
         moved(1, 20_010, 20_106).called("H with 20010"),
         moved(1, 20_005, 20_101).called("H with 20005"),
         moved(2, 39_905, 40_001).called("I"),
+        moved(3, 59_895, 59_991).called("A with 59895"),
+        moved(3, 59_904, 60_000).called("A with 59904"),
         missed_by_the_rule().called("J's table"),
     ]
 }

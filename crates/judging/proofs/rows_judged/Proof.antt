@@ -6,16 +6,16 @@ use Rattle.judging.proofs.Verdicts.{among-at}
 use Rattle.judging.proofs.rows_judged.Statement.{statement}
 use Rattle.judging.proofs.rows_judged.Tie as tie
 
-add-t12 : tie.Need-add-t12
-add-t12 c =
+add-t13 : tie.Need-add-t13
+add-t13 c =
     let start = c .before .before .before in
     omega (arith, start .pre .0, among-at mostFrames _ (start .pre .1 .0) (c .before .unnamed .given .1))
 
 returns : tie.Need-returns
 returns c = rw (c .before .unnamed .given .1)
 
-add-t15 : tie.Need-add-t15
-add-t15 c =
+add-t16 : tie.Need-add-t16
+add-t16 c =
     let start = c .before .before .before .before .before in
     omega (arith, start .pre .0, among-at mostFrames _ (start .pre .1 .1 .0) (c .before .mistimed .given .1))
 
@@ -24,8 +24,8 @@ returns-2 c =
     let c1 = c .before .before .before in
     rw (c1 .enum-told .given .1, c .before .mistimed .given .1)
 
-add-t18 : tie.Need-add-t18
-add-t18 c =
+add-t19 : tie.Need-add-t19
+add-t19 c =
     let start = c .before .before .before .before .before .before .before in
     omega (arith, start .pre .0, among-at mostFrames _ (start .pre .1 .1 .1 .0) (c .before .early .given .1))
 
@@ -35,8 +35,8 @@ returns-3 c =
     let c2 = c1 .before .before in
     rw (c2 .enum-told .given .1, c1 .enum-told2 .given .1, c .before .early .given .1)
 
-add-t21 : tie.Need-add-t21
-add-t21 c =
+add-t22 : tie.Need-add-t22
+add-t22 c =
     let start = c .before .before .before .before .before .before .before .before .before in
     omega (arith, start .pre .0, among-at mostFrames _ (start .pre .1 .1 .1 .1 .0) (c .before .late .given .1))
 
@@ -47,8 +47,8 @@ returns-4 c =
     let c3 = c2 .before .before in
     rw (c3 .enum-told .given .1, c2 .enum-told2 .given .1, c1 .enum-told3 .given .1, c .before .late .given .1)
 
-add-t24 : tie.Need-add-t24
-add-t24 c =
+add-t25 : tie.Need-add-t25
+add-t25 c =
     let start = c .before .before .before .before .before .before .before .before .before .before .before in
     omega (arith, start .pre .0, among-at mostFrames _ (start .pre .1 .1 .1 .1 .1) (c .before .crowded .given .1))
 
@@ -70,6 +70,6 @@ returns-6 c =
 pub rows-judged-spec : {M : Type 1} → statement M
 rows-judged-spec =
     tie.close
-    (tie.spec (λ c. search needs) add-t12 returns (λ c. search needs) (λ c. search needs) add-t15 returns-2 (λ c. search needs)
-    (λ c. search needs) add-t18 returns-3 (λ c. search needs) (λ c. search needs) add-t21 returns-4 (λ c. search needs)
-    (λ c. search needs) add-t24 returns-5 (λ c. search needs) returns-6)
+    (tie.spec (λ c. search needs) add-t13 returns (λ c. search needs) (λ c. search needs) add-t16 returns-2 (λ c. search needs)
+    (λ c. search needs) add-t19 returns-3 (λ c. search needs) (λ c. search needs) add-t22 returns-4 (λ c. search needs)
+    (λ c. search needs) add-t25 returns-5 (λ c. search needs) returns-6)

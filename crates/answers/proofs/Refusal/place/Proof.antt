@@ -1,4 +1,4 @@
--- Each of the 27 arms is told which case `self` is, with the place bound; `count` and `place` promise the rest.
+-- Each of the 28 arms is told which case `self` is, with the place bound; `count` and `place` promise the rest.
 use borrow.Author.Needs.{needs}
 use Rattle.answers.proofs.Refusal.place.Statement.{statement}
 use Rattle.answers.proofs.Refusal.place.Tie as tie
@@ -70,19 +70,22 @@ returns-22 : tie.Need-returns-22
 returns-22 c = rw (c .before .self14 .given .1)
 
 returns-23 : tie.Need-returns-23
-returns-23 c = rw (c .before .before .self15 .given .1, c .place .ensures)
+returns-23 c = rw (c .before .self15 .given .1)
 
 returns-24 : tie.Need-returns-24
-returns-24 c = rw (c .before .before .self16 .given .1, c .place2 .ensures)
+returns-24 c = rw (c .before .before .self16 .given .1, c .place .ensures)
 
 returns-25 : tie.Need-returns-25
-returns-25 c = rw (c .before .before .self17 .given .1, c .place3 .ensures)
+returns-25 c = rw (c .before .before .self17 .given .1, c .place2 .ensures)
 
 returns-26 : tie.Need-returns-26
-returns-26 c = rw (c .before .before .self18 .given .1, c .place4 .ensures)
+returns-26 c = rw (c .before .before .self18 .given .1, c .place3 .ensures)
 
 returns-27 : tie.Need-returns-27
-returns-27 c = rw (c .before .before .self19 .given .1, c .place5 .ensures)
+returns-27 c = rw (c .before .before .self19 .given .1, c .place4 .ensures)
+
+returns-28 : tie.Need-returns-28
+returns-28 c = rw (c .before .before .self20 .given .1, c .place5 .ensures)
 
 pub place-spec : {M : Type 1} → statement M
 place-spec =
@@ -91,7 +94,7 @@ place-spec =
     (λ c. search needs) (λ c. search needs) (λ c. search needs) (λ c. search needs) (λ c. search needs) (λ c. search needs)
     (λ c. search needs) (λ c. search needs) (λ c κs. search needs) (λ c. search needs) (λ c. search needs) (λ c. search needs)
     (λ c. search needs) (λ c. search needs) (λ c. search needs) (λ c. search needs) (λ c. search needs) (λ c. search needs)
-    (λ c. search needs) (λ c κs. search needs) (λ c. search needs) (λ c κs. search needs) (λ c. search needs) (λ c κs. search needs)
-    (λ c. search needs) (λ c κs. search needs) (λ c. search needs) (λ c κs. search needs) returns returns-2 returns-3 returns-4
+    (λ c. search needs) (λ c. search needs) (λ c κs. search needs) (λ c. search needs) (λ c κs. search needs) (λ c. search needs)
+    (λ c κs. search needs) (λ c. search needs) (λ c κs. search needs) (λ c. search needs) (λ c κs. search needs) returns returns-2 returns-3 returns-4
     returns-5 returns-6 returns-7 returns-8 returns-9 returns-10 returns-11 returns-12 returns-13 returns-14 returns-15 returns-16
-    returns-17 returns-18 returns-19 returns-20 returns-21 returns-22 returns-23 returns-24 returns-25 returns-26 returns-27)
+    returns-17 returns-18 returns-19 returns-20 returns-21 returns-22 returns-23 returns-24 returns-25 returns-26 returns-27 returns-28)
