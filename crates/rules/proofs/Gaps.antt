@@ -2,12 +2,12 @@
 -- rows first, each a gap behind the one before it; the next cycle's first row, at P, is its last link.
 use mathlib.Core.Path.{_≡_, refl, sym, ap, _∙_, subst}
 use mathlib.Core.List.{List, [], _∷_, _++_, map}
-use mathlib.Core.Logic.{_⊎_, inl, inr}
+use mathlib.Core.Logic.{inl, inr}
 use native.Mathlib.Nat.{mul-le-mul-right, suc-mul}
 use native.Mathlib.Omega.{arith}
 use lib.ListN.{length, getD, length-map, length-append, List·getD-append}
 use lib.Seq.{getD-append-seam}
-use Prim.Native.Nat.{ℕ, suc, _+_, _*_, _≤_, _<_, zero-le, suc-le-suc}
+use Prim.Native.Nat.{ℕ, _+_, _*_, _≤_, _<_}
 use Rattle.laws.specs.Res.{ok}
 use Rattle.laws.specs.Lists.{lastD}
 use Rattle.laws.proofs.Res.{ok-injective}
@@ -16,7 +16,7 @@ use Rattle.laws.proofs.Orders.{compare-case}
 use Rattle.laws.proofs.Members.{All, empty, also, Chain, last-link, Pairs, all-weaker, all-append, all-map, pairs-getD, chain-append, chain-pairs, chain-map, map-getD}
 use Rattle.rules.specs.Records.{Rec, records, tableFollows}
 use Rattle.rules.specs.Plan.{Plan, readPlan}
-use Rattle.rules.specs.Frames.{gapTime, ControlRow, noControlRow, controlRows, Layout, layoutOf}
+use Rattle.rules.specs.Frames.{gapTime, noControlRow, layoutOf}
 use Rattle.rules.specs.Table.{FrameRow}
 use Rattle.rules.specs.Checker.{Row, noRow, TableRead, tableOf, rowAt, stopBefore, check}
 use Rattle.rules.specs.Obeys.{ObeysTable}
@@ -28,9 +28,11 @@ use Rattle.rules.proofs.CheckerExact.{checker-exact}
 use Rattle.rules.proofs.PairRows.{rows-last, rows-chain}
 use Rattle.rules.proofs.TransparentPlan.{control-same}
 
+-- it does not stop before it starts
 abbrev Lasts : Stretch → Type 0
 Lasts s = s .start ≤ s .stop
 
+-- the second starts a gap or more behind the stop of the first
 abbrev Follows : ℕ → Stretch → Stretch → Type 0
 Follows gap a b = a .stop + gap ≤ b .start
 

@@ -39,10 +39,11 @@ use Rattle.rules.specs.Obeys.{pairAt, Names, Holds, NamesAll, noName, on
 
 -- ---- one behind the other
 
--- no row stops before it starts, and the one starts a gap behind the stop of the other
+-- a row does not stop before it starts
 abbrev pub Lasts : Row → Type 0
 Lasts r = r .start ≤ r .stop
 
+-- the second starts a gap or more behind the stop of the first
 abbrev pub Follows : ℕ → Row → Row → Type 0
 Follows gap r s = r .stop + gap ≤ s .start
 
