@@ -90,7 +90,8 @@ olbiothar_answer olbiothar_make(const uint8_t *plan, size_t plan_length, olbioth
 /* Judges a table of a plan, whoever made it. What is proved of a table that passes: take a station that begins with it, and any ticks
  * that are accepted one after the other; refused ones in between change nothing. Behind each of them a task's own node, and each node
  * that consumes the task (a connection leads from it to a task there), shows the value that the task would have if all tasks ran on
- * one board and there were no bus. Of other nodes nothing is said here.
+ * one board and there were no bus. Of other nodes nothing is said here. And no two frames of such a table, of one cycle or of two, stand
+ * closer than the gap of the plan's bus.
  *
  * number 0: it passes (`place` is 0). The rows are the frames by number, with their starts in this table, then zero rows to the end.
  * number 1 to 11 (the plan's) and 20 to 28 (the table's): every row is zero.
