@@ -12,7 +12,7 @@ use crate::program::{Program, Shown};
 use crate::station::{Modes, Results};
 use crate::{FrameRow, MOST_MODULES, MOST_NODES, MOST_TASKS, Refusal};
 
-pub const ASK_02: &str = include_str!("../vectors/ask-02.txt");
+const ASK_02: &str = include_str!("../vectors/ask-02.txt");
 pub const ASK_03: &str = include_str!("../vectors/ask-03.txt");
 
 /// A file for each request that has landed, in the order of landing.

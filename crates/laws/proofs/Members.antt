@@ -191,12 +191,6 @@ module _ {A : Type 0} where
     pairs-getD d (before a r) zero (suc k) h w = all-getD d a k (le-of-suc-le-suc w)
     pairs-getD d (before a r) (suc j) (suc k) h w = pairs-getD d r j k (le-of-suc-le-suc h) (le-of-suc-le-suc w)
 
-    pub chain-getD : {l : List A} (d : A) → Chain R l → (k : ℕ) → suc k < length l → R (getD l k d) (getD l (suc k) d)
-    chain-getD d no-link k w = absurd (not-suc-le-zero w)
-    chain-getD d last-link k w = absurd (not-suc-le-zero (le-of-suc-le-suc w))
-    chain-getD d (link a r) zero w = a
-    chain-getD d (link a r) (suc k) w = chain-getD d r k (le-of-suc-le-suc w)
-
     pub chain-of-places : (l : List A) (d : A) → ((k : ℕ) → suc k < length l → R (getD l k d) (getD l (suc k) d)) → Chain R l
     chain-of-places [] d h = no-link
     chain-of-places (x ∷ []) d h = last-link

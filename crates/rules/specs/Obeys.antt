@@ -130,7 +130,7 @@ rowsAsk n t asks = record { number = n; first = firstRow t; places = length (t .
 
 abbrev pub tableRules : Layout → TableRead → List Rule
 tableRules l t =
-    record { number = 21; first = 0; places = 1; asks = λ k. HeaderIsRight l t }
+    once 21 0 (HeaderIsRight l t)
     ∷ record { number = 22; first = 1; places = length (t .control); asks = IsFixed l t }
     ∷ rowsAsk 23 t (NamesNew l t)
     ∷ rowsAsk 24 t (TimeIsRight l t)
