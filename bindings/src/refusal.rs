@@ -14,7 +14,7 @@ pub enum Refusal {
     NotThere { record: u64 },
     /// 4: a number is outside its range.
     OutOfRange { record: u64 },
-    /// 5: things of the plan do not fit together.
+    /// 5: things of the plan do not fit together, or a connection is repeated or within one task.
     Unfit { record: u64 },
     /// 6: nothing goes over the bus.
     NoBusTask,

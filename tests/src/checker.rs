@@ -95,7 +95,7 @@ fn judge_data_rows(bus: &Bus, data: &[DataRecord], frames: &mut [FrameRow]) -> R
     refuse_at(25, lowest(early))?;
     refuse_at(26, lowest(rows().position(|row| row.stop > row.deadline)))?;
     refuse_at(27, lowest(first_crowded(bus, rows())))?;
-    let last_stop = rows().last().map_or(0, |row| row.stop);
+    let last_stop = rows().next_back().map_or(0, |row| row.stop);
     refuse_at(28, (last_stop + bus.gap > bus.period).then_some(bus.control.len() + data.len()))?;
     for (row, number) in named() {
         frames[number].start = row.start;

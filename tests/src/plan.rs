@@ -176,6 +176,20 @@ impl Bits {
     }
 }
 
+/// Pairs of a mode or a task with a task: a bit set for each first number.
+#[derive(Default)]
+struct Pairs([u32; u32::BITS as usize]);
+
+impl Pairs {
+    /// Says whether the pair is new.
+    fn insert(&mut self, first: u8, second: u8) -> bool {
+        let set = &mut self.0[usize::from(first)];
+        let new = !has(*set, second);
+        *set |= 1 << second;
+        new
+    }
+}
+
 impl Plan {
     pub fn mode_of(&self, invocation: &Invocation) -> &Mode {
         &self.modes[usize::from(invocation.mode)]
@@ -228,14 +242,13 @@ impl Plan {
         let modules = (0..).zip(self.modules.iter()).map(|(number, _)| !has(with_mode, number));
         let modes = self.modes.iter().map(|mode| !mode.period.is_multiple_of(mode.switch_period));
         let tasks = self.tasks.iter().map(|_| false);
-        let mut tasks_of_mode = [0; MOST_MODES];
-        let invocations = self.invocations.iter().map(|run| {
-            let seen = &mut tasks_of_mode[usize::from(run.mode)];
-            let repeated = has(*seen, run.task);
-            *seen |= 1 << run.task;
-            repeated || !self.fits(run)
+        let (mut invoked, mut connected) = (Pairs::default(), Pairs::default());
+        let invocations = (self.invocations.iter())
+            .map(|run| !invoked.insert(run.mode, run.task) || !self.fits(run));
+        let connections = (self.connections.iter()).map(|&Connection { producer, consumer }| {
+            producer == consumer || !connected.insert(producer, consumer)
         });
-        let things = modules.chain(modes).chain(tasks).chain(invocations);
+        let things = modules.chain(modes).chain(tasks).chain(invocations).chain(connections);
         [false, false].into_iter().chain(things).position(|at_fault| at_fault)
     }
 

@@ -14,9 +14,10 @@ use crate::{FrameRow, MOST_MODULES, MOST_NODES, MOST_TASKS, Refusal};
 
 const ASK_02: &str = include_str!("../vectors/ask-02.txt");
 pub const ASK_03: &str = include_str!("../vectors/ask-03.txt");
+const ASK_11: &str = include_str!("../vectors/ask-11.txt");
 
 /// A file for each request that has landed, in the order of landing.
-pub const REQUESTS: [&str; 2] = [ASK_03, ASK_02];
+pub const REQUESTS: [&str; 3] = [ASK_03, ASK_02, ASK_11];
 
 const PLENTY: usize = 4_096;
 const OLD_BYTE: u8 = 0xa5;

@@ -1,6 +1,7 @@
 //! The jobs of docs/RULES.md.
 
 use reference::generate::{Draft, job_a, job_j};
+use reference::plan::Connection;
 use reference::{FrameRow, Refusal, Row, Station, check, make};
 
 const TABLE_A: [&[u8]; 7] = [
@@ -102,6 +103,23 @@ fn gap_at_the_end() {
     assert_eq!(checked(&job_a(), &moved(3, 59_895, 59_991)), refused(28, 5));
     assert_eq!(checked(&job_a(), &moved(3, 59_904, 60_000)), refused(28, 5));
     assert_eq!(checked(&job_a(), &moved(3, 59_905, 60_001)), refused(26, 5));
+}
+
+/// Job A with these connections.
+fn connected(pairs: &[(u8, u8)]) -> Draft {
+    let connection = |&(producer, consumer): &(u8, u8)| Connection { producer, consumer };
+    Draft { connections: pairs.iter().map(connection).collect(), ..job_a() }
+}
+
+#[test]
+fn doubtful_connections() {
+    assert!(made(&connected(&[(0, 1), (1, 0)])).is_ok(), "there and back");
+    assert_eq!(made(&connected(&[(0, 1), (0, 1)])), refused(5, 13));
+    assert_eq!(made(&connected(&[(0, 1), (1, 0), (0, 1)])), refused(5, 14));
+    assert_eq!(made(&connected(&[(0, 0)])), refused(5, 12));
+    assert_eq!(made(&connected(&[(0, 1), (1, 1), (0, 1)])), refused(5, 13));
+    assert_eq!(made(&connected(&[(2, 2), (0, 1), (0, 1)])), refused(3, 12));
+    assert_eq!(made(&connected(&[(0, 1); 65])), refused(2, 7));
 }
 
 #[test]

@@ -103,8 +103,10 @@ fn order_of_numbers() {
     assert_eq!(make(&plan.bytes(), &mut [FrameRow::default(); 256], &mut []), refused(12, 3));
     plan.bits.resolution = 7;
     assert_eq!(made(&plan.bytes()), refused(8, 0));
-    plan.connections[0].consumer = 0;
+    plan.modules[1].node = 0;
     assert_eq!(made(&plan.bytes()), refused(6, 0));
+    plan.connections[0].consumer = 0;
+    assert_eq!(made(&plan.bytes()), refused(5, 12));
     plan.invocations[2].rate = 7;
     assert_eq!(made(&plan.bytes()), refused(5, 11));
     plan.bits.gap_bits = 1_001;

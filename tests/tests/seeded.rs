@@ -4,11 +4,11 @@
 use reference::bus::{Bus, derive};
 use reference::checker::DataRow;
 use reference::generate::{
-    self, CheckCase, History, Made, MakeCase, PLENTY, PlayCase, Rng, Size, break_table_rule,
-    made_plan, move_rows, starting_modes,
+    self, CheckCase, Draft, History, Made, MakeCase, PLENTY, PlayCase, Rng, Size, break_table_rule,
+    made_plan, move_rows, starting_modes, valid_plan,
 };
-use reference::plan::{self, Plan};
-use reference::{FrameRow, Refusal, Row, Station, check, make};
+use reference::plan::{self, Connection, Plan};
+use reference::{FrameRow, MOST_CONNECTIONS, Refusal, Row, Station, check, make};
 use std::collections::BTreeMap;
 
 const MAKE_CASES: u64 = 60_000;
@@ -118,6 +118,57 @@ fn assert_apart(made: &Made) {
             assert!(first.1 + made.bus.gap <= second.0, "{one:?} and {other:?}");
         }
     }
+}
+
+/// A valid plan is read; with doubtful connections put anywhere it is refused, 5 at the first of them;
+/// without them it comes to what it came to before.
+#[test]
+fn doubtful_connections() {
+    let mut counts = Counts::new();
+    for seed in 0..20_000 {
+        let rng = &mut Rng::new(seed);
+        let size = Size::any(rng);
+        let mut draft = valid_plan(rng, &size);
+        let answer = made(&draft);
+        let room = MOST_CONNECTIONS - draft.connections.len();
+        for _ in 0..room.min(rng.below(4)) {
+            let task = rng.below(draft.tasks.len()) as u8;
+            let own = Connection { producer: task, consumer: task };
+            let other = rng.pick(&draft.connections);
+            let at = rng.below(draft.connections.len() + 1);
+            draft.connections.insert(at, rng.pick(&[own, other]));
+        }
+        let things = [draft.modules.len(), draft.modes.len(), draft.tasks.len()];
+        let before = 2 + things.iter().sum::<usize>() + draft.invocations.len();
+        let (good, first) = without_doubtful(&draft.connections);
+        let refusal = first.map(|first| Refusal { number: 5, place: before + first });
+        let read = plan::read(&draft.bytes());
+        count(&mut counts, &read);
+        assert_eq!(read.err(), refusal, "seed {seed}");
+        draft.connections = good;
+        assert_eq!(made(&draft), answer, "seed {seed}");
+    }
+    assert_reached(&counts, [0, 5]);
+}
+
+fn made(plan: &Draft) -> Result<Vec<u8>, Refusal> {
+    let mut table = vec![0; PLENTY];
+    let length = make(&plan.bytes(), &mut [OLD_ROW; 256], &mut table)?;
+    table.truncate(length);
+    Ok(table)
+}
+
+/// The connections that are not doubtful, and the number of the first that is.
+fn without_doubtful(connections: &[Connection]) -> (Vec<Connection>, Option<usize>) {
+    let (mut good, mut first) = (Vec::new(), None);
+    for (number, connection) in connections.iter().enumerate() {
+        if connection.producer != connection.consumer && !good.contains(connection) {
+            good.push(*connection);
+        } else {
+            first = first.or(Some(number));
+        }
+    }
+    (good, first)
 }
 
 #[test]

@@ -10,8 +10,7 @@ use lib.ListN.{length, getD, set, take, replicate, length-append, List·getD-eq-
 use Prim.Native.Nat.{ℕ, _+_, _≤_, _<_}
 use Rattle.laws.specs.Lists.{consIf, keep, any, upTo}
 use Rattle.laws.proofs.Lists.{any-more, any-append, keep-upTo-more, length-keep, length-upTo}
-use Rattle.plan.specs.Memory.{noConnection}
-use Rattle.rules.specs.Plan.{Plan, Task, Invocation, Connection, noTask, noInvocation, theTask}
+use Rattle.rules.specs.Plan.{Plan, Task, Invocation, Connection, noTask, noInvocation, noConnection, theTask}
 use Rattle.rules.specs.Traffic.{invokes, leaves, taskNode, isBusTask, isSending, livesIn, standsOn, moduleNode}
 use Rattle.bus.specs.Senders.{byNumber, taskHome, invokedBy, busTaskBy, sendingBy, payloadBy}
 use Rattle.bus.proofs.Tables.{stored, all-alike, at-number}

@@ -3,10 +3,10 @@ use mathlib.Core.Path.{_≡_}
 use lib.ListN.{length, getD}
 use Prim.Native.Nat.{ℕ, _<_}
 use Rattle.plan.specs.declared.Plan.{Plan}
-use Rattle.plan.specs.Memory.{seen, countSeen, noConnection, moduleSeen, modeSeen, taskSeen, invocationSeen, connectionSeen}
+use Rattle.plan.specs.Memory.{seen, countSeen, moduleSeen, modeSeen, taskSeen, invocationSeen, connectionSeen}
 use Rattle.plan.specs.Memory.{moduleLaid, modeLaid, taskLaid, invocationLaid, connectionLaid}
 use Rattle.plan.proofs.Parts.{part-at}
-use Rattle.rules.specs.Plan.{noMode, noTask, noInvocation}
+use Rattle.rules.specs.Plan.{noMode, noTask, noInvocation, noConnection}
 
 module _ (p : Plan) (k : ℕ) where
   pub module-here : k < length (seen p .modules) → getD (seen p .modules) k 0 ≡ moduleSeen (getD (p .modules) k (moduleLaid 0))
@@ -26,5 +26,5 @@ module _ (p : Plan) (k : ℕ) where
   invocation-here h = part-at invocationSeen (countSeen p 6) (p .invocations) k (invocationLaid noInvocation) h
 
   pub connection-here : k < length (seen p .connections) → getD (seen p .connections) k noConnection ≡ connectionSeen (getD (p .connections) k (connectionLaid noConnection))
-  unfolding seen connectionSeen connectionLaid noConnection
+  unfolding seen connectionSeen connectionLaid
   connection-here h = part-at connectionSeen (countSeen p 7) (p .connections) k (connectionLaid noConnection) h

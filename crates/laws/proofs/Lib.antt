@@ -12,6 +12,7 @@ pub mod Bus
 pub mod Runs
 pub mod Places
 pub mod Tests
+pub mod LeftOut
 pub mod Laid
 pub mod Arrays
 pub mod Turns

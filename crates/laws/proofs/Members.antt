@@ -271,6 +271,14 @@ module _ {A : Type 0} {P : A → Type 0} where
 pub all-upTo : (n : ℕ) → All (λ k. k < n) (upTo n)
 all-upTo n = all-tab {P = λ k. k < n} (λ k. k) 0 n (λ k a b. omega arith)
 
+pairs-tab : {A : Type 0} {R : A → A → Type 0} (f : ℕ → A) (lo n : ℕ) → ((j k : ℕ) → j < k → R (f j) (f k)) → Pairs R (tab f lo n)
+pairs-tab f lo zero h = alone
+pairs-tab {R = R} f lo (suc n) h =
+    before (all-tab {P = R (f lo)} f (suc lo) n (λ k a b. h lo k (omega arith))) (pairs-tab f (suc lo) n h)
+
+pub pairs-upTo : (n : ℕ) → Pairs _<_ (upTo n)
+pairs-upTo n = pairs-tab {R = _<_} (λ k. k) 0 n (λ j k h. h)
+
 member-tab-step : {A : Type 0} (f : ℕ → A) (lo n k : ℕ) → (suc lo ≤ k → k < suc lo + n → List·Memᴰ (f k) (tab f (suc lo) n))
     → (lo ≡ k) ⊎ (lo < k) → k < lo + suc n → List·Memᴰ (f k) (f lo ∷ tab f (suc lo) n)
 member-tab-step f lo n k later (inl e) b = List·Memᴰ·head (ap f (sym e))

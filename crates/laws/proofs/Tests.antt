@@ -6,9 +6,10 @@ use mathlib.Core.List.{List, [], _∷_, List·Memᴰ, List·Memᴰ·head, List·
 use native.Mathlib.Nat.{mod-eq-zero-of-dvd, dvd-of-mod-eq-zero}
 use borrow.Author.Tests.{leb-true, ltb-true, eqb-true, le-leb, lt-ltb, eq-eqb}
 use lib.Dec.{leb, ltb, eqb}
-use lib.ListN.{length, getD}
+use lib.ListN.{length, getD, take}
+use lib.Seq.{length-take-le, getD-take}
 use Prim.Native.Nat.{ℕ, _≤_, _<_, _%_, _∣_}
-use Rattle.laws.specs.Lists.{keep, any, all, upTo}
+use Rattle.laws.specs.Lists.{keep, any, all, isFresh, upTo}
 use Rattle.laws.specs.Numbers.{divides}
 use Rattle.laws.specs.Res.{Res, ok}
 use Rattle.laws.proofs.Lists.{true-false, both-left, both-right, any-hit, any-true, all-each, all-true, all-upTo-each, all-upTo-true, any-upTo-hit, any-upTo-true, all-keep}
@@ -98,6 +99,16 @@ module _ {A : Type 0} {P : ℕ → Type 0} (p : A → Bool) (l : List A) (d : A)
 
   pub by-all : ((k : ℕ) → k < length l → Tests (p (getD l k d)) (P k)) → Tests (all p l) ((k : ℕ) → k < length l → P k)
   by-all t = record { says = λ e k w. t k w .says (all-true p l d k e w); passes = λ h. all-each p l d (λ k w. t k w .passes (h k w)) }
+
+-- that no earlier element is like the k-th
+pub by-fresh : {A : Type 0} {P : ℕ → Type 0} (like : A → A → Bool) (d : A) (l : List A) (k : ℕ) → k ≤ length l
+    → ((j : ℕ) → j < k → Tests (like (getD l k d) (getD l j d)) (P j)) → Tests (isFresh like d l k) ((j : ℕ) → j < k → P j → ⊥)
+by-fresh like d l k w t =
+    let cut : length (take k l) ≡ k = length-take-le k l w in
+    by-iff
+    (by-not (by-any (like (getD l k d)) (take k l) d (λ j v. rw (getD-take k l j d (rw cut at v)) (t j (rw cut at v)))))
+    (λ h j v a. h (j, rw cut v, a))
+    (λ h q. h (q .0) (rw cut at (q .1)) (q .2))
 
 -- ---- over the members of a list
 

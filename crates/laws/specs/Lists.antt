@@ -1,7 +1,8 @@
 -- Lists: what the definitions of the rules are made of. Each says in a line what it gives.
-use mathlib.Core.Bool.{Bool, true, false, cond, _&&_, _||_}
-use mathlib.Core.List.{List, [], _∷_, _++_}
+use mathlib.Core.Bool.{Bool, true, false, cond, not, _&&_, _||_}
+use mathlib.Core.List.{List, [], _∷_, _++_, map}
 use mathlib.Core.Option.{Option, none, some}
+use lib.ListN.{length, getD, take}
 use Prim.Native.Nat.{ℕ, zero, suc}
 
 -- one place further on
@@ -40,6 +41,10 @@ module _ {A : Type 0} where
   firstBad p [] = none
   firstBad p (x ∷ xs) = orNext (p x) (firstBad p xs)
 
+  -- no earlier element is like the k-th; d stands for one that is not there
+  abbrev pub isFresh : (A → A → Bool) → A → List A → ℕ → Bool
+  isFresh like d l k = not (any (like (getD l k d)) (take k l))
+
   -- the place of the first element that passes its test
   abbrev pub firstWith : (A → Bool) → List A → Option ℕ
   firstWith p [] = none
@@ -63,3 +68,7 @@ tab f lo (suc n) = f lo ∷ tab f (suc lo) n
 -- 0, 1, .., n - 1
 abbrev pub upTo : ℕ → List ℕ
 upTo n = tab (λ k. k) 0 n
+
+-- the elements whose numbers pass the test, in their order; d stands for one that is not there
+abbrev pub keepAt : {A : Type 0} → (ℕ → Bool) → A → List A → List A
+keepAt p d l = map (λ k. getD l k d) (keep p (upTo (length l)))

@@ -15,7 +15,7 @@ use Rattle.laws.proofs.Loops.{firstBad-upTo-passes}
 use Rattle.laws.proofs.Res.{bind-case, then-case, at-ok, ok-injective}
 use Rattle.rules.specs.Records.{Rec, records, planFollows}
 use Rattle.rules.specs.Plan as rules
-use Rattle.plan.specs.Memory.{layOut, seen, countSeen, busLaid, busSeen, moduleLaid, moduleSeen, modeLaid, modeSeen, taskLaid, taskSeen, invocationLaid, invocationSeen, connectionLaid, connectionSeen, noConnection}
+use Rattle.plan.specs.Memory.{layOut, seen, countSeen, busLaid, busSeen, moduleLaid, moduleSeen, modeLaid, modeSeen, taskLaid, taskSeen, invocationLaid, invocationSeen, connectionLaid, connectionSeen}
 
 -- no more of each kind than have a place
 pub record Placed (p : rules.Plan) : Type 0 where
@@ -43,7 +43,7 @@ seen-laid p h =
       part-back modeLaid modeSeen (λ x. refl) 32 (modeLaid rules.noMode) (p .modes) (h .modes),
       part-back taskLaid taskSeen (λ x. refl) 32 (taskLaid rules.noTask) (p .tasks) (h .tasks),
       part-back invocationLaid invocationSeen (λ x. refl) 64 (invocationLaid rules.noInvocation) (p .invocations) (h .invocations),
-      part-back connectionLaid connectionSeen (λ x. refl) 64 (connectionLaid noConnection) (p .connections) (h .connections),
+      part-back connectionLaid connectionSeen (λ x. refl) 64 (connectionLaid rules.noConnection) (p .connections) (h .connections),
     )
 
 module _ (rs : List Rec) (e : firstBad (rules.countFits rs) (upTo 6) ≡ none) where

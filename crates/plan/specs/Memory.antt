@@ -41,12 +41,9 @@ invocationLaid i = record { mode = record { 0 = i .mode }; task = record { 0 = i
 unfoldable pub connectionLaid : rules.Connection → Connection
 connectionLaid c = record { producer = record { 0 = c .producer }; consumer = record { 0 = c .consumer } }
 
--- the zero things, which fill the arrays up
+-- the bus of a plan with nothing in it
 unfoldable pub noBus : rules.Bus
 noBus = record { rate = 0; overhead = 0; least = 0; most = 0; gap = 0; resolution = 0 }
-
-unfoldable pub noConnection : rules.Connection
-noConnection = record { producer = 0; consumer = 0 }
 
 -- A plan in memory: its counts by kind, each array filled up with zero things; what has no place left is not stored.
 unfoldable pub layOut : rules.Plan → Plan
@@ -60,7 +57,7 @@ layOut p =
       modes = padTo mostModes (modeLaid rules.noMode) (map modeLaid (p .modes));
       tasks = padTo mostTasks (taskLaid rules.noTask) (map taskLaid (p .tasks));
       invocations = padTo mostInvocations (invocationLaid rules.noInvocation) (map invocationLaid (p .invocations));
-      connections = padTo mostConnections (connectionLaid noConnection) (map connectionLaid (p .connections));
+      connections = padTo mostConnections (connectionLaid rules.noConnection) (map connectionLaid (p .connections));
     }
 
 -- the plan with nothing in it

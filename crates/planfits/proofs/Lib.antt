@@ -3,3 +3,4 @@ pub mod ArrayScans
 pub mod Fitting
 pub mod LowestUnfit
 pub mod Repeats
+pub mod Doubtless

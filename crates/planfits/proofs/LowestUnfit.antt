@@ -5,16 +5,16 @@ use mathlib.Core.List.{map}
 use lib.ListN.{length, take}
 use Prim.Native.Nat.{ℕ, _+_, _≤_, _<_, min}
 use Rattle.laws.specs.Res.{ok, at, _>>_}
-use Rattle.laws.specs.Lists.{firstBad, upTo}
+use Rattle.laws.specs.Lists.{firstBad, isFresh, upTo}
 use Rattle.laws.proofs.Lists.{length-upTo}
 use Rattle.laws.proofs.Res.{then-ok, then-refuse}
 use Rattle.rules.specs.Plan as rules
 use Rattle.plan.specs.declared.Plan.{Plan}
-use Rattle.plan.specs.Memory.{seen, countSeen, modeSeen, invocationSeen}
+use Rattle.plan.specs.Memory.{seen, countSeen, modeSeen, invocationSeen, connectionSeen}
 use Rattle.plan.proofs.Parts.{part-again}
 use Rattle.places.specs.declared.Found.the-variants.{At, Nothing}
 use Rattle.planfits.specs.Scans.{placeOr, unfitOf}
-use Rattle.planfits.specs.Fits.{hasModeIn, fitsAt, isFreshIn}
+use Rattle.planfits.specs.Fits.{hasModeIn, fitsAt, isDoubtlessIn}
 use Rattle.planfits.proofs.Places.{at-met, at-end, at-met-upTo, at-end-upTo, first-of-two}
 
 module _
@@ -61,20 +61,20 @@ module _
           (every : modes ≤ k)
           (hi : i ≡ min a b)
           (ha : a ≡ placeOr (length (seen p .invocations)) (firstBad (fitsAt (seen p)) (upTo (length (seen p .invocations)))))
-          (hb : b ≡ placeOr count (firstBad (isFreshIn (map invocationSeen (take count (p .invocations)))) (upTo count))) where
-        repeat-place : b ≡ placeOr (length (seen p .invocations)) (firstBad (isFreshIn (seen p .invocations)) (upTo (length (seen p .invocations))))
+          (hb : b ≡ placeOr count (firstBad (isFresh rules.sameRun rules.noInvocation (map invocationSeen (take count (p .invocations)))) (upTo count))) where
+        repeat-place : b ≡ placeOr (length (seen p .invocations)) (firstBad (isFresh rules.sameRun rules.noInvocation (seen p .invocations)) (upTo (length (seen p .invocations))))
         repeat-place = rw (← ei) (hb ∙ rw invocations-again)
 
-        keeps-both : (x : ℕ) → rules.invocationKeeps (seen p) x ≡ (fitsAt (seen p) x && isFreshIn (seen p .invocations) x)
-        unfolding rules.invocationKeeps rules.isRepeat rules.theInvocation fitsAt isFreshIn
+        keeps-both : (x : ℕ) → rules.invocationKeeps (seen p) x ≡ (fitsAt (seen p) x && isFresh rules.sameRun rules.noInvocation (seen p .invocations) x)
+        unfolding rules.invocationKeeps rules.theInvocation fitsAt
         keeps-both x = refl
 
         invocation-place : i ≡ placeOr (length (seen p .invocations)) (firstBad (rules.invocationKeeps (seen p)) (upTo (length (seen p .invocations))))
         invocation-place =
             let n = length (seen p .invocations) in
             let two : placeOr n (firstBad (rules.invocationKeeps (seen p)) (upTo n))
-            ≡ min (placeOr n (firstBad (fitsAt (seen p)) (upTo n))) (placeOr n (firstBad (isFreshIn (seen p .invocations)) (upTo n)))
-            = rw (length-upTo n) at (first-of-two (fitsAt (seen p)) (isFreshIn (seen p .invocations)) (rules.invocationKeeps (seen p)) keeps-both (upTo n)) in
+            ≡ min (placeOr n (firstBad (fitsAt (seen p)) (upTo n))) (placeOr n (firstBad (isFresh rules.sameRun rules.noInvocation (seen p .invocations)) (upTo n)))
+            = rw (length-upTo n) at (first-of-two (fitsAt (seen p)) (isFresh rules.sameRun rules.noInvocation (seen p .invocations)) (rules.invocationKeeps (seen p)) keeps-both (upTo n)) in
             hi ∙ rw (ha, repeat-place) (sym two)
 
         modes-pass : at 5 (rules.firstMode (seen p)) (firstBad rules.switchDivides (seen p .modes)) ≡ ok tt
@@ -86,11 +86,38 @@ module _
             rw (em, eμ, et)
             (sym (then-ok _ modules-pass
             ∙ then-ok _ modes-pass
-            ∙ at-met-upTo (rules.invocationKeeps (seen p)) (length (seen p .invocations)) 5 (rules.firstInvocation (seen p)) i invocation-place (rw ei at h)))
+            ∙ then-refuse _ (at-met-upTo (rules.invocationKeeps (seen p)) (length (seen p .invocations)) 5 (rules.firstInvocation (seen p)) i invocation-place (rw ei at h))))
 
-        pub all-fit : count ≤ i → unfitOf Nothing ≡ rules.rule5 (seen p)
-        unfolding rules.rule5
-        all-fit h =
-            sym (then-ok _ modules-pass
-            ∙ then-ok _ modes-pass
-            ∙ at-end-upTo (rules.invocationKeeps (seen p)) (length (seen p .invocations)) 5 (rules.firstInvocation (seen p)) i invocation-place (rw ei at h))
+        module _
+            (joins c : ℕ)
+            (ej : joins ≡ length (seen p .connections))
+            (each : count ≤ i)
+            (hc : c ≡ placeOr joins (firstBad (isDoubtlessIn (map connectionSeen (take joins (p .connections)))) (upTo joins))) where
+          connections-again : map connectionSeen (take joins (p .connections)) ≡ seen p .connections
+          unfolding seen
+          connections-again = rw ej (part-again connectionSeen (countSeen p 7) (p .connections))
+
+          connection-place : c ≡ placeOr (length (seen p .connections)) (firstBad (rules.connectionKeeps (seen p)) (upTo (length (seen p .connections))))
+          unfolding isDoubtlessIn rules.connectionKeeps rules.theConnection
+          connection-place = rw (← ej) (hc ∙ rw connections-again)
+
+          invocations-pass : at 5 (rules.firstInvocation (seen p)) (firstBad (rules.invocationKeeps (seen p)) (upTo (length (seen p .invocations)))) ≡ ok tt
+          invocations-pass =
+              at-end-upTo (rules.invocationKeeps (seen p)) (length (seen p .invocations)) 5 (rules.firstInvocation (seen p)) i invocation-place (rw ei at each)
+
+          pub doubtful-connection : c < joins → unfitOf (At (2 + modules + modes + tasks + count + c)) ≡ rules.rule5 (seen p)
+          unfolding rules.rule5 rules.firstConnection rules.firstInvocation rules.firstMode
+          doubtful-connection h =
+              rw (em, eμ, et, ei)
+              (sym (then-ok _ modules-pass
+              ∙ then-ok _ modes-pass
+              ∙ then-ok _ invocations-pass
+              ∙ at-met-upTo (rules.connectionKeeps (seen p)) (length (seen p .connections)) 5 (rules.firstConnection (seen p)) c connection-place (rw ej at h)))
+
+          pub all-fit : joins ≤ c → unfitOf Nothing ≡ rules.rule5 (seen p)
+          unfolding rules.rule5
+          all-fit h =
+              sym (then-ok _ modules-pass
+              ∙ then-ok _ modes-pass
+              ∙ then-ok _ invocations-pass
+              ∙ at-end-upTo (rules.connectionKeeps (seen p)) (length (seen p .connections)) 5 (rules.firstConnection (seen p)) c connection-place (rw ej at h))

@@ -2,11 +2,11 @@
 use mathlib.Core.Bool.{Bool, not, _&&_}
 use mathlib.Core.List.{List}
 use lib.Dec.{leb, eqb}
-use lib.ListN.{getD, take}
+use lib.ListN.{getD}
 use Prim.Native.Nat.{ℕ, _/_}
-use Rattle.laws.specs.Lists.{any}
+use Rattle.laws.specs.Lists.{any, isFresh}
 use Rattle.laws.specs.Numbers as numbers
-use Rattle.rules.specs.Plan.{Plan, Mode, Task, Invocation, noInvocation, isHome, fitsItsMode, theInvocation, sameRun}
+use Rattle.rules.specs.Plan.{Plan, Mode, Task, Connection, noConnection, isHome, fitsItsMode, theInvocation, isOwn, sameEnds}
 
 -- Refusal 5, of an invocation with its rate, its mode and its task: the rate divides the mode's period, the period that this makes
 -- divides the switch period, the worst time is not above it, and task and mode are of one module.
@@ -19,9 +19,11 @@ fitsThese rate μ t =
 unfoldable pub hasModeIn : List Mode → ℕ → Bool
 hasModeIn modes m = any (isHome m) modes
 
--- Refusal 5's two tests of the k-th invocation: that it fits its mode, and that no earlier one has its task and mode.
+-- Refusal 5's first test of the k-th invocation: that it fits its mode.
 unfoldable pub fitsAt : Plan → ℕ → Bool
 fitsAt p k = fitsItsMode p (theInvocation p k)
 
-unfoldable pub isFreshIn : List Invocation → ℕ → Bool
-isFreshIn invocations k = not (any (sameRun (getD invocations k noInvocation)) (take k invocations))
+-- Refusal 5's two tests of the k-th connection: that it is not one task's own, and that no earlier one has its ends.
+unfoldable pub isDoubtlessIn : List Connection → ℕ → Bool
+isDoubtlessIn connections k =
+    not (isOwn (getD connections k noConnection)) && isFresh sameEnds noConnection connections k

@@ -4,17 +4,18 @@ ghost use mathlib.Core.Bool.{cond};
 ghost use mathlib.Core.List.{map};
 ghost use lib.ListN.{length, take};
 ghost use Prim.Native.Nat.{_≤_};
-ghost use Rattle.laws.specs.Lists.{firstBad, upTo};
-ghost use Rattle.rules.specs.Limits.{mostModules, mostModes, mostInvocations};
+ghost use Rattle.laws.specs.Lists.{firstBad, isFresh, upTo};
+ghost use Rattle.rules.specs.Limits.{mostModules, mostModes, mostInvocations, mostConnections};
 ghost use Rattle.rules.specs.Plan as rules;
-ghost use Rattle.plan.specs.Memory.{seen, modeLaid, modeSeen, taskLaid, taskSeen, invocationSeen};
+ghost use Rattle.plan.specs.Memory.{seen, modeLaid, modeSeen, taskLaid, taskSeen, invocationSeen, connectionSeen};
 ghost use Rattle.planfits.specs.Scans.{placeOr, unfitOf};
-ghost use Rattle.planfits.specs.Fits.{hasModeIn, fitsThese, fitsAt, isFreshIn};
+ghost use Rattle.planfits.specs.Fits.{hasModeIn, fitsThese, fitsAt, isDoubtlessIn};
 use figures::both;
 use figures::divides;
 use figures::lower;
 use figures::quotient;
 use places::Found;
+use plan::Connection;
 use plan::Invocation;
 use plan::Mode;
 use plan::Plan;
@@ -148,13 +149,47 @@ fn same_run(i: Invocation, j: Invocation) -> bool
 // The first invocation whose task and mode an earlier one has; the number of invocations where there is none.
 fn first_repeat(invocations: [Invocation; Invocation::MOST], count: usize) -> usize
     requires { ⌜ count ≤ mostInvocations ⌝ }
-    ensures { λ r. ⌜ r ≡ placeOr count (firstBad (isFreshIn (map invocationSeen (take count invocations))) (upTo count)) ⌝ }
+    ensures { λ r. ⌜ r ≡ placeOr count (firstBad (isFresh rules.sameRun rules.noInvocation (map invocationSeen (take count invocations))) (upTo count)) ⌝ }
 {
     let mut later = 0;
     'pairs: while later < count {
         let mut earlier = 0;
         while earlier < later {
             if same_run(invocations[later], invocations[earlier]) {
+                break 'pairs;
+            }
+            earlier += 1;
+        }
+        later += 1;
+    }
+    later
+}
+
+fn is_own(c: Connection) -> bool
+    ensures { λ r. ⌜ r ≡ rules.isOwn (connectionSeen c) ⌝ }
+{
+    c.producer.0 == c.consumer.0
+}
+
+fn same_ends(c: Connection, d: Connection) -> bool
+    ensures { λ r. ⌜ r ≡ rules.sameEnds (connectionSeen c) (connectionSeen d) ⌝ }
+{
+    both(c.producer.0 == d.producer.0, c.consumer.0 == d.consumer.0)
+}
+
+// The first connection from a task to itself, or with the ends of an earlier one; the number of connections where there is none.
+fn first_doubtful(connections: [Connection; Connection::MOST], count: usize) -> usize
+    requires { ⌜ count ≤ mostConnections ⌝ }
+    ensures { λ r. ⌜ r ≡ placeOr count (firstBad (isDoubtlessIn (map connectionSeen (take count connections))) (upTo count)) ⌝ }
+{
+    let mut later = 0;
+    'pairs: while later < count {
+        if is_own(connections[later]) {
+            break 'pairs;
+        }
+        let mut earlier = 0;
+        while earlier < later {
+            if same_ends(connections[later], connections[earlier]) {
                 break 'pairs;
             }
             earlier += 1;
@@ -177,14 +212,22 @@ pub fn first_unfit(p: Plan) -> Found
     if m < modules {
         return Found::At(2 + m);
     }
+    let first_mode = 2 + modules;
     let k = first_bad_switch(all_modes, modes);
     if k < modes {
-        return Found::At(2 + modules + k);
+        return Found::At(first_mode + k);
     }
+    let first_invocation = first_mode + modes + tasks;
     let invocations = p.invocations;
     let i = lower(first_misfit(p), first_repeat(invocations, count));
     if i < count {
-        return Found::At(2 + modules + modes + tasks + i);
+        return Found::At(first_invocation + i);
+    }
+    let joins = look::connection_count(p);
+    let connections = p.connections;
+    let c = first_doubtful(connections, joins);
+    if c < joins {
+        return Found::At(first_invocation + count + c);
     }
     Found::Nothing
 }

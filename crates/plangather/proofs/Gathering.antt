@@ -20,7 +20,7 @@ use Rattle.records.specs.declared.Step.{Step}
 use Rattle.records.specs.declared.Step.the-variants.{Record, End, Wrong}
 use Rattle.records.proofs.Steps.{from, onward, one-step, Found, found}
 use Rattle.plan.specs.declared.Plan as memory
-use Rattle.plan.specs.Memory.{layOut, emptyPlan, noPlan, moduleLaid, modeLaid, taskLaid, invocationLaid, connectionLaid, noConnection, countSeen}
+use Rattle.plan.specs.Memory.{layOut, emptyPlan, noPlan, moduleLaid, modeLaid, taskLaid, invocationLaid, connectionLaid, countSeen}
 use Rattle.plangather.specs.Gather.{oneMore, withBus, withNodes, withModule, withMode, withTask, withInvocation, withConnection, withRecord, withRecords}
 
 -- ---- over lists
@@ -140,7 +140,7 @@ connection-more rs b =
       thing-same 6 rs (rec 7 b) refl,
       thing-more 7 rs (rec 7 b) refl,
       map-snoc rules.connectionOf (rules.things 7 rs) b,
-      padded-more 64 (connectionLaid noConnection) connectionLaid (map rules.connectionOf (rules.things 7 rs)) (rules.connectionOf b),
+      padded-more 64 (connectionLaid rules.noConnection) connectionLaid (map rules.connectionOf (rules.things 7 rs)) (rules.connectionOf b),
       length-snoc (map rules.connectionOf (rules.things 7 rs)) (rules.connectionOf b),
     )
 

@@ -3,7 +3,7 @@ use lib.Dec.{T}
 use Rattle.laws.specs.Lists.{all}
 use Rattle.laws.specs.Numbers.{euclid, gcd, lcm, ceil, up, down}
 use Rattle.rules.specs.Records.{kinds, known, fields, bodyLength, planFollows, tableFollows, recordOf, walk, records}
-use Rattle.rules.specs.Plan.{busOf, modeOf, taskOf, invocationOf, connectionOf, isKind, things, only, moduleOf, planOf, count, leastCounts, mostCounts, countFits, namesAreThere, payloadsOrdered, numbersAreWithin, theMode, theTask, theInvocation, periodOf, isHome, hasMode, switchDivides, fitsItsMode, sameRun, isRepeat, invocationKeeps, firstMode, firstInvocation, rule5, readPlan}
+use Rattle.rules.specs.Plan.{busOf, modeOf, taskOf, invocationOf, connectionOf, isKind, things, only, moduleOf, planOf, count, leastCounts, mostCounts, countFits, namesAreThere, payloadsOrdered, numbersAreWithin, theMode, theTask, theInvocation, periodOf, isHome, hasMode, switchDivides, fitsItsMode, theConnection, sameRun, invocationKeeps, isOwn, sameEnds, connectionKeeps, firstMode, firstInvocation, firstConnection, rule5, readPlan}
 use Rattle.rules.specs.Traffic.{moduleNode, taskNode, invokes, leaves, isBusTask, busTasks, livesIn, isSending, standsOn}
 use Rattle.rules.specs.Traffic.{sendersOn, controlPayload, isSendingNode, sendingNodes, runOf, ofBusTask, busRuns, withRun}
 use Rattle.rules.specs.Traffic.{periodOfRuns, busPeriod, withMode, ofSender, switchGrid, message, messagesOf, messages, basic, isMessage, has}
@@ -14,14 +14,14 @@ use Rattle.rules.specs.Direct.{deadlineAfter, isStillAhead, nextOf, next
 use Rattle.rules.specs.LatestRelease.{numberedFrom, withDeadline, greatestDeadline, isCandidate, isLater, latestOf, isOther, lowered, taken, startOf, fits, place, timeAlone, latestRelease}
 use Rattle.rules.specs.Table.{recordBytes, heldIn, pairsIn, alone, isNumber, dataRow, headerBytes, controlBytes, dataBytes, tableBytes, startFor, rowsFrom, rowsThenZero, madeTable, tableFor, make}
 use Rattle.rules.specs.Checker.{controlRowOf, dataRowOf, tableOf, headerRight, controlAt, rowAt, sameControl, controlKept, nameOf, rowOf, isPairOf, sameName, heldBefore, isNew, namedIn, pairsOfRow, namesNew, timeKept, isReleasedBy, releaseKept, isDueFrom, deadlineKept, gapKept, lastKept, firstRow, lastRow, rowsKeep, shaped, timed, judged, checkFiles, holdsPair, rowHolding, checkedRow, check}
-use Rattle.rules.specs.Jobs.{lentRows, lentBytes, zeroRows, bytesOf, file, changed, recordsA, planA, planAWith, framesA, tableA, rowsA, tableAWith, framesB, recordsJ, tableJ, framesJ, recordsS, recordsMany, recordsCounted, plenty, documentJobs, limits, tableAtC, tableCoarse, tableGap, tableEqual, tableRounded, tableLeast, tableEarly, tableTwoFaults, tableInGap, tableOff, framesOfFour, framesAtC, ownEntries, entries, holds}
+use Rattle.rules.specs.Jobs.{lentRows, lentBytes, zeroRows, bytesOf, file, changed, recordsA, planA, planAWith, planAJoined, framesA, tableA, rowsA, tableAWith, framesB, recordsJ, tableJ, framesJ, recordsS, recordsMany, joins, recordsCounted, plenty, documentJobs, limits, tableAtC, tableCoarse, tableGap, tableEqual, tableRounded, tableLeast, tableEarly, tableTwoFaults, tableInGap, tableOff, framesOfFour, framesAtC, ownEntries, entries, holds}
 
 -- all that the jobs compute with
 unfoldable pub everything : Unit {0}
 unfolding euclid gcd lcm ceil up down kinds known fields bodyLength planFollows tableFollows recordOf walk records busOf modeOf
     taskOf invocationOf connectionOf isKind things only moduleOf planOf count leastCounts mostCounts countFits namesAreThere
     payloadsOrdered numbersAreWithin theMode theTask theInvocation periodOf isHome hasMode switchDivides fitsItsMode sameRun
-    isRepeat invocationKeeps firstMode firstInvocation rule5 readPlan moduleNode taskNode invokes leaves isBusTask busTasks
+    theConnection invocationKeeps isOwn sameEnds connectionKeeps firstMode firstInvocation firstConnection rule5 readPlan moduleNode taskNode invokes leaves isBusTask busTasks
     livesIn isSending standsOn sendersOn controlPayload isSendingNode sendingNodes runOf ofBusTask busRuns withRun periodOfRuns
     busPeriod withMode ofSender switchGrid message messagesOf messages pairOrder merged withPair pairsOf pairs pairOf basic isMessage has pairSize hasOf bytesIn isModeIn block payload rowTime
     ticksOfBits sendingTime gapTime cycleEnd controlFrom controlRows controlEnd someBusTask messageFits controlFits payloadsFit layoutOf
@@ -29,8 +29,8 @@ unfolding euclid gcd lcm ceil up down kinds known fields bodyLength planFollows 
     place timeAlone latestRelease recordBytes heldIn pairsIn alone isNumber dataRow headerBytes controlBytes dataBytes tableBytes startFor rowsFrom
     rowsThenZero madeTable tableFor make controlRowOf dataRowOf tableOf headerRight controlAt rowAt sameControl controlKept
     nameOf rowOf isPairOf sameName heldBefore isNew namedIn pairsOfRow namesNew timeKept isReleasedBy releaseKept isDueFrom deadlineKept gapKept lastKept firstRow lastRow rowsKeep shaped timed judged checkFiles
-    holdsPair rowHolding checkedRow check lentRows lentBytes zeroRows bytesOf file changed recordsA planA planAWith framesA tableA rowsA tableAWith
-    framesB recordsJ tableJ framesJ recordsS recordsMany recordsCounted plenty documentJobs limits tableAtC tableCoarse tableGap tableEqual tableRounded tableLeast tableEarly tableTwoFaults tableInGap
+    holdsPair rowHolding checkedRow check lentRows lentBytes zeroRows bytesOf file changed recordsA planA planAWith planAJoined framesA tableA rowsA tableAWith
+    framesB recordsJ tableJ framesJ recordsS recordsMany joins recordsCounted plenty documentJobs limits tableAtC tableCoarse tableGap tableEqual tableRounded tableLeast tableEarly tableTwoFaults tableInGap
     tableOff framesOfFour framesAtC ownEntries entries
 everything = tt
 

@@ -2,6 +2,7 @@ pub mod AllowedExact
 pub mod BodyNumbers
 pub mod CheckerExact
 pub mod Direct
+pub mod Doubtful
 pub mod FollowsTold
 pub mod Gaps
 pub mod Grid

@@ -1,20 +1,19 @@
 -- PlanExact: each test of 2 to 11 means its rule (specs/ObeysPlan), so a plan is read exactly where its bytes are records that keep 2 to 5,
 -- and laid out exactly where it keeps 6 to 11; else the number given is that of the first rule that is broken, at its lowest place.
 use mathlib.Core.Path.{_≡_, refl, sym, ap, _∙_}
-use mathlib.Core.Bool.{Bool}
+use mathlib.Core.Bool.{Bool, _&&_}
 use mathlib.Core.List.{List, [], _∷_}
 use mathlib.Core.Logic.{_↔_}
 use native.Mathlib.Nat.{not-suc-le-zero, le-of-suc-le-suc, suc-inj}
 use native.Mathlib.Omega.{arith}
-use lib.Dec.{leb}
-use lib.ListN.{length, getD, take}
-use lib.Seq.{length-take-le, getD-take}
+use lib.Dec.{eqb, leb}
+use lib.ListN.{length, getD}
 use Prim.Native.Nat.{ℕ, zero, suc, _+_, _≤_, _<_, zero-le, suc-le-suc}
 use Rattle.laws.specs.Res.{Res, ok, refuse, _>>_, unless, at}
 use Rattle.laws.specs.Lists.{firstBad, upTo}
 use Rattle.laws.specs.Numbers.{divides}
 use Rattle.laws.specs.Faults.{AllKept, FirstFault}
-use Rattle.laws.proofs.Tests.{Tests, by-iff, by-and, by-not, by-where, by-any, by-any-upTo, by-all-keep-upTo, by-eq, by-le, by-lt, by-divides}
+use Rattle.laws.proofs.Tests.{Tests, by-iff, by-and, by-not, by-where, by-any, by-fresh, by-any-upTo, by-all-keep-upTo, by-eq, by-le, by-lt, by-divides}
 use Rattle.laws.proofs.Res.{refuse≢ok, ok-injective, bind-case, then-case, bind-refused, then-refused, then-assoc}
 use Rattle.laws.proofs.Faults.{Exact, exact-rule, exact-list, exact-once, exact-then}
 use Rattle.laws.proofs.Members.{All, empty, also, all-getD}
@@ -28,19 +27,24 @@ use Rattle.rules.specs.Plan.{
   payloadsOrdered,
   noMode,
   noInvocation,
+  noConnection,
   theMode,
   theTask,
   theInvocation,
+  theConnection,
   periodOf,
   isHome,
   hasMode,
   switchDivides,
   fitsItsMode,
   sameRun,
-  isRepeat,
   invocationKeeps,
+  isOwn,
+  sameEnds,
+  connectionKeeps,
   firstMode,
   firstInvocation,
+  firstConnection,
   isKind,
   planOf,
   count,
@@ -64,6 +68,7 @@ use Rattle.rules.specs.ObeysPlan.{
   HasMode,
   SwitchDivides,
   InvocationFits,
+  ConnectionFits,
   zeroRecord,
   recordAt,
   planRules,
@@ -71,8 +76,6 @@ use Rattle.rules.specs.ObeysPlan.{
   ReadFault,
   ofBytes,
   ofRules,
-  noConnection,
-  theConnection,
   IsBusTask,
   SomeBusTask,
   PayloadsFit,
@@ -162,6 +165,10 @@ numbers-mean r s =
 
 -- ---- 5
 
+-- two numbers are the same as two others
+same-two : (a b c d : ℕ) → Tests (eqb a b && eqb c d) ((b ≡ a) × (d ≡ c))
+same-two a b c d = by-iff (by-and (by-eq a b) (by-eq c d)) (λ h. (sym (h .0), sym (h .1))) (λ h. (sym (h .0), sym (h .1)))
+
 module _ (p : Plan) where
   mode-means : (m : ℕ) → Tests (hasMode p m) (HasMode p m)
   unfolding hasMode isHome theMode
@@ -174,45 +181,37 @@ module _ (p : Plan) where
   unfolding switchDivides theMode
   switch-means μ = by-divides (theMode p μ .switch) (theMode p μ .period)
 
-  abbrev SameRun : ℕ → ℕ → Type 0
-  SameRun k j = (theInvocation p j .mode ≡ theInvocation p k .mode) × (theInvocation p j .task ≡ theInvocation p k .task)
-
-  run-means : (k j : ℕ) → k < length (p .invocations) → j < length (take k (p .invocations))
-      → Tests (sameRun (theInvocation p k) (getD (take k (p .invocations)) j noInvocation)) (SameRun k j)
-  unfolding sameRun theInvocation
-  run-means k j w v =
-      let cut : length (take k (p .invocations)) ≡ k = length-take-le k (p .invocations) (omega arith) in
-      let below : j < k = omega (arith, cut) in
-      let a = theInvocation p k in
-      let b = theInvocation p j in
-      rw (getD-take k (p .invocations) j noInvocation below)
-      (by-iff (by-and (by-eq (a .mode) (b .mode)) (by-eq (a .task) (b .task)))
-      (λ h. (sym (h .0), sym (h .1)))
-      (λ h. (sym (h .0), sym (h .1))))
-
   invocation-means : (k : ℕ) → k < length (p .invocations) → Tests (invocationKeeps p k) (InvocationFits p k)
-  unfolding invocationKeeps fitsItsMode isRepeat
+  unfolding invocationKeeps fitsItsMode sameRun theInvocation
   invocation-means k w =
       let i = theInvocation p k in
       let μ = theMode p (i .mode) in
       let t = theTask p (i .task) in
-      let cut : length (take k (p .invocations)) ≡ k = length-take-le k (p .invocations) (omega arith) in
       by-iff
       (by-and
       (by-and (by-and (by-divides (i .rate) (μ .period)) (by-divides (periodOf p i) (μ .switch)))
       (by-and (by-le (t .worst) (periodOf p i)) (by-eq (t .home) (μ .home))))
-      (by-not (by-any (sameRun i) (take k (p .invocations)) noInvocation (λ j v. run-means k j w v))))
+      (by-fresh sameRun noInvocation (p .invocations) k (omega arith)
+      (λ j v. same-two (i .mode) (theInvocation p j .mode) (i .task) (theInvocation p j .task))))
       (λ h. record {
         rate = h .0 .0 .0;
         period = h .0 .0 .1;
         worst = h .0 .1 .0;
         home = h .0 .1 .1;
-        once = λ j v a b. h .1 (j, rw cut v, (a, b));
+        once = λ j v a b. h .1 j v (a, b);
       })
-      (λ h. (
-        ((h .rate, h .period), (h .worst, h .home)),
-        λ q. h .once (q .0) (rw cut at (q .1)) (q .2 .0) (q .2 .1),
-      ))
+      (λ h. (((h .rate, h .period), (h .worst, h .home)), λ j v q. h .once j v (q .0) (q .1)))
+
+  pub connection-means : (k : ℕ) → k < length (p .connections) → Tests (connectionKeeps p k) (ConnectionFits p k)
+  unfolding connectionKeeps isOwn sameEnds theConnection
+  connection-means k w =
+      let c = theConnection p k in
+      by-iff
+      (by-and (by-not (by-eq (c .producer) (c .consumer)))
+      (by-fresh sameEnds noConnection (p .connections) k (omega arith)
+      (λ j v. same-two (c .producer) (theConnection p j .producer) (c .consumer) (theConnection p j .consumer))))
+      (λ h. record { apart = h .0; once = λ j v a b. h .1 j v (a, b) })
+      (λ h. (h .apart, λ j v q. h .once j v (q .0) (q .1)))
 
 -- ---- 2 to 5 in order
 
@@ -234,10 +233,15 @@ module _ (rs : List Rec) where
       exact-then
       (exact-rule (record { number = 5; first = 2; places = length (p .modules); asks = HasMode p }) (hasMode p) (λ m w. mode-means p m)) λ h₅.
       exact-then (exact-list 5 (firstMode p) (SwitchDivides p) (p .modes) noMode switchDivides (λ μ w. switch-means p μ)) λ h₆.
-      exact-rule
+      exact-then
+      (exact-rule
       (record { number = 5; first = firstInvocation p; places = length (p .invocations); asks = InvocationFits p })
       (invocationKeeps p)
-      (invocation-means p)
+      (invocation-means p)) λ h₇.
+      exact-rule
+      (record { number = 5; first = firstConnection p; places = length (p .connections); asks = ConnectionFits p })
+      (connectionKeeps p)
+      (connection-means p)
 
   grouped : _>>_ judgedPlan (ok (planOf rs))
       ≡ _>>_ (at 2 2 (firstBad (countFits rs) (upTo 6)))

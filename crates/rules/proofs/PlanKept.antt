@@ -1,5 +1,5 @@
 -- PlanKept: what refusals 1 to 5 leave of a plan that is read: each count, name and range of docs/RULES.md, section 3, by name, and what
--- rules 6.5.1 to 6.5.7 ask.
+-- rules 6.5.1 to 6.5.9 ask.
 use mathlib.Core.Path.{_≡_, refl, sym, subst}
 use mathlib.Core.Bool.{true}
 use mathlib.Core.List.{List, []}
@@ -42,7 +42,7 @@ use Rattle.rules.specs.Plan.{
   count,
   readPlan,
 }
-use Rattle.rules.specs.ObeysPlan.{CountFits, fieldAt, NamesThere, NumbersWithin, SwitchDivides, InvocationFits, zeroRecord, recordAt, ReadsAs}
+use Rattle.rules.specs.ObeysPlan.{CountFits, fieldAt, NamesThere, NumbersWithin, SwitchDivides, InvocationFits, ConnectionFits, zeroRecord, recordAt, ReadsAs}
 use Rattle.rules.proofs.PlanExact.{read-exact}
 
 -- ---- what a plan that is read keeps
@@ -100,6 +100,7 @@ pub record PlanKept (p : Plan) : Type 0 where
   pub hasMode : (m : ℕ) → m < length (p .modules) → (k : ℕ) × (k < length (p .modes)) × (theMode p k .home ≡ m)
   pub once : (j k : ℕ) → j < k → k < length (p .invocations) → theInvocation p j .mode ≡ theInvocation p k .mode
       → theInvocation p j .task ≡ theInvocation p k .task → ⊥
+  pub doubtless : (k : ℕ) → k < length (p .connections) → ConnectionFits p k
 
 -- ---- bodies by kind
 
@@ -356,6 +357,7 @@ module _ (file : List ℕ) (p : Plan) (h : ReadsAs file p) where
         connections = connections-kept;
         hasMode = λ m w. let f = h .kept .1 .1 .1 .0 .each m w in (f .mode, f .there, f .own);
         once = λ j k v w. fits k w .once j v;
+        doubtless = h .kept .1 .1 .1 .1 .1 .1 .0 .each;
       })
 
 -- a plan that passes 1 to 5 keeps every count, name, range and sentence of them

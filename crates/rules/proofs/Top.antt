@@ -21,7 +21,8 @@ use Rattle.rules.specs.Table.{FrameRow, make}
 use Rattle.rules.specs.Checker.{tableOf, check}
 use Rattle.rules.specs.Gaps.{GapsKept}
 use Rattle.rules.specs.Obeys.{MayPass, BrokenAt, MakesTable, RuleRefuses}
-use Rattle.rules.specs.ObeysPlan.{ReadsAs, layoutRules}
+use Rattle.rules.specs.ObeysPlan.{ConnectionFits, ReadsAs, layoutRules}
+use Rattle.rules.specs.Doubtful.{sound}
 use Rattle.rules.specs.Playing.{Input}
 use Rattle.rules.specs.Station.{Begun, State, begin}
 use Rattle.rules.specs.History.{played, consumes}
@@ -31,6 +32,7 @@ use Rattle.rules.proofs.Period.{IsBusPeriod, IsSwitchGrid, period, swit
 use Rattle.rules.proofs.PairsOf.{IsPairsOf, plan-pairs}
 use Rattle.rules.proofs.Direct.{FoundDirectly, found-directly}
 use Rattle.rules.proofs.PlanExact.{read-exact, layout-exact}
+use Rattle.rules.proofs.Doubtful.{read-sound, sound-fits, same-layout, same-consumers}
 use Rattle.rules.proofs.RuleSteps as steps
 use Rattle.rules.proofs.CheckerExact.{checker-exact, rule-exact}
 use Rattle.rules.proofs.MadePasses.{made-checks}
@@ -48,6 +50,18 @@ it-reads-exactly = read-exact
 -- It is laid out exactly when it keeps 6 to 11.
 pub it-lays-out-exactly : (p : Plan) (l : Layout) → (layout p ≡ ok l) ↔ (AllKept (layoutRules p) × (layoutOf p ≡ l))
 it-lays-out-exactly = layout-exact
+
+-- A plan that is read is one without doubtful connections.
+pub what-is-read-is-sound : (file : List ℕ) (p : Plan) → readPlan file ≡ ok p → sound p ≡ p
+what-is-read-is-sound = read-sound
+
+-- Of any plan: without them it has none left ..
+pub the-sound-has-none : (p : Plan) (k : ℕ) → k < length (sound p .connections) → ConnectionFits (sound p) k
+the-sound-has-none = sound-fits
+
+-- .. and is laid out as with them: the same refusal, or the same period, control rows, frames, windows and times.
+pub frames-stay : (p : Plan) → layout (sound p) ≡ layout p
+frames-stay = same-layout
 
 -- P is a common multiple of the periods of all invocations of bus tasks, and divides every other.
 pub the-bus-period : (p : Plan) → IsBusPeriod p (busPeriod p)
@@ -110,6 +124,10 @@ pub it-accepts-exactly : (plan table : List ℕ) (starting : ℕ → Option ℕ)
     → (p : Plan) → readPlan plan ≡ ok p
     → (history : List Input) → ((s : State) × (played (b .kept) (b .state) history ≡ ok s)) ↔ Allowed p starting history
 it-accepts-exactly = history-told
+
+-- Whether a node consumes a task does not depend on doubtful connections either.
+pub consumers-stay : (p : Plan) (n t : ℕ) → consumes (sound p) n t ≡ consumes p n t
+consumers-stay = same-consumers
 
 -- Behind every history of accepted ticks, on every node that consumes a task of another
 -- node the value shown is the one result of the last run of the task that has ended, or zero.

@@ -4,9 +4,9 @@ use mathlib.Core.Bool.{Bool, true, false, not, _&&_}
 use mathlib.Core.List.{List, [], _∷_, _++_, map}
 use lib.Dec.{eqb}
 use lib.ListN.{length, getD, set, take, replicate}
-use Prim.Native.Nat.{ℕ, _-_}
+use Prim.Native.Nat.{ℕ, _+_, _-_, _/_, _%_}
 use Rattle.laws.specs.Res.{Res, ok, refuse}
-use Rattle.laws.specs.Lists.{joined}
+use Rattle.laws.specs.Lists.{joined, upTo}
 use Rattle.rules.specs.Records.{Rec}
 use Rattle.rules.specs.Plan.{Plan, numbersAreWithin, readPlan}
 use Rattle.rules.specs.Traffic.{busRuns, basic}
@@ -139,6 +139,10 @@ planA = file recordsA
 unfoldable pub planAWith : ℕ → ℕ → ℕ → List ℕ
 planAWith r k value = file (changed recordsA r k value)
 
+-- with these connections behind its own
+unfoldable pub planAJoined : List (List ℕ) → List ℕ
+planAJoined ends = file (recordsA ++ map (rec 7) ends)
+
 -- its four frames, by their windows from release to deadline, with these starts
 unfoldable pub framesA : ℕ → ℕ → ℕ → ℕ → List FrameRow
 framesA first second third fourth =
@@ -263,7 +267,11 @@ recordsMany n =
     ∷ rec 7 (1 ∷ 0 ∷ [])
     ∷ []
 
--- So many nodes, modules, modes, tasks, invocations and connections, each of the first thing that it can be of.
+-- different connections by number, from the first eight tasks to the next eight
+unfoldable pub joins : ℕ → Rec
+joins k = rec 7 ((k / 8) ∷ (8 + k % 8) ∷ [])
+
+-- So many nodes, modules, modes, tasks, invocations and connections, each but the last of the first thing that it can be of.
 unfoldable pub recordsCounted : List ℕ → List Rec
 recordsCounted counts =
     rec 1 (8000 ∷ 0 ∷ 0 ∷ 254 ∷ 0 ∷ 1 ∷ [])
@@ -271,7 +279,7 @@ recordsCounted counts =
     ∷ replicate (getD counts 1 0) (rec 3 (0 ∷ []))
     ++ (replicate (getD counts 2 0) (rec 4 (0 ∷ 60 ∷ 60 ∷ []))
     ++ (replicate (getD counts 3 0) (rec 5 (0 ∷ 1 ∷ 1 ∷ []))
-    ++ (replicate (getD counts 4 0) (rec 6 (0 ∷ 0 ∷ 1 ∷ [])) ++ replicate (getD counts 5 0) (rec 7 (0 ∷ 0 ∷ [])))))
+    ++ (replicate (getD counts 4 0) (rec 6 (0 ∷ 0 ∷ 1 ∷ [])) ++ map joins (upTo (getD counts 5 0)))))
 
 -- enough room for each table below
 unfoldable pub plenty : ℕ
@@ -296,13 +304,13 @@ documentJobs =
     ∷ passes (file recordsJ) tableJ framesJ
     ∷ []
 
--- Both sides of each limit of section 3: what 1 to 5 say of a plan with the fewest things but for one kind (rule 3.1), and of job A's
--- plan with one number changed: record, place in it, value (rules 3.2 and 3.3).
+-- Both sides of each limit of section 3: what 1 to 5 say of a plan with one thing of each kind, sixteen tasks and no connection, but for
+-- one kind (rule 3.1), and of job A's plan with one number changed: record, place in it, value (rules 3.2 and 3.3).
 abbrev pub fine : Res (Unit {0})
 fine = ok tt
 
 abbrev pub withCount : ℕ → ℕ → Res (Unit {0}) → Entry
-withCount kind n says = reads (file (recordsCounted (set (1 ∷ 1 ∷ 1 ∷ 1 ∷ 1 ∷ 0 ∷ []) (kind - 2) n))) says
+withCount kind n says = reads (file (recordsCounted (set (1 ∷ 1 ∷ 1 ∷ 16 ∷ 1 ∷ 0 ∷ []) (kind - 2) n))) says
 
 abbrev pub withValue : ℕ → ℕ → ℕ → Res (Unit {0}) → Entry
 withValue r k value says = reads (planAWith r k value) says
@@ -312,8 +320,8 @@ limits =
     withCount 2 0 (refuse 2 2) ∷ withCount 2 1 fine ∷ withCount 2 8 fine ∷ withCount 2 9 (refuse 2 2)  -- nodes
     ∷ withCount 3 0 (refuse 2 3) ∷ withCount 3 16 (refuse 5 3) ∷ withCount 3 17 (refuse 2 3)  -- modules; all but the first have no mode
     ∷ withCount 4 0 (refuse 2 4) ∷ withCount 4 32 fine ∷ withCount 4 33 (refuse 2 4)  -- modes
-    ∷ withCount 5 0 (refuse 2 5) ∷ withCount 5 32 fine ∷ withCount 5 33 (refuse 2 5)  -- tasks
-    ∷ withCount 6 0 (refuse 2 6) ∷ withCount 6 64 (refuse 5 6) ∷ withCount 6 65 (refuse 2 6)  -- invocations; the second repeats the first
+    ∷ withCount 5 0 (refuse 2 5) ∷ withCount 5 1 fine ∷ withCount 5 32 fine ∷ withCount 5 33 (refuse 2 5)  -- tasks
+    ∷ withCount 6 0 (refuse 2 6) ∷ withCount 6 64 (refuse 5 21) ∷ withCount 6 65 (refuse 2 6)  -- invocations; the second repeats the first
     ∷ withCount 7 64 fine ∷ withCount 7 65 (refuse 2 7)  -- connections
     ∷ withValue 0 0 0 (refuse 4 0) ∷ withValue 0 0 1 fine ∷ withValue 0 0 100000 fine ∷ withValue 0 0 100001 (refuse 4 0)  -- kbit/s
     ∷ withValue 0 1 0 fine ∷ withValue 0 1 64 fine ∷ withValue 0 1 65 (refuse 4 0)  -- overhead
@@ -499,7 +507,14 @@ ownEntries =
     ∷ notMade (planAWith 7 2 30001) plenty 5 9  -- 5: worst time
     ∷ notMade (planAWith 11 1 0) plenty 5 11  -- 5: task and mode of different modules
     ∷ notMade (planAWith 10 0 0) plenty 5 10  -- 5: a task twice in one mode, the later
-    ∷ notMade (planAWith 12 1 0) plenty 6 0  -- 6
+    ∷ notMade (planAWith 12 1 0) plenty 5 12  -- 5: a connection from a task to itself
+    ∷ notMade (planAJoined ((0 ∷ 1 ∷ []) ∷ [])) plenty 5 13  -- 5: a connection twice, the later
+    ∷ notMade (planAJoined ((1 ∷ 0 ∷ []) ∷ (0 ∷ 1 ∷ []) ∷ [])) plenty 5 14  -- another one stands between them
+    ∷ notMade (planAJoined ((1 ∷ 1 ∷ []) ∷ (1 ∷ 1 ∷ []) ∷ [])) plenty 5 13  -- a task to itself twice: the first
+    ∷ reads (planAJoined ((1 ∷ 0 ∷ []) ∷ [])) fine  -- there and back
+    ∷ notMade (file (changed (changed recordsA 10 0 0) 12 1 0)) plenty 5 10  -- the lower record
+    ∷ notMade (planAJoined ((0 ∷ 1 ∷ []) ∷ (0 ∷ 2 ∷ []) ∷ [])) plenty 3 14  -- 3 goes before 5
+    ∷ notMade (planAWith 3 0 0) plenty 6 0  -- 6
     ∷ notMade (planAWith 5 2 20000) plenty 7 0  -- 7
     ∷ notMade (file (recordsMany 256)) plenty 9 0  -- 9
     ∷ notMade (file (recordsMany 255)) plenty 12 254  -- 256 pairs are allowed

@@ -16,6 +16,7 @@ pub mod StationRange
 pub mod OneBoard
 pub mod Obeys
 pub mod ObeysPlan
+pub mod Doubtful
 pub mod History
 pub mod Heard
 pub mod Told

@@ -9,7 +9,6 @@ use Rattle.rules.specs.Limits.{mostFrames}
 use Rattle.rules.specs.Records.{Field, names, ranges, free, Rec, fields, planFollows}
 use Rattle.rules.specs.Plan.{
   Plan,
-  Connection,
   nth,
   planOf,
   count,
@@ -18,9 +17,11 @@ use Rattle.rules.specs.Plan.{
   theMode,
   theTask,
   theInvocation,
+  theConnection,
   periodOf,
   firstMode,
   firstInvocation,
+  firstConnection,
 }
 use Rattle.rules.specs.Traffic.{taskNode, busPeriod, switchGrid, controlPayload}
 use Rattle.rules.specs.Frames.{pairs, controlEnd}
@@ -70,6 +71,13 @@ pub record InvocationFits (p : Plan) (k : ℕ) : Type 0 where
   pub once :
       (j : ℕ) → j < k → theInvocation p j .mode ≡ theInvocation p k .mode → theInvocation p j .task ≡ theInvocation p k .task → ⊥
 
+-- Rules 6.5.8 and 6.5.9, of a connection: its producer is not its consumer; no connection before it has the same producer and consumer.
+pub record ConnectionFits (p : Plan) (k : ℕ) : Type 0 where
+  pub apart : theConnection p k .producer ≡ theConnection p k .consumer → ⊥
+  pub once :
+      (j : ℕ) → j < k → theConnection p j .producer ≡ theConnection p k .producer
+      → theConnection p j .consumer ≡ theConnection p k .consumer → ⊥
+
 -- the record of a number
 abbrev pub zeroRecord : Rec
 zeroRecord = record { kind = 0; numbers = [] }
@@ -77,7 +85,7 @@ zeroRecord = record { kind = 0; numbers = [] }
 unfoldable pub recordAt : List Rec → ℕ → Rec
 recordAt rs k = getD rs k zeroRecord
 
--- The rules in order. The three of number 5 ask of records that stand behind each other: modules, modes, invocations.
+-- The rules in order. The four of number 5 ask of records that stand behind each other: modules, modes, invocations, connections.
 abbrev pub planRules : List Rec → List Rule
 planRules rs =
     record { number = 2; first = 2; places = 6; asks = CountFits rs }
@@ -90,6 +98,12 @@ planRules rs =
       first = firstInvocation (planOf rs);
       places = length (planOf rs .invocations);
       asks = InvocationFits (planOf rs);
+    }
+    ∷ record {
+      number = 5;
+      first = firstConnection (planOf rs);
+      places = length (planOf rs .connections);
+      asks = ConnectionFits (planOf rs);
     }
     ∷ []
 
@@ -106,13 +120,6 @@ pub data ReadFault (file : List ℕ) (n q : ℕ) : Type 0 where
   ofRules : {rs : List Rec} → AreRecords planFollows 0 file rs → FirstFault (planRules rs) n q → ReadFault file n q
 
 -- ---- what a plan asks of the bus (6 to 11)
-
--- a connection of the plan, by number
-abbrev pub noConnection : Connection
-noConnection = record { producer = 0; consumer = 0 }
-
-unfoldable pub theConnection : Plan → ℕ → Connection
-theConnection p c = getD (p .connections) c noConnection
 
 -- Rule 4.2: a bus task has an invocation, and a connection from it goes to a task on another node.
 pub record IsBusTask (p : Plan) (t : ℕ) : Type 0 where

@@ -2,10 +2,10 @@
 use mathlib.Core.Bool.{Bool, true, cond, not, _&&_}
 use mathlib.Core.List.{List, [], _∷_, map}
 use lib.Dec.{eqb, leb, ltb}
-use lib.ListN.{getD, length, take}
+use lib.ListN.{getD, length}
 use Prim.Native.Nat.{ℕ, _+_, _/_}
 use Rattle.laws.specs.Res.{Res, ok, _>>=_, _>>_, at}
-use Rattle.laws.specs.Lists.{keep, any, firstBad, upTo}
+use Rattle.laws.specs.Lists.{keep, any, firstBad, isFresh, upTo}
 use Rattle.laws.specs.Numbers.{divides}
 use Rattle.rules.specs.Limits.{mostNodes, mostModules, mostModes, mostTasks, mostInvocations, mostConnections}
 use Rattle.rules.specs.Records.{Field, names, ranges, free, Rec, fields, records, planFollows}
@@ -149,6 +149,9 @@ noTask = record { home = 0; size = 0; worst = 0 }
 abbrev pub noInvocation : Invocation
 noInvocation = record { mode = 0; task = 0; rate = 0 }
 
+abbrev pub noConnection : Connection
+noConnection = record { producer = 0; consumer = 0 }
+
 unfoldable pub theMode : Plan → ℕ → Mode
 theMode p μ = getD (p .modes) μ noMode
 
@@ -157,6 +160,9 @@ theTask p t = getD (p .tasks) t noTask
 
 unfoldable pub theInvocation : Plan → ℕ → Invocation
 theInvocation p k = getD (p .invocations) k noInvocation
+
+unfoldable pub theConnection : Plan → ℕ → Connection
+theConnection p k = getD (p .connections) k noConnection
 
 -- Rule 4.1: an invocation's period is its mode's, divided by its rate.
 unfoldable pub periodOf : Plan → Invocation → ℕ
@@ -186,11 +192,19 @@ fitsItsMode p i =
 unfoldable pub sameRun : Invocation → Invocation → Bool
 sameRun i j = eqb (i .mode) (j .mode) && eqb (i .task) (j .task)
 
-unfoldable pub isRepeat : Plan → ℕ → Bool
-isRepeat p k = any (sameRun (theInvocation p k)) (take k (p .invocations))
-
 unfoldable pub invocationKeeps : Plan → ℕ → Bool
-invocationKeeps p k = fitsItsMode p (theInvocation p k) && not (isRepeat p k)
+invocationKeeps p k = fitsItsMode p (theInvocation p k) && isFresh sameRun noInvocation (p .invocations) k
+
+-- Refusal 5, of a connection: it joins two tasks, not one to itself (rule 6.5.8), and no earlier one has its producer and its consumer
+-- (rule 6.5.9). One that does not keep both is doubtful.
+unfoldable pub isOwn : Connection → Bool
+isOwn c = eqb (c .producer) (c .consumer)
+
+unfoldable pub sameEnds : Connection → Connection → Bool
+sameEnds c d = eqb (c .producer) (d .producer) && eqb (c .consumer) (d .consumer)
+
+unfoldable pub connectionKeeps : Plan → ℕ → Bool
+connectionKeeps p k = not (isOwn (theConnection p k)) && isFresh sameEnds noConnection (p .connections) k
 
 -- The first record of each kind of thing: bus 0, nodes 1, then the things in the order of their kinds (reading 6).
 unfoldable pub firstMode : Plan → ℕ
@@ -199,12 +213,16 @@ firstMode p = 2 + length (p .modules)
 unfoldable pub firstInvocation : Plan → ℕ
 firstInvocation p = firstMode p + length (p .modes) + length (p .tasks)
 
+unfoldable pub firstConnection : Plan → ℕ
+firstConnection p = firstInvocation p + length (p .invocations)
+
 -- Refusal 5 at the lowest record at fault.
 unfoldable pub rule5 : Plan → Res (Unit {0})
 rule5 p = do
   at 5 2 (firstBad (hasMode p) (upTo (length (p .modules))))
   at 5 (firstMode p) (firstBad switchDivides (p .modes))
   at 5 (firstInvocation p) (firstBad (invocationKeeps p) (upTo (length (p .invocations))))
+  at 5 (firstConnection p) (firstBad (connectionKeeps p) (upTo (length (p .connections))))
 
 -- Refusals 1 to 5 by rule 6.31: each over the whole plan before the next, and at the lowest place where it applies.
 unfoldable pub readPlan : List ℕ → Res Plan

@@ -142,23 +142,46 @@ fn number_out_of_range(rng: &mut Rng, draft: &mut Draft) {
 fn broken_sentence(rng: &mut Rng, draft: &mut Draft) {
     let number = rng.between(2, 1_000_000);
     let other_task = rng.below(draft.tasks.len()) as u8;
-    match rng.below(7) {
+    match rng.below(10) {
         0 => change(rng, &mut draft.modes, |mode| mode.switch_period = number),
         1 => change(rng, &mut draft.invocations, |run| run.rate = number as u16 | 1),
         2 => change(rng, &mut draft.modes, |mode| mode.switch_period = 1),
         3 => change(rng, &mut draft.tasks, |task| task.worst_time = number),
         4 => change(rng, &mut draft.invocations, |run| run.task = other_task),
-        5 => {
-            let Some(&mut run) = any(rng, &mut draft.invocations) else { return };
-            let at = rng.below(draft.invocations.len() + 1);
-            if draft.invocations.len() < MOST_INVOCATIONS {
-                draft.invocations.insert(at, run);
-            }
-        }
-        _ => {
+        5 => repeat(rng, &mut draft.invocations, MOST_INVOCATIONS),
+        6 => {
             if draft.modules.len() < MOST_MODULES {
                 draft.modules.extend(draft.modules.last().copied());
             }
+        }
+        _ => doubtful_connections(rng, draft),
+    }
+}
+
+/// Puts a thing anywhere, in the place of another where there are as many as may be.
+fn put<T>(rng: &mut Rng, things: &mut Vec<T>, most: usize, thing: T) {
+    if things.len() < most {
+        things.insert(rng.below(things.len() + 1), thing);
+    } else {
+        change(rng, things, |other| *other = thing);
+    }
+}
+
+fn repeat<T: Copy>(rng: &mut Rng, things: &mut Vec<T>, most: usize) {
+    if let Some(&mut thing) = any(rng, things) {
+        put(rng, things, most, thing);
+    }
+}
+
+/// Connections repeated, and connections of a task with itself.
+fn doubtful_connections(rng: &mut Rng, draft: &mut Draft) {
+    for _ in 0..rng.pick(&[1, 1, 2, 3]) {
+        if rng.one_in(2) {
+            let task = rng.below(draft.tasks.len()) as u8;
+            let own = Connection { producer: task, consumer: task };
+            put(rng, &mut draft.connections, MOST_CONNECTIONS, own);
+        } else {
+            repeat(rng, &mut draft.connections, MOST_CONNECTIONS);
         }
     }
 }
@@ -167,9 +190,11 @@ fn keep_on_nodes(rng: &mut Rng, draft: &mut Draft) {
     if rng.one_in(2) {
         draft.modules.iter_mut().for_each(|module| module.node = 0);
     } else {
-        let own =
-            |&Connection { producer, .. }: &Connection| Connection { producer, consumer: producer };
-        draft.connections = draft.connections.iter().map(own).collect();
+        let node = |task: u8| {
+            let task = draft.tasks.get(usize::from(task))?;
+            draft.modules.get(usize::from(task.module)).map(|module| module.node)
+        };
+        draft.connections.retain(|of| node(of.producer) == node(of.consumer));
     }
 }
 

@@ -99,7 +99,8 @@ fn modes(rng: &mut Rng, size: &Size, senders: &[bool]) -> Vec<Mode> {
     let mut modes: Vec<Mode> = (0..size.modes)
         .map(|number| {
             let module = if number < size.modules { number } else { rng.below(size.modules) };
-            let unit = if senders[module] { size.base } else { rng.between(1, 2 * size.base) };
+            let longest = LONGEST_PERIOD.min(2 * size.base);
+            let unit = if senders[module] { size.base } else { rng.between(1, longest) };
             let switch_period = times_within(rng, unit);
             let period = times_within(rng, switch_period);
             Mode { module: module as u8, period, switch_period }
@@ -162,24 +163,23 @@ fn shorten_worst_times(rng: &mut Rng, draft: &mut Draft) {
     }
 }
 
+/// Different pairs of two tasks, of one node where the producer may not send. The first pair, from task 0
+/// to task 1, is always among them.
 fn connections(rng: &mut Rng, size: &Size, draft: &Draft, senders: &[bool]) -> Vec<Connection> {
-    let mut connections: Vec<Connection> = (0..size.connections)
-        .map(|_| {
-            let producer = rng.below(size.tasks);
-            let may_send = senders[usize::from(draft.tasks[producer].module)];
-            let node = draft.node_of_task(producer);
-            let consumer = rng.below(size.tasks);
-            let stays = !may_send && draft.node_of_task(consumer) != node;
-            Connection {
-                producer: producer as u8,
-                consumer: if stays { producer } else { consumer } as u8,
-            }
+    let may_send = |task: usize| senders[usize::from(draft.tasks[task].module)];
+    let mut pairs: Vec<(usize, usize)> = (0..size.tasks)
+        .flat_map(|producer| (0..size.tasks).map(move |consumer| (producer, consumer)))
+        .filter(|(producer, consumer)| producer != consumer)
+        .filter(|&(producer, consumer)| {
+            may_send(producer) || draft.node_of_task(producer) == draft.node_of_task(consumer)
         })
         .collect();
-    if size.connections > 0 && size.tasks > 1 {
-        connections[0] = Connection { producer: 0, consumer: 1 };
-    }
-    connections
+    rng.shuffle(pairs.get_mut(1..).unwrap_or_default());
+    pairs.truncate(size.connections);
+    rng.shuffle(&mut pairs);
+    let connection =
+        |(producer, consumer)| Connection { producer: producer as u8, consumer: consumer as u8 };
+    pairs.into_iter().map(connection).collect()
 }
 
 /// No time is shorter than this bus's.

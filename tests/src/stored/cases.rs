@@ -29,7 +29,15 @@ pub struct Case {
 impl Case {
     fn new(what: What, plan: &[u8]) -> Case {
         let (text, line) = (String::new(), String::new());
-        Case { what, rows: MOST_FRAMES, room: 0, text, plan: plan.to_vec(), table: Vec::new(), line }
+        Case {
+            what,
+            rows: MOST_FRAMES,
+            room: 0,
+            text,
+            plan: plan.to_vec(),
+            table: Vec::new(),
+            line,
+        }
     }
 
     /// A plan that is read, answered by this implementation. The same holds of the next two.

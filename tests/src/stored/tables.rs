@@ -73,7 +73,7 @@ fn full() -> Vec<Case> {
         edited(|_| {}),
         edited(|table| table.data.extend_from_within(..1)),
         edited(|table| table.data.extend_from_within(..)),
-        edited(|table| table.control.resize(9, table.control[0].clone())),
+        edited(|table| table.control.resize(9, table.control[0])),
         edited(|table| table.data[255] = table.data[254]),
         edited(|table| table.data[254] = table.data[255]),
         edited(|table| table.data.swap(0, 255)),

@@ -1,24 +1,16 @@
--- Four exits, each a case of `rule5`: `unfit-module`, `unfit-mode`, `unfit-invocation`, `all-fit`; the counts bound each sum.
+-- Five exits, each a case of `rule5`: `unfit-module`, `unfit-mode`, `unfit-invocation`, `doubtful-connection`, `all-fit`; the counts
+-- bound each sum.
 use borrow.Author.Needs.{needs}
 use native.Mathlib.Omega.{arith}
-use Rattle.planfits.proofs.LowestUnfit.{unfit-module, unfit-mode, unfit-invocation, all-fit}
+use Rattle.planfits.proofs.LowestUnfit.{unfit-module, unfit-mode, unfit-invocation, doubtful-connection, all-fit}
 use Rattle.planfits.proofs.first_unfit.Statement.{statement}
 use Rattle.planfits.proofs.first_unfit.Tie as tie
 
 first-without-mode-requires : tie.Need-first-without-mode-requires
 first-without-mode-requires c κs = (c .before .before .before .mode-count .ensures .1, c .before .before .before .before .module-count .ensures .1)
 
-add-t12 : tie.Need-add-t12
-add-t12 c =
-    let c1 = c .before .before .before in
-    omega (
-      arith,
-      c .if1 .taken,
-      c1 .before .before .before .module-count .ensures .1,
-      c1 .before .before .mode-count .ensures .1,
-      c1 .before .task-count .ensures .1,
-      c1 .invocation-count .ensures .1,
-    )
+add-t17 : tie.Need-add-t17
+add-t17 c = omega (arith, c .if1 .taken, c .before .before .before .before .before .before .module-count .ensures .1)
 
 returns : tie.Need-returns
 returns c =
@@ -28,31 +20,16 @@ returns c =
     (c1 .before .task-count .ensures .0) (c1 .invocation-count .ensures .0)
     _ (c .before .first-without-mode .ensures) (c .if1 .taken)
 
+add-first-mode : tie.Need-add-first-mode
+add-first-mode c = omega (arith, c .before .before .before .before .before .before .module-count .ensures .1)
+
 first-bad-switch-requires : tie.Need-first-bad-switch-requires
 first-bad-switch-requires c κs = c .before .before .before .before .before .mode-count .ensures .1
 
-add-t13 : tie.Need-add-t13
-add-t13 c =
+add-t18 : tie.Need-add-t18
+add-t18 c =
     let c1 = c .before .before .before .before .before in
-    omega (
-      arith,
-      c1 .before .before .before .module-count .ensures .1,
-      c1 .before .before .mode-count .ensures .1,
-      c1 .before .task-count .ensures .1,
-      c1 .invocation-count .ensures .1,
-    )
-
-add-t14 : tie.Need-add-t14
-add-t14 c =
-    let c1 = c .before .before .before .before .before in
-    omega (
-      arith,
-      c .if2 .taken,
-      c1 .before .before .before .module-count .ensures .1,
-      c1 .before .before .mode-count .ensures .1,
-      c1 .before .task-count .ensures .1,
-      c1 .invocation-count .ensures .1,
-    )
+    omega (arith, c .if2 .taken, c1 .before .before .before .module-count .ensures .1, c1 .before .before .mode-count .ensures .1)
 
 returns-2 : tie.Need-returns-2
 returns-2 c =
@@ -63,44 +40,26 @@ returns-2 c =
     _ (c1 .first-without-mode .ensures)
     _ (c .before .before .if1 .left) (c .before .first-bad-switch .ensures) (c .if2 .taken)
 
+add-first-invocation : tie.Need-add-first-invocation
+add-first-invocation c =
+    let c1 = c .before .before .before .before .before in
+    omega (arith, c1 .before .before .before .module-count .ensures .1, c1 .before .before .mode-count .ensures .1)
+
+add-first-invocation-2 : tie.Need-add-first-invocation-2
+add-first-invocation-2 c =
+    let c1 = c .before .before .before .before .before in
+    omega (
+      arith,
+      c1 .before .before .before .module-count .ensures .1,
+      c1 .before .before .mode-count .ensures .1,
+      c1 .before .task-count .ensures .1,
+    )
+
 first-repeat-requires : tie.Need-first-repeat-requires
 first-repeat-requires c κs = c .before .before .before .before .before .before .before .invocation-count .ensures .1
 
-add-t17 : tie.Need-add-t17
-add-t17 c =
-    let c1 = c .before .before .before .before .before .before .before .before .before .before in
-    omega (
-      arith,
-      c1 .before .before .before .module-count .ensures .1,
-      c1 .before .before .mode-count .ensures .1,
-      c1 .before .task-count .ensures .1,
-      c1 .invocation-count .ensures .1,
-    )
-
-add-t18 : tie.Need-add-t18
-add-t18 c =
-    let c1 = c .before .before .before .before .before .before .before .before .before .before in
-    omega (
-      arith,
-      c1 .before .before .before .module-count .ensures .1,
-      c1 .before .before .mode-count .ensures .1,
-      c1 .before .task-count .ensures .1,
-      c1 .invocation-count .ensures .1,
-    )
-
-add-t19 : tie.Need-add-t19
-add-t19 c =
-    let c1 = c .before .before .before .before .before .before .before .before .before .before in
-    omega (
-      arith,
-      c1 .before .before .before .module-count .ensures .1,
-      c1 .before .before .mode-count .ensures .1,
-      c1 .before .task-count .ensures .1,
-      c1 .invocation-count .ensures .1,
-    )
-
-add-t20 : tie.Need-add-t20
-add-t20 c =
+add-t21 : tie.Need-add-t21
+add-t21 c =
     let c1 = c .before .before .before .before .before .before .before .before .before .before in
     omega (
       arith,
@@ -124,9 +83,54 @@ returns-3 c =
     _ _ _ (c1 .before .before .if2 .left) (c .before .lower .ensures) (c1 .first-misfit .ensures)
     (c .before .before .first-repeat .ensures) (c .if3 .taken)
 
+first-doubtful-requires : tie.Need-first-doubtful-requires
+first-doubtful-requires c κs = c .before .connection-count .ensures .1
+
+add-t22 : tie.Need-add-t22
+add-t22 c =
+    let c1 = c .before .before .before .before .before .before .before .before .before .before .before .before .before .before in
+    omega (
+      arith,
+      c1 .before .before .before .module-count .ensures .1,
+      c1 .before .before .mode-count .ensures .1,
+      c1 .before .task-count .ensures .1,
+      c1 .invocation-count .ensures .1,
+    )
+
+add-t23 : tie.Need-add-t23
+add-t23 c =
+    let c1 = c .before .before .before .before .before .before .before .before .before .before .before .before .before .before in
+    omega (
+      arith,
+      c .if4 .taken,
+      c .before .before .before .connection-count .ensures .1,
+      c1 .before .before .before .module-count .ensures .1,
+      c1 .before .before .mode-count .ensures .1,
+      c1 .before .task-count .ensures .1,
+      c1 .invocation-count .ensures .1,
+    )
+
 returns-4 : tie.Need-returns-4
 returns-4 c =
-    let c1 = c .before .before .before in
+    let joined = c .before .before .before in
+    let c0 = joined .before in
+    let c1 = c0 .before .before .before in
+    let c2 = c1 .before .before .before in
+    let c3 = c2 .before .before .before .before in
+    let c4 = c3 .before .before .before in
+    doubtful-connection (c4 .before .args .p) _ _ _ _ (c4 .module-count .ensures .0) (c3 .before .before .mode-count .ensures .0)
+    (c3 .before .task-count .ensures .0) (c3 .invocation-count .ensures .0)
+    _ (c2 .before .before .first-without-mode .ensures)
+    _ (c2 .before .if1 .left) (c2 .first-bad-switch .ensures)
+    _ _ _ (c1 .before .before .if2 .left) (c0 .before .lower .ensures) (c1 .first-misfit .ensures)
+    (c0 .before .before .first-repeat .ensures)
+    _ _ (joined .connection-count .ensures .0) (c0 .if3 .left) (c .before .first-doubtful .ensures) (c .if4 .taken)
+
+returns-5 : tie.Need-returns-5
+returns-5 c =
+    let joined = c .before .before .before in
+    let c0 = joined .before in
+    let c1 = c0 .before .before .before in
     let c2 = c1 .before .before .before in
     let c3 = c2 .before .before .before .before in
     let c4 = c3 .before .before .before in
@@ -134,13 +138,15 @@ returns-4 c =
     (c3 .before .task-count .ensures .0) (c3 .invocation-count .ensures .0)
     _ (c2 .before .before .first-without-mode .ensures)
     _ (c2 .before .if1 .left) (c2 .first-bad-switch .ensures)
-    _ _ _ (c1 .before .before .if2 .left) (c .before .lower .ensures) (c1 .first-misfit .ensures)
-    (c .before .before .first-repeat .ensures) (c .if3 .left)
+    _ _ _ (c1 .before .before .if2 .left) (c0 .before .lower .ensures) (c1 .first-misfit .ensures)
+    (c0 .before .before .first-repeat .ensures)
+    _ _ (joined .connection-count .ensures .0) (c0 .if3 .left) (c .before .first-doubtful .ensures) (c .if4 .left)
 
 pub first-unfit-spec : {M : Type 1} → statement M
 first-unfit-spec =
     tie.close
     (tie.spec (λ c κs. search needs) (λ c κs. search needs) (λ c κs. search needs) (λ c κs. search needs)
     first-without-mode-requires
-    add-t12 returns first-bad-switch-requires add-t13 add-t14 returns-2 (λ c κs. search needs) first-repeat-requires
-    (λ c κs. search needs) add-t17 add-t18 add-t19 add-t20 returns-3 returns-4)
+    add-t17 returns add-first-mode first-bad-switch-requires add-t18 returns-2 add-first-invocation add-first-invocation-2
+    (λ c κs. search needs) first-repeat-requires (λ c κs. search needs) add-t21 returns-3
+    (λ c κs. search needs) first-doubtful-requires add-t22 add-t23 returns-4 returns-5)

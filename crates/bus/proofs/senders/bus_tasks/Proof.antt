@@ -4,8 +4,9 @@ use native.Mathlib.Omega.{arith}
 use Prim.Native.Nat.{ℕ, _≤_, _<_, _-_}
 use lib.ListN.{length, getD, take}
 use lib.Seq.{take-all}
-use Rattle.plan.specs.Memory.{seen, noConnection, connectionSeen, connectionLaid}
+use Rattle.plan.specs.Memory.{seen, connectionSeen, connectionLaid}
 use Rattle.plan.specs.declared.Plan.{Plan}
+use Rattle.rules.specs.Plan.{noConnection}
 use Rattle.rules.specs.Traffic.{isBusTask}
 use Rattle.bus.specs.Senders.{byNumber, invokedBy, busTaskBy}
 use Rattle.bus.proofs.Things.{connection-here}
@@ -32,7 +33,7 @@ loop-holds : tie.Need-loop-holds Inv-loop μ-loop
 loop-holds c = (search needs, bus-tasks-none (seen (c .before .args .t1)))
 
 loop-again : tie.Need-loop-again Inv-loop μ-loop
-unfolding connectionLaid noConnection
+unfolding connectionLaid
 loop-again c =
     let c1 = c .before .before .before .before in
     let c2 = c1 .before .before .before in

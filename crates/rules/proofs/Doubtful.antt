@@ -1,0 +1,185 @@
+-- Doubtful: no connection that rules 6.5.8 and 6.5.9 refuse ever made a bus task or a consumer (docs/RULES.md, section 15). A repeat asks
+-- what the earlier one asks, and a connection of a task with itself leaves no node; so a plan comes to the same without them.
+use mathlib.Core.Path.{_≡_, refl, sym, ap, _∙_, fun-ext}
+use mathlib.Core.Bool.{Bool, true, false, not, _&&_, and-false}
+use mathlib.Core.List.{List, [], _∷_, map, foldr}
+use native.Mathlib.Omega.{arith}
+use borrow.Author.Tests.{eqb-true, eq-eqb}
+use lib.Dec.{eqb, leb, ltb}
+use lib.ListN.{length, getD}
+use Prim.Native.Nat.{ℕ, _+_, _≤_, _<_}
+use Rattle.laws.specs.Res.{ok}
+use Rattle.laws.specs.Lists.{keep, any, isFresh, upTo}
+use Rattle.laws.proofs.Lists.{true-false, both-left, both-right}
+use Rattle.laws.proofs.LeftOut.{not-fresh, placeOf, keepAt-all, keepAt-from, place-within, place-passes, places-rise, any-keepAt}
+use Rattle.rules.specs.Plan.{Connection, Plan, noConnection, theMode, theTask, theConnection, periodOf, isOwn, sameEnds, connectionKeeps, readPlan}
+use Rattle.rules.specs.Traffic.{moduleNode, taskNode, invokes, leaves, isBusTask, busTasks, livesIn, isSending, standsOn, sendersOn, controlPayload}
+use Rattle.rules.specs.Traffic.{isSendingNode, sendingNodes, ofBusTask, runOf, busRuns, busPeriod, withMode, ofSender, switchGrid, basic}
+use Rattle.rules.specs.Frames.{ControlRow, sendingTime, pairs, pairSize, bytesIn, isModeIn, block, payload, rowTime, controlFrom, controlRows, controlEnd, someBusTask, messageFits, controlFits, payloadsFit, layoutOf, layout}
+use Rattle.rules.specs.History.{brings, consumes}
+use Rattle.rules.specs.ObeysPlan.{ConnectionFits}
+use Rattle.rules.specs.Doubtful.{soundConnections, sound}
+use Rattle.rules.proofs.PlanExact.{connection-means}
+use Rattle.rules.proofs.PlanKept.{readable-kept}
+
+module _ (p : Plan) where
+  -- ---- the connections that stay
+
+  pub sound-fits : (k : ℕ) → k < length (sound p .connections) → ConnectionFits (sound p) k
+  unfolding sound soundConnections theConnection
+  sound-fits k w =
+      let here = keepAt-from (connectionKeeps p) noConnection (p .connections) k w in
+      let at = placeOf (connectionKeeps p) noConnection (p .connections) in
+      let fits =
+      connection-means p (at k) (place-within (connectionKeeps p) noConnection (p .connections) k w)
+      .says (place-passes (connectionKeeps p) noConnection (p .connections) k w) in
+      record {
+        apart = rw here (fits .apart);
+        once =
+            λ j v a b.
+            let there = keepAt-from (connectionKeeps p) noConnection (p .connections) j (omega arith) in
+            fits .once (at j) (places-rise (connectionKeeps p) noConnection (p .connections) k w j v) (rw (there, here) at a) (rw (there, here) at b);
+      }
+
+  -- where none is doubtful all stay
+  pub sound-already : ((k : ℕ) → k < length (p .connections) → ConnectionFits p k) → sound p ≡ p
+  unfolding sound soundConnections
+  sound-already h =
+      ap (λ (cs : List Connection). record {
+        bus = p .bus;
+        nodes = p .nodes;
+        modules = p .modules;
+        modes = p .modes;
+        tasks = p .tasks;
+        invocations = p .invocations;
+        connections = cs;
+      })
+      (keepAt-all (connectionKeeps p) noConnection (p .connections) (λ k w. connection-means p k w .passes (h k w)))
+
+  -- ---- a test that a repeat passes as the earlier one does, and that no connection of a task with itself passes
+
+  module _
+      (q : Connection → Bool)
+      (by-ends : (c d : Connection) → c .producer ≡ d .producer → c .consumer ≡ d .consumer → q c ≡ q d)
+      (not-own : (c : Connection) → c .producer ≡ c .consumer → q c ≡ true → ⊥) where
+    earlier-passes : (k : ℕ) → k < length (p .connections) → connectionKeeps p k ≡ false → q (theConnection p k) ≡ true
+        → (j : ℕ) × (j < k) × (q (theConnection p j) ≡ true)
+    unfolding connectionKeeps isOwn sameEnds theConnection
+    earlier-passes k w e f = look (isOwn (theConnection p k)) refl
+      where
+        look : (b : Bool) → isOwn (theConnection p k) ≡ b → (j : ℕ) × (j < k) × (q (theConnection p j) ≡ true)
+        look true o = absurd (not-own (theConnection p k) (eqb-true (theConnection p k .producer) (theConnection p k .consumer) o) f)
+        look false o =
+            let g = not-fresh sameEnds noConnection (p .connections) k (omega arith) (sym (ap (λ (b : Bool). not b && isFresh sameEnds noConnection (p .connections) k) o) ∙ e) in
+            let c = theConnection p k in
+            let d = theConnection p (g .0) in
+            let from = eqb (c .producer) (d .producer) in
+            let to = eqb (c .consumer) (d .consumer) in
+            let same-from = eqb-true (c .producer) (d .producer) (both-left from to (g .2)) in
+            let same-to = eqb-true (c .consumer) (d .consumer) (both-right from to (g .2)) in
+            (g .0, g .1, sym (by-ends c d same-from same-to) ∙ f)
+
+    pub any-sound : any q (soundConnections p) ≡ any q (p .connections)
+    unfolding soundConnections theConnection
+    any-sound = any-keepAt (connectionKeeps p) noConnection (p .connections) q earlier-passes
+
+  -- ---- bus tasks and consumers
+
+  leaving-by-ends : (t : ℕ) (c d : Connection) → c .producer ≡ d .producer → c .consumer ≡ d .consumer → leaves p t c ≡ leaves p t d
+  unfolding leaves
+  leaving-by-ends t c d a b = rw (a, b)
+
+  own-stays : (t : ℕ) (c : Connection) → c .producer ≡ c .consumer → leaves p t c ≡ true → ⊥
+  unfolding leaves
+  own-stays t c e l =
+      let same : c .consumer ≡ t = sym e ∙ eqb-true (c .producer) t (both-left _ _ l) in
+      true-false (sym (both-right (eqb (c .producer) t) _ l) ∙ ap not (eq-eqb (taskNode p (c .consumer)) (taskNode p t) (ap (taskNode p) same)))
+
+  pub same-bus-task : (t : ℕ) → isBusTask (sound p) t ≡ isBusTask p t
+  unfolding isBusTask leaves taskNode moduleNode theTask sound
+  same-bus-task t = ap (λ (b : Bool). any (invokes t) (p .invocations) && b) (any-sound (leaves p t) (leaving-by-ends t) (own-stays t))
+
+  -- ---- what the plan comes to
+
+  same-bus-tasks : isBusTask (sound p) ≡ isBusTask p
+  same-bus-tasks = fun-ext same-bus-task
+
+  same-tasks : busTasks (sound p) ≡ busTasks p
+  unfolding busTasks sound
+  same-tasks = ap (λ (b : ℕ → Bool). keep b (upTo (length (p .tasks)))) same-bus-tasks
+
+  same-runs : busRuns (sound p) ≡ busRuns p
+  unfolding busRuns ofBusTask runOf periodOf theMode theTask sound
+  same-runs = ap (λ (b : ℕ → Bool). map (runOf p) (keep (λ i. b (i .task)) (p .invocations))) same-bus-tasks
+
+  same-sending : isSending (sound p) ≡ isSending p
+  unfolding isSending livesIn theTask sound
+  same-sending = fun-ext (λ m. ap (any (livesIn p m)) same-tasks)
+
+  same-grid : switchGrid (sound p) ≡ switchGrid p
+  unfolding switchGrid ofSender sound
+  same-grid = ap (λ (b : ℕ → Bool). foldr withMode 0 (keep (λ μ. b (μ .home)) (p .modes))) same-sending
+
+  same-control : controlPayload (sound p) ≡ controlPayload p
+  unfolding controlPayload sendersOn standsOn moduleNode sound
+  same-control =
+      fun-ext
+      (λ n. ap (λ (b : ℕ → Bool). length (keep (λ m. eqb (moduleNode p m) n && b m) (upTo (length (p .modules))))) same-sending)
+
+  same-senders : sendingNodes (sound p) ≡ sendingNodes p
+  unfolding sendingNodes isSendingNode sound
+  same-senders = ap (λ (payload : ℕ → ℕ). keep (λ n. ltb 0 (payload n)) (upTo (p .nodes))) same-control
+
+  same-rows-from : (start : ℕ) (ns : List ℕ) → controlFrom (sound p) start ns ≡ controlFrom p start ns
+  unfolding controlFrom sound
+  same-rows-from start [] = refl
+  same-rows-from start (n ∷ ns) =
+      rw (same-control) (ap (λ (rows : List ControlRow). record { node = n; start = start; stop = start + sendingTime (p .bus) (controlPayload p n) } ∷ rows) (same-rows-from _ ns))
+
+  same-rows : controlRows (sound p) ≡ controlRows p
+  unfolding controlRows
+  same-rows = same-rows-from 0 (sendingNodes (sound p)) ∙ ap (controlFrom p 0) same-senders
+
+  same-traffic : basic (sound p) ≡ basic p
+  unfolding basic busPeriod
+  same-traffic = rw (same-runs, same-grid)
+
+  same-control-fit : controlFits (sound p) ≡ controlFits p
+  unfolding controlFits sound
+  same-control-fit = fun-ext (λ n. ap (λ (payload : ℕ → ℕ). leb (payload n) (p .bus .most)) same-control)
+
+  same-fit : payloadsFit (sound p) ≡ payloadsFit p
+  unfolding payloadsFit messageFits theTask sound
+  same-fit = rw (same-tasks, same-senders, same-control-fit)
+
+  same-end : controlEnd (sound p) ≡ controlEnd p
+  unfolding controlEnd sound
+  same-end = rw same-rows
+
+  -- without its doubtful connections a plan gives the same refusal, or period, control rows, frames, windows and times
+  pub same-layout : layout (sound p) ≡ layout p
+  unfolding layout layoutOf pairs someBusTask rowTime payload block bytesIn isModeIn theMode pairSize theTask sound
+  same-layout = rw (same-bus-tasks, same-traffic, same-fit, same-end, same-rows)
+
+  bringing-by-ends : (n t : ℕ) (c d : Connection) → c .producer ≡ d .producer → c .consumer ≡ d .consumer → brings p n t c ≡ brings p n t d
+  unfolding brings
+  bringing-by-ends n t c d a b = rw (a, b)
+
+  own-not-brought : (n t : ℕ) → eqb (taskNode p t) n ≡ false → (c : Connection) → c .producer ≡ c .consumer → brings p n t c ≡ true → ⊥
+  unfolding brings
+  own-not-brought n t away c e l =
+      let same : c .consumer ≡ t = sym e ∙ eqb-true (c .producer) t (both-left _ _ l) in
+      true-false (sym (both-right (eqb (c .producer) t) _ l) ∙ ap (λ (u : ℕ). eqb (taskNode p u) n) same ∙ away)
+
+  pub same-consumers : (n t : ℕ) → consumes (sound p) n t ≡ consumes p n t
+  unfolding consumes brings taskNode moduleNode theTask sound
+  same-consumers n t = look (eqb (taskNode p t) n) refl
+    where
+      look : (b : Bool) → eqb (taskNode p t) n ≡ b
+          → (any (brings p n t) (soundConnections p) && not (eqb (taskNode p t) n)) ≡ (any (brings p n t) (p .connections) && not (eqb (taskNode p t) n))
+      look true e = rw e (and-false (any (brings p n t) (soundConnections p)) ∙ sym (and-false (any (brings p n t) (p .connections))))
+      look false e = ap (λ (b : Bool). b && not (eqb (taskNode p t) n)) (any-sound (brings p n t) (bringing-by-ends n t) (own-not-brought n t e))
+
+-- a plan that is read has no doubtful connection
+pub read-sound : (file : List ℕ) (p : Plan) → readPlan file ≡ ok p → sound p ≡ p
+read-sound file p e = sound-already p (readable-kept file p e .doubtless)
