@@ -12,9 +12,10 @@ use Prim.Native.Nat.{ℕ, zero, suc, _≤_, _<_}
 use Rattle.laws.specs.Lists.{keep, any, isFresh, upTo, keepAt}
 use Rattle.laws.proofs.Arrays.{tab-list}
 use Rattle.laws.proofs.Lists.{any-hit, any-true, map-tab}
-use Rattle.laws.proofs.Members.{Pairs, all-weaker, all-upTo, all-keep, all-getD, all-member, keep-all, keep-passes, keep-member, keep-from, member-map, member-tab, source, any-member, any-among, map-getD, pairs-keep, pairs-getD, pairs-upTo}
+use Rattle.laws.proofs.Members.{all-weaker, all-upTo, all-keep, all-getD, all-member, keep-all, keep-passes, keep-member, keep-from, member-map, member-tab, source, any-member, any-among, map-getD, pairs-keep, pairs-getD, pairs-upTo}
 use Rattle.laws.proofs.Tests.{by-itself, by-same}
 
+-- one that is not fresh: which earlier one it is like
 pub not-fresh : {A : Type 0} (like : A → A → Bool) (d : A) (l : List A) (k : ℕ) → k ≤ length l → isFresh like d l k ≡ false
     → (j : ℕ) × (j < k) × (like (getD l k d) (getD l j d) ≡ true)
 not-fresh like d l k w e =

@@ -17,6 +17,17 @@ use Rattle.planfits.specs.Scans.{placeOr, unfitOf}
 use Rattle.planfits.specs.Fits.{hasModeIn, fitsAt, isDoubtlessIn}
 use Rattle.planfits.proofs.Places.{at-met, at-end, at-met-upTo, at-end-upTo, first-of-two}
 
+-- What is known behind the scans over modules, modes and invocations: the counts, that modules and modes are without fault, and the first
+-- invocation that is not.
+pub record Scanned (p : Plan) (modules modes tasks count i : ℕ) : Type 0 where
+  pub modules-counted : modules ≡ length (seen p .modules)
+  pub modes-counted : modes ≡ length (seen p .modes)
+  pub tasks-counted : tasks ≡ length (seen p .tasks)
+  pub invocations-counted : count ≡ length (seen p .invocations)
+  pub modules-fit : at 5 2 (firstBad (rules.hasMode (seen p)) (upTo (length (seen p .modules)))) ≡ ok tt
+  pub modes-fit : at 5 (rules.firstMode (seen p)) (firstBad rules.switchDivides (seen p .modes)) ≡ ok tt
+  pub lowest : i ≡ placeOr (length (seen p .invocations)) (firstBad (rules.invocationKeeps (seen p)) (upTo (length (seen p .invocations))))
+
 module _
     (p : Plan)
     (modules modes tasks count : ℕ)
@@ -80,44 +91,57 @@ module _
         modes-pass : at 5 (rules.firstMode (seen p)) (firstBad rules.switchDivides (seen p .modes)) ≡ ok tt
         modes-pass = at-end rules.switchDivides (seen p .modes) rules.noMode 5 (rules.firstMode (seen p)) k mode-place (rw eμ at every)
 
-        pub unfit-invocation : i < count → unfitOf (At (2 + modules + modes + tasks + i)) ≡ rules.rule5 (seen p)
-        unfolding rules.rule5 rules.firstInvocation rules.firstMode
-        unfit-invocation h =
-            rw (em, eμ, et)
-            (sym (then-ok _ modules-pass
-            ∙ then-ok _ modes-pass
-            ∙ then-refuse _ (at-met-upTo (rules.invocationKeeps (seen p)) (length (seen p .invocations)) 5 (rules.firstInvocation (seen p)) i invocation-place (rw ei at h))))
+        pub scanned : Scanned p modules modes tasks count i
+        scanned =
+            record {
+              modules-counted = em;
+              modes-counted = eμ;
+              tasks-counted = et;
+              invocations-counted = ei;
+              modules-fit = modules-pass;
+              modes-fit = modes-pass;
+              lowest = invocation-place;
+            }
 
-        module _
-            (joins c : ℕ)
-            (ej : joins ≡ length (seen p .connections))
-            (each : count ≤ i)
-            (hc : c ≡ placeOr joins (firstBad (isDoubtlessIn (map connectionSeen (take joins (p .connections)))) (upTo joins))) where
-          connections-again : map connectionSeen (take joins (p .connections)) ≡ seen p .connections
-          unfolding seen
-          connections-again = rw ej (part-again connectionSeen (countSeen p 7) (p .connections))
+module _ {p : Plan} {modules modes tasks count i : ℕ} (s : Scanned p modules modes tasks count i) where
+  pub unfit-invocation : i < count → unfitOf (At (2 + modules + modes + tasks + i)) ≡ rules.rule5 (seen p)
+  unfolding rules.rule5 rules.firstInvocation rules.firstMode
+  unfit-invocation h =
+      rw (s .modules-counted, s .modes-counted, s .tasks-counted)
+      (sym (then-ok _ (s .modules-fit)
+      ∙ then-ok _ (s .modes-fit)
+      ∙ then-refuse _ (at-met-upTo (rules.invocationKeeps (seen p)) (length (seen p .invocations)) 5 (rules.firstInvocation (seen p)) i (s .lowest) (rw (s .invocations-counted) at h))))
 
-          connection-place : c ≡ placeOr (length (seen p .connections)) (firstBad (rules.connectionKeeps (seen p)) (upTo (length (seen p .connections))))
-          unfolding isDoubtlessIn rules.connectionKeeps rules.theConnection
-          connection-place = rw (← ej) (hc ∙ rw connections-again)
+  module _
+      (joins c : ℕ)
+      (ej : joins ≡ length (seen p .connections))
+      (each : count ≤ i)
+      (hc : c ≡ placeOr joins (firstBad (isDoubtlessIn (map connectionSeen (take joins (p .connections)))) (upTo joins))) where
+    connections-again : map connectionSeen (take joins (p .connections)) ≡ seen p .connections
+    unfolding seen
+    connections-again = rw ej (part-again connectionSeen (countSeen p 7) (p .connections))
 
-          invocations-pass : at 5 (rules.firstInvocation (seen p)) (firstBad (rules.invocationKeeps (seen p)) (upTo (length (seen p .invocations)))) ≡ ok tt
-          invocations-pass =
-              at-end-upTo (rules.invocationKeeps (seen p)) (length (seen p .invocations)) 5 (rules.firstInvocation (seen p)) i invocation-place (rw ei at each)
+    connection-place : c ≡ placeOr (length (seen p .connections)) (firstBad (rules.connectionKeeps (seen p)) (upTo (length (seen p .connections))))
+    unfolding isDoubtlessIn rules.connectionKeeps rules.theConnection
+    connection-place = rw (← ej) (hc ∙ rw connections-again)
 
-          pub doubtful-connection : c < joins → unfitOf (At (2 + modules + modes + tasks + count + c)) ≡ rules.rule5 (seen p)
-          unfolding rules.rule5 rules.firstConnection rules.firstInvocation rules.firstMode
-          doubtful-connection h =
-              rw (em, eμ, et, ei)
-              (sym (then-ok _ modules-pass
-              ∙ then-ok _ modes-pass
-              ∙ then-ok _ invocations-pass
-              ∙ at-met-upTo (rules.connectionKeeps (seen p)) (length (seen p .connections)) 5 (rules.firstConnection (seen p)) c connection-place (rw ej at h)))
+    invocations-fit : at 5 (rules.firstInvocation (seen p)) (firstBad (rules.invocationKeeps (seen p)) (upTo (length (seen p .invocations)))) ≡ ok tt
+    invocations-fit =
+        at-end-upTo (rules.invocationKeeps (seen p)) (length (seen p .invocations)) 5 (rules.firstInvocation (seen p)) i (s .lowest) (rw (s .invocations-counted) at each)
 
-          pub all-fit : joins ≤ c → unfitOf Nothing ≡ rules.rule5 (seen p)
-          unfolding rules.rule5
-          all-fit h =
-              sym (then-ok _ modules-pass
-              ∙ then-ok _ modes-pass
-              ∙ then-ok _ invocations-pass
-              ∙ at-end-upTo (rules.connectionKeeps (seen p)) (length (seen p .connections)) 5 (rules.firstConnection (seen p)) c connection-place (rw ej at h))
+    pub doubtful-connection : c < joins → unfitOf (At (2 + modules + modes + tasks + count + c)) ≡ rules.rule5 (seen p)
+    unfolding rules.rule5 rules.firstConnection rules.firstInvocation rules.firstMode
+    doubtful-connection h =
+        rw (s .modules-counted, s .modes-counted, s .tasks-counted, s .invocations-counted)
+        (sym (then-ok _ (s .modules-fit)
+        ∙ then-ok _ (s .modes-fit)
+        ∙ then-ok _ invocations-fit
+        ∙ at-met-upTo (rules.connectionKeeps (seen p)) (length (seen p .connections)) 5 (rules.firstConnection (seen p)) c connection-place (rw ej at h)))
+
+    pub all-fit : joins ≤ c → unfitOf Nothing ≡ rules.rule5 (seen p)
+    unfolding rules.rule5
+    all-fit h =
+        sym (then-ok _ (s .modules-fit)
+        ∙ then-ok _ (s .modes-fit)
+        ∙ then-ok _ invocations-fit
+        ∙ at-end-upTo (rules.connectionKeeps (seen p)) (length (seen p .connections)) 5 (rules.firstConnection (seen p)) c connection-place (rw ej at h))

@@ -6,8 +6,8 @@ use mathlib.Core.List.{List, [], _∷_, map, foldr}
 use native.Mathlib.Omega.{arith}
 use borrow.Author.Tests.{eqb-true, eq-eqb}
 use lib.Dec.{eqb, leb, ltb}
-use lib.ListN.{length, getD}
-use Prim.Native.Nat.{ℕ, _+_, _≤_, _<_}
+use lib.ListN.{length}
+use Prim.Native.Nat.{ℕ, _+_, _<_}
 use Rattle.laws.specs.Res.{ok}
 use Rattle.laws.specs.Lists.{keep, any, isFresh, upTo}
 use Rattle.laws.proofs.Lists.{true-false, both-left, both-right}
@@ -18,16 +18,16 @@ use Rattle.rules.specs.Traffic.{isSendingNode, sendingNodes, ofBusTask, 
 use Rattle.rules.specs.Frames.{ControlRow, sendingTime, pairs, pairSize, bytesIn, isModeIn, block, payload, rowTime, controlFrom, controlRows, controlEnd, someBusTask, messageFits, controlFits, payloadsFit, layoutOf, layout}
 use Rattle.rules.specs.History.{brings, consumes}
 use Rattle.rules.specs.ObeysPlan.{ConnectionFits}
-use Rattle.rules.specs.Doubtful.{soundConnections, sound}
+use Rattle.rules.specs.Doubtful.{undoubted, withConnections, withoutDoubtful}
 use Rattle.rules.proofs.PlanExact.{connection-means}
 use Rattle.rules.proofs.PlanKept.{readable-kept}
 
 module _ (p : Plan) where
   -- ---- the connections that stay
 
-  pub sound-fits : (k : ℕ) → k < length (sound p .connections) → ConnectionFits (sound p) k
-  unfolding sound soundConnections theConnection
-  sound-fits k w =
+  pub none-left : (k : ℕ) → k < length (withoutDoubtful p .connections) → ConnectionFits (withoutDoubtful p) k
+  unfolding withoutDoubtful withConnections undoubted theConnection
+  none-left k w =
       let here = keepAt-from (connectionKeeps p) noConnection (p .connections) k w in
       let at = placeOf (connectionKeeps p) noConnection (p .connections) in
       let fits =
@@ -42,18 +42,10 @@ module _ (p : Plan) where
       }
 
   -- where none is doubtful all stay
-  pub sound-already : ((k : ℕ) → k < length (p .connections) → ConnectionFits p k) → sound p ≡ p
-  unfolding sound soundConnections
-  sound-already h =
-      ap (λ (cs : List Connection). record {
-        bus = p .bus;
-        nodes = p .nodes;
-        modules = p .modules;
-        modes = p .modes;
-        tasks = p .tasks;
-        invocations = p .invocations;
-        connections = cs;
-      })
+  pub none-taken : ((k : ℕ) → k < length (p .connections) → ConnectionFits p k) → withoutDoubtful p ≡ p
+  unfolding withoutDoubtful withConnections undoubted
+  none-taken h =
+      ap (withConnections p)
       (keepAt-all (connectionKeeps p) noConnection (p .connections) (λ k w. connection-means p k w .passes (h k w)))
 
   -- ---- a test that a repeat passes as the earlier one does, and that no connection of a task with itself passes
@@ -79,9 +71,9 @@ module _ (p : Plan) where
             let same-to = eqb-true (c .consumer) (d .consumer) (both-right from to (g .2)) in
             (g .0, g .1, sym (by-ends c d same-from same-to) ∙ f)
 
-    pub any-sound : any q (soundConnections p) ≡ any q (p .connections)
-    unfolding soundConnections theConnection
-    any-sound = any-keepAt (connectionKeeps p) noConnection (p .connections) q earlier-passes
+    pub any-undoubted : any q (undoubted p) ≡ any q (p .connections)
+    unfolding undoubted theConnection
+    any-undoubted = any-keepAt (connectionKeeps p) noConnection (p .connections) q earlier-passes
 
   -- ---- bus tasks and consumers
 
@@ -95,70 +87,70 @@ module _ (p : Plan) where
       let same : c .consumer ≡ t = sym e ∙ eqb-true (c .producer) t (both-left _ _ l) in
       true-false (sym (both-right (eqb (c .producer) t) _ l) ∙ ap not (eq-eqb (taskNode p (c .consumer)) (taskNode p t) (ap (taskNode p) same)))
 
-  pub same-bus-task : (t : ℕ) → isBusTask (sound p) t ≡ isBusTask p t
-  unfolding isBusTask leaves taskNode moduleNode theTask sound
-  same-bus-task t = ap (λ (b : Bool). any (invokes t) (p .invocations) && b) (any-sound (leaves p t) (leaving-by-ends t) (own-stays t))
+  pub same-bus-task : (t : ℕ) → isBusTask (withoutDoubtful p) t ≡ isBusTask p t
+  unfolding isBusTask leaves taskNode moduleNode theTask withoutDoubtful withConnections
+  same-bus-task t = ap (λ (b : Bool). any (invokes t) (p .invocations) && b) (any-undoubted (leaves p t) (leaving-by-ends t) (own-stays t))
 
   -- ---- what the plan comes to
 
-  same-bus-tasks : isBusTask (sound p) ≡ isBusTask p
+  same-bus-tasks : isBusTask (withoutDoubtful p) ≡ isBusTask p
   same-bus-tasks = fun-ext same-bus-task
 
-  same-tasks : busTasks (sound p) ≡ busTasks p
-  unfolding busTasks sound
+  same-tasks : busTasks (withoutDoubtful p) ≡ busTasks p
+  unfolding busTasks withoutDoubtful withConnections
   same-tasks = ap (λ (b : ℕ → Bool). keep b (upTo (length (p .tasks)))) same-bus-tasks
 
-  same-runs : busRuns (sound p) ≡ busRuns p
-  unfolding busRuns ofBusTask runOf periodOf theMode theTask sound
+  same-runs : busRuns (withoutDoubtful p) ≡ busRuns p
+  unfolding busRuns ofBusTask runOf periodOf theMode theTask withoutDoubtful withConnections
   same-runs = ap (λ (b : ℕ → Bool). map (runOf p) (keep (λ i. b (i .task)) (p .invocations))) same-bus-tasks
 
-  same-sending : isSending (sound p) ≡ isSending p
-  unfolding isSending livesIn theTask sound
+  same-sending : isSending (withoutDoubtful p) ≡ isSending p
+  unfolding isSending livesIn theTask withoutDoubtful withConnections
   same-sending = fun-ext (λ m. ap (any (livesIn p m)) same-tasks)
 
-  same-grid : switchGrid (sound p) ≡ switchGrid p
-  unfolding switchGrid ofSender sound
+  same-grid : switchGrid (withoutDoubtful p) ≡ switchGrid p
+  unfolding switchGrid ofSender withoutDoubtful withConnections
   same-grid = ap (λ (b : ℕ → Bool). foldr withMode 0 (keep (λ μ. b (μ .home)) (p .modes))) same-sending
 
-  same-control : controlPayload (sound p) ≡ controlPayload p
-  unfolding controlPayload sendersOn standsOn moduleNode sound
+  same-control : controlPayload (withoutDoubtful p) ≡ controlPayload p
+  unfolding controlPayload sendersOn standsOn moduleNode withoutDoubtful withConnections
   same-control =
       fun-ext
       (λ n. ap (λ (b : ℕ → Bool). length (keep (λ m. eqb (moduleNode p m) n && b m) (upTo (length (p .modules))))) same-sending)
 
-  same-senders : sendingNodes (sound p) ≡ sendingNodes p
-  unfolding sendingNodes isSendingNode sound
+  same-senders : sendingNodes (withoutDoubtful p) ≡ sendingNodes p
+  unfolding sendingNodes isSendingNode withoutDoubtful withConnections
   same-senders = ap (λ (payload : ℕ → ℕ). keep (λ n. ltb 0 (payload n)) (upTo (p .nodes))) same-control
 
-  same-rows-from : (start : ℕ) (ns : List ℕ) → controlFrom (sound p) start ns ≡ controlFrom p start ns
-  unfolding controlFrom sound
+  same-rows-from : (start : ℕ) (ns : List ℕ) → controlFrom (withoutDoubtful p) start ns ≡ controlFrom p start ns
+  unfolding controlFrom withoutDoubtful withConnections
   same-rows-from start [] = refl
   same-rows-from start (n ∷ ns) =
       rw (same-control) (ap (λ (rows : List ControlRow). record { node = n; start = start; stop = start + sendingTime (p .bus) (controlPayload p n) } ∷ rows) (same-rows-from _ ns))
 
-  same-rows : controlRows (sound p) ≡ controlRows p
+  same-rows : controlRows (withoutDoubtful p) ≡ controlRows p
   unfolding controlRows
-  same-rows = same-rows-from 0 (sendingNodes (sound p)) ∙ ap (controlFrom p 0) same-senders
+  same-rows = same-rows-from 0 (sendingNodes (withoutDoubtful p)) ∙ ap (controlFrom p 0) same-senders
 
-  same-traffic : basic (sound p) ≡ basic p
+  same-traffic : basic (withoutDoubtful p) ≡ basic p
   unfolding basic busPeriod
   same-traffic = rw (same-runs, same-grid)
 
-  same-control-fit : controlFits (sound p) ≡ controlFits p
-  unfolding controlFits sound
+  same-control-fit : controlFits (withoutDoubtful p) ≡ controlFits p
+  unfolding controlFits withoutDoubtful withConnections
   same-control-fit = fun-ext (λ n. ap (λ (payload : ℕ → ℕ). leb (payload n) (p .bus .most)) same-control)
 
-  same-fit : payloadsFit (sound p) ≡ payloadsFit p
-  unfolding payloadsFit messageFits theTask sound
+  same-fit : payloadsFit (withoutDoubtful p) ≡ payloadsFit p
+  unfolding payloadsFit messageFits theTask withoutDoubtful withConnections
   same-fit = rw (same-tasks, same-senders, same-control-fit)
 
-  same-end : controlEnd (sound p) ≡ controlEnd p
-  unfolding controlEnd sound
+  same-end : controlEnd (withoutDoubtful p) ≡ controlEnd p
+  unfolding controlEnd withoutDoubtful withConnections
   same-end = rw same-rows
 
   -- without its doubtful connections a plan gives the same refusal, or period, control rows, frames, windows and times
-  pub same-layout : layout (sound p) ≡ layout p
-  unfolding layout layoutOf pairs someBusTask rowTime payload block bytesIn isModeIn theMode pairSize theTask sound
+  pub same-layout : layout (withoutDoubtful p) ≡ layout p
+  unfolding layout layoutOf pairs someBusTask rowTime payload block bytesIn isModeIn theMode pairSize theTask withoutDoubtful withConnections
   same-layout = rw (same-bus-tasks, same-traffic, same-fit, same-end, same-rows)
 
   bringing-by-ends : (n t : ℕ) (c d : Connection) → c .producer ≡ d .producer → c .consumer ≡ d .consumer → brings p n t c ≡ brings p n t d
@@ -171,15 +163,15 @@ module _ (p : Plan) where
       let same : c .consumer ≡ t = sym e ∙ eqb-true (c .producer) t (both-left _ _ l) in
       true-false (sym (both-right (eqb (c .producer) t) _ l) ∙ ap (λ (u : ℕ). eqb (taskNode p u) n) same ∙ away)
 
-  pub same-consumers : (n t : ℕ) → consumes (sound p) n t ≡ consumes p n t
-  unfolding consumes brings taskNode moduleNode theTask sound
+  pub same-consumers : (n t : ℕ) → consumes (withoutDoubtful p) n t ≡ consumes p n t
+  unfolding consumes brings taskNode moduleNode theTask withoutDoubtful withConnections
   same-consumers n t = look (eqb (taskNode p t) n) refl
     where
       look : (b : Bool) → eqb (taskNode p t) n ≡ b
-          → (any (brings p n t) (soundConnections p) && not (eqb (taskNode p t) n)) ≡ (any (brings p n t) (p .connections) && not (eqb (taskNode p t) n))
-      look true e = rw e (and-false (any (brings p n t) (soundConnections p)) ∙ sym (and-false (any (brings p n t) (p .connections))))
-      look false e = ap (λ (b : Bool). b && not (eqb (taskNode p t) n)) (any-sound (brings p n t) (bringing-by-ends n t) (own-not-brought n t e))
+          → (any (brings p n t) (undoubted p) && not (eqb (taskNode p t) n)) ≡ (any (brings p n t) (p .connections) && not (eqb (taskNode p t) n))
+      look true e = rw e (and-false (any (brings p n t) (undoubted p)) ∙ sym (and-false (any (brings p n t) (p .connections))))
+      look false e = ap (λ (b : Bool). b && not (eqb (taskNode p t) n)) (any-undoubted (brings p n t) (bringing-by-ends n t) (own-not-brought n t e))
 
 -- a plan that is read has no doubtful connection
-pub read-sound : (file : List ℕ) (p : Plan) → readPlan file ≡ ok p → sound p ≡ p
-read-sound file p e = sound-already p (readable-kept file p e .doubtless)
+pub none-in-read : (file : List ℕ) (p : Plan) → readPlan file ≡ ok p → withoutDoubtful p ≡ p
+none-in-read file p e = none-taken p (readable-kept file p e .doubtless)

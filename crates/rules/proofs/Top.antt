@@ -22,7 +22,7 @@ use Rattle.rules.specs.Checker.{tableOf, check}
 use Rattle.rules.specs.Gaps.{GapsKept}
 use Rattle.rules.specs.Obeys.{MayPass, BrokenAt, MakesTable, RuleRefuses}
 use Rattle.rules.specs.ObeysPlan.{ConnectionFits, ReadsAs, layoutRules}
-use Rattle.rules.specs.Doubtful.{sound}
+use Rattle.rules.specs.Doubtful.{withoutDoubtful}
 use Rattle.rules.specs.Playing.{Input}
 use Rattle.rules.specs.Station.{Begun, State, begin}
 use Rattle.rules.specs.History.{played, consumes}
@@ -32,7 +32,7 @@ use Rattle.rules.proofs.Period.{IsBusPeriod, IsSwitchGrid, period, swit
 use Rattle.rules.proofs.PairsOf.{IsPairsOf, plan-pairs}
 use Rattle.rules.proofs.Direct.{FoundDirectly, found-directly}
 use Rattle.rules.proofs.PlanExact.{read-exact, layout-exact}
-use Rattle.rules.proofs.Doubtful.{read-sound, sound-fits, same-layout, same-consumers}
+use Rattle.rules.proofs.Doubtful.{none-in-read, none-left, same-layout, same-consumers}
 use Rattle.rules.proofs.RuleSteps as steps
 use Rattle.rules.proofs.CheckerExact.{checker-exact, rule-exact}
 use Rattle.rules.proofs.MadePasses.{made-checks}
@@ -52,15 +52,15 @@ pub it-lays-out-exactly : (p : Plan) (l : Layout) → (layout p ≡ ok l) ↔ (A
 it-lays-out-exactly = layout-exact
 
 -- A plan that is read is one without doubtful connections.
-pub what-is-read-is-sound : (file : List ℕ) (p : Plan) → readPlan file ≡ ok p → sound p ≡ p
-what-is-read-is-sound = read-sound
+pub what-is-read-has-none : (file : List ℕ) (p : Plan) → readPlan file ≡ ok p → withoutDoubtful p ≡ p
+what-is-read-has-none = none-in-read
 
 -- Of any plan: without them it has none left ..
-pub the-sound-has-none : (p : Plan) (k : ℕ) → k < length (sound p .connections) → ConnectionFits (sound p) k
-the-sound-has-none = sound-fits
+pub none-is-left : (p : Plan) (k : ℕ) → k < length (withoutDoubtful p .connections) → ConnectionFits (withoutDoubtful p) k
+none-is-left = none-left
 
 -- .. and is laid out as with them: the same refusal, or the same period, control rows, frames, windows and times.
-pub frames-stay : (p : Plan) → layout (sound p) ≡ layout p
+pub frames-stay : (p : Plan) → layout (withoutDoubtful p) ≡ layout p
 frames-stay = same-layout
 
 -- P is a common multiple of the periods of all invocations of bus tasks, and divides every other.
@@ -126,7 +126,7 @@ pub it-accepts-exactly : (plan table : List ℕ) (starting : ℕ → Option ℕ)
 it-accepts-exactly = history-told
 
 -- Whether a node consumes a task does not depend on doubtful connections either.
-pub consumers-stay : (p : Plan) (n t : ℕ) → consumes (sound p) n t ≡ consumes p n t
+pub consumers-stay : (p : Plan) (n t : ℕ) → consumes (withoutDoubtful p) n t ≡ consumes p n t
 consumers-stay = same-consumers
 
 -- Behind every history of accepted ticks, on every node that consumes a task of another

@@ -4,12 +4,12 @@ use Rattle.laws.specs.Lists.{keepAt}
 use Rattle.rules.specs.Plan.{Connection, Plan, noConnection, connectionKeeps}
 
 -- The connections that rules 6.5.8 and 6.5.9 find no fault with, in their order.
-unfoldable pub soundConnections : Plan → List Connection
-soundConnections p = keepAt (connectionKeeps p) noConnection (p .connections)
+unfoldable pub undoubted : Plan → List Connection
+undoubted p = keepAt (connectionKeeps p) noConnection (p .connections)
 
--- The plan with these alone, and all else as it stands.
-unfoldable pub sound : Plan → Plan
-sound p =
+-- a plan with these connections, all else as it stands
+unfoldable pub withConnections : Plan → List Connection → Plan
+withConnections p connections =
     record {
       bus = p .bus;
       nodes = p .nodes;
@@ -17,5 +17,9 @@ sound p =
       modes = p .modes;
       tasks = p .tasks;
       invocations = p .invocations;
-      connections = soundConnections p;
+      connections = connections;
     }
+
+-- Rule 15.1: a plan without its doubtful connections.
+unfoldable pub withoutDoubtful : Plan → Plan
+withoutDoubtful p = withConnections p (undoubted p)
