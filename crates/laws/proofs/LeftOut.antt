@@ -32,8 +32,7 @@ module _ {A : Type 0} (p : ℕ → Bool) (d : A) (l : List A) where
   -- all are kept
   pub keepAt-all : ((k : ℕ) → k < length l → p k ≡ true) → keepAt p d l ≡ l
   keepAt-all h =
-      let passed = all-weaker (λ k w. h k w) (all-upTo (length l)) in
-      ap (map (λ (k : ℕ). getD l k d)) (keep-all p passed)
+      ap (map (λ (k : ℕ). getD l k d)) (keep-all p (all-weaker h (all-upTo (length l))))
       ∙ map-tab (λ (k : ℕ). k) (λ (k : ℕ). getD l k d) 0 (length l)
       ∙ tab-list (λ (k : ℕ). getD l k d) l d (length l) refl (λ k w. refl)
 

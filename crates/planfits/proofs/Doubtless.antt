@@ -5,11 +5,10 @@ use mathlib.Core.List.{List, map}
 use lib.ListN.{length, getD, take}
 use Prim.Native.Nat.{ℕ, _≤_, _<_}
 use Rattle.laws.specs.Lists.{isFresh}
-use Rattle.rules.specs.Plan.{isOwn, sameEnds, noConnection}
+use Rattle.rules.specs.Plan.{isOwn, sameEnds, connectionKeeps, noConnection}
 use Rattle.rules.specs.Plan as rules
 use Rattle.plan.specs.declared.Connection.{Connection}
 use Rattle.plan.specs.Memory.{connectionSeen, connectionLaid}
-use Rattle.planfits.specs.Fits.{isDoubtlessIn}
 use Rattle.planfits.proofs.ArrayScans.{element}
 
 module _ (connections : List Connection) (count later : ℕ) (w : count ≤ length connections) (h : later < count) where
@@ -21,10 +20,10 @@ module _ (connections : List Connection) (count later : ℕ) (w : count ≤ leng
   self = element connectionSeen isOwn connections count later w (connectionLaid noConnection) h
 
   module _ (own : Bool) (e : own ≡ isOwn (connectionSeen (getD connections later (connectionLaid noConnection)))) where
-    pub own-doubtful : own ≡ true → isDoubtlessIn part later ≡ false
-    unfolding isDoubtlessIn
+    pub own-doubtful : own ≡ true → connectionKeeps part later ≡ false
+    unfolding connectionKeeps
     own-doubtful q = rw (self, ← e, q)
 
-    pub doubtless-if : (b : Bool) → own ≡ false → isFresh sameEnds noConnection part later ≡ b → isDoubtlessIn part later ≡ b
-    unfolding isDoubtlessIn
+    pub doubtless-if : (b : Bool) → own ≡ false → isFresh sameEnds noConnection part later ≡ b → connectionKeeps part later ≡ b
+    unfolding connectionKeeps
     doubtless-if b q f = ap (λ (o : Bool). not o && isFresh sameEnds noConnection part later) (ap isOwn self ∙ sym e ∙ q) ∙ f

@@ -14,7 +14,7 @@ use Rattle.plan.specs.Memory.{seen, countSeen, modeSeen, invocationSeen, connec
 use Rattle.plan.proofs.Parts.{part-again}
 use Rattle.places.specs.declared.Found.the-variants.{At, Nothing}
 use Rattle.planfits.specs.Scans.{placeOr, unfitOf}
-use Rattle.planfits.specs.Fits.{hasModeIn, fitsAt, isDoubtlessIn}
+use Rattle.planfits.specs.Fits.{hasModeIn, fitsAt}
 use Rattle.planfits.proofs.Places.{at-met, at-end, at-met-upTo, at-end-upTo, first-of-two}
 
 -- What is known behind the scans over modules, modes and invocations: the counts, that modules and modes are without fault, and the first
@@ -116,13 +116,12 @@ module _ {p : Plan} {modules modes tasks count i : ℕ} (s : Scanned p modules m
       (joins c : ℕ)
       (ej : joins ≡ length (seen p .connections))
       (each : count ≤ i)
-      (hc : c ≡ placeOr joins (firstBad (isDoubtlessIn (map connectionSeen (take joins (p .connections)))) (upTo joins))) where
+      (hc : c ≡ placeOr joins (firstBad (rules.connectionKeeps (map connectionSeen (take joins (p .connections)))) (upTo joins))) where
     connections-again : map connectionSeen (take joins (p .connections)) ≡ seen p .connections
     unfolding seen
     connections-again = rw ej (part-again connectionSeen (countSeen p 7) (p .connections))
 
-    connection-place : c ≡ placeOr (length (seen p .connections)) (firstBad (rules.connectionKeeps (seen p)) (upTo (length (seen p .connections))))
-    unfolding isDoubtlessIn rules.connectionKeeps rules.theConnection
+    connection-place : c ≡ placeOr (length (seen p .connections)) (firstBad (rules.connectionKeeps (seen p .connections)) (upTo (length (seen p .connections))))
     connection-place = rw (← ej) (hc ∙ rw connections-again)
 
     invocations-fit : at 5 (rules.firstInvocation (seen p)) (firstBad (rules.invocationKeeps (seen p)) (upTo (length (seen p .invocations)))) ≡ ok tt
@@ -136,7 +135,7 @@ module _ {p : Plan} {modules modes tasks count i : ℕ} (s : Scanned p modules m
         (sym (then-ok _ (s .modules-fit)
         ∙ then-ok _ (s .modes-fit)
         ∙ then-ok _ invocations-fit
-        ∙ at-met-upTo (rules.connectionKeeps (seen p)) (length (seen p .connections)) 5 (rules.firstConnection (seen p)) c connection-place (rw ej at h)))
+        ∙ at-met-upTo (rules.connectionKeeps (seen p .connections)) (length (seen p .connections)) 5 (rules.firstConnection (seen p)) c connection-place (rw ej at h)))
 
     pub all-fit : joins ≤ c → unfitOf Nothing ≡ rules.rule5 (seen p)
     unfolding rules.rule5
@@ -144,4 +143,4 @@ module _ {p : Plan} {modules modes tasks count i : ℕ} (s : Scanned p modules m
         sym (then-ok _ (s .modules-fit)
         ∙ then-ok _ (s .modes-fit)
         ∙ then-ok _ invocations-fit
-        ∙ at-end-upTo (rules.connectionKeeps (seen p)) (length (seen p .connections)) 5 (rules.firstConnection (seen p)) c connection-place (rw ej at h))
+        ∙ at-end-upTo (rules.connectionKeeps (seen p .connections)) (length (seen p .connections)) 5 (rules.firstConnection (seen p)) c connection-place (rw ej at h))

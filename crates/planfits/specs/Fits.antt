@@ -1,12 +1,11 @@
 -- Refusal 5's tests over what the code has at hand: a mode and a task instead of their numbers.
-use mathlib.Core.Bool.{Bool, not, _&&_}
+use mathlib.Core.Bool.{Bool, _&&_}
 use mathlib.Core.List.{List}
 use lib.Dec.{leb, eqb}
-use lib.ListN.{getD}
 use Prim.Native.Nat.{ℕ, _/_}
-use Rattle.laws.specs.Lists.{any, isFresh}
+use Rattle.laws.specs.Lists.{any}
 use Rattle.laws.specs.Numbers as numbers
-use Rattle.rules.specs.Plan.{Plan, Mode, Task, Connection, noConnection, isHome, fitsItsMode, theInvocation, isOwn, sameEnds}
+use Rattle.rules.specs.Plan.{Plan, Mode, Task, isHome, fitsItsMode, theInvocation}
 
 -- Refusal 5, of an invocation with its rate, its mode and its task: the rate divides the mode's period, the period that this makes
 -- divides the switch period, the worst time is not above it, and task and mode are of one module.
@@ -22,8 +21,3 @@ hasModeIn modes m = any (isHome m) modes
 -- Refusal 5's first test of the k-th invocation: that it fits its mode.
 unfoldable pub fitsAt : Plan → ℕ → Bool
 fitsAt p k = fitsItsMode p (theInvocation p k)
-
--- Refusal 5's two tests of the k-th connection: that it is not one task's own, and that no earlier one has its ends.
-unfoldable pub isDoubtlessIn : List Connection → ℕ → Bool
-isDoubtlessIn connections k =
-    not (isOwn (getD connections k noConnection)) && isFresh sameEnds noConnection connections k

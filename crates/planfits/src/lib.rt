@@ -9,7 +9,7 @@ ghost use Rattle.rules.specs.Limits.{mostModules, mostModes, mostInvocations, m
 ghost use Rattle.rules.specs.Plan as rules;
 ghost use Rattle.plan.specs.Memory.{seen, modeLaid, modeSeen, taskLaid, taskSeen, invocationSeen, connectionSeen};
 ghost use Rattle.planfits.specs.Scans.{placeOr, unfitOf};
-ghost use Rattle.planfits.specs.Fits.{hasModeIn, fitsThese, fitsAt, isDoubtlessIn};
+ghost use Rattle.planfits.specs.Fits.{hasModeIn, fitsThese, fitsAt};
 use figures::both;
 use figures::divides;
 use figures::lower;
@@ -180,7 +180,7 @@ fn same_ends(c: Connection, d: Connection) -> bool
 // The first connection from a task to itself, or with the ends of an earlier one; the number of connections where there is none.
 fn first_doubtful(connections: [Connection; Connection::MOST], count: usize) -> usize
     requires { ⌜ count ≤ mostConnections ⌝ }
-    ensures { λ r. ⌜ r ≡ placeOr count (firstBad (isDoubtlessIn (map connectionSeen (take count connections))) (upTo count)) ⌝ }
+    ensures { λ r. ⌜ r ≡ placeOr count (firstBad (rules.connectionKeeps (map connectionSeen (take count connections))) (upTo count)) ⌝ }
 {
     let mut later = 0;
     'pairs: while later < count {

@@ -23,73 +23,85 @@ use Rattle.rules.proofs.PlanExact.{connection-means}
 use Rattle.rules.proofs.PlanKept.{readable-kept}
 
 module _ (p : Plan) where
+  abbrev keeps : ℕ → Bool
+  keeps = connectionKeeps (p .connections)
+
   -- ---- the connections that stay
 
   pub none-left : (k : ℕ) → k < length (withoutDoubtful p .connections) → ConnectionFits (withoutDoubtful p) k
   unfolding withoutDoubtful withConnections undoubted theConnection
   none-left k w =
-      let here = keepAt-from (connectionKeeps p) noConnection (p .connections) k w in
-      let at = placeOf (connectionKeeps p) noConnection (p .connections) in
-      let fits =
-      connection-means p (at k) (place-within (connectionKeeps p) noConnection (p .connections) k w)
-      .says (place-passes (connectionKeeps p) noConnection (p .connections) k w) in
+      let at = placeOf keeps noConnection (p .connections) in
+      let here = keepAt-from keeps noConnection (p .connections) k w in
+      let within = place-within keeps noConnection (p .connections) k w in
+      let fits = connection-means p (at k) within .says (place-passes keeps noConnection (p .connections) k w) in
       record {
         apart = rw here (fits .apart);
         once =
             λ j v a b.
-            let there = keepAt-from (connectionKeeps p) noConnection (p .connections) j (omega arith) in
-            fits .once (at j) (places-rise (connectionKeeps p) noConnection (p .connections) k w j v) (rw (there, here) at a) (rw (there, here) at b);
+            let there = keepAt-from keeps noConnection (p .connections) j (omega arith) in
+            fits .once (at j) (places-rise keeps noConnection (p .connections) k w j v) (rw (there, here) at a) (rw (there, here) at b);
       }
 
   -- where none is doubtful all stay
   pub none-taken : ((k : ℕ) → k < length (p .connections) → ConnectionFits p k) → withoutDoubtful p ≡ p
   unfolding withoutDoubtful withConnections undoubted
   none-taken h =
-      ap (withConnections p)
-      (keepAt-all (connectionKeeps p) noConnection (p .connections) (λ k w. connection-means p k w .passes (h k w)))
+      ap (withConnections p) (keepAt-all keeps noConnection (p .connections) (λ k w. connection-means p k w .passes (h k w)))
 
-  -- ---- a test that a repeat passes as the earlier one does, and that no connection of a task with itself passes
+  -- ---- a connection from task t to one that passes a test, where t itself does not
 
-  module _
-      (q : Connection → Bool)
-      (by-ends : (c d : Connection) → c .producer ≡ d .producer → c .consumer ≡ d .consumer → q c ≡ q d)
-      (not-own : (c : Connection) → c .producer ≡ c .consumer → q c ≡ true → ⊥) where
-    earlier-passes : (k : ℕ) → k < length (p .connections) → connectionKeeps p k ≡ false → q (theConnection p k) ≡ true
-        → (j : ℕ) × (j < k) × (q (theConnection p j) ≡ true)
-    unfolding connectionKeeps isOwn sameEnds theConnection
-    earlier-passes k w e f = look (isOwn (theConnection p k)) refl
+  module _ (t : ℕ) (r : ℕ → Bool) (not-itself : r t ≡ false) where
+    abbrev joins : Connection → Bool
+    joins c = eqb (c .producer) t && r (c .consumer)
+
+    own-joins-not : (c : Connection) → isOwn c ≡ true → joins c ≡ true → ⊥
+    unfolding isOwn
+    own-joins-not c o j =
+        let from : c .producer ≡ t = eqb-true (c .producer) t (both-left _ _ j) in
+        let to : c .consumer ≡ t = sym (eqb-true (c .producer) (c .consumer) o) ∙ from in
+        true-false (sym (both-right (eqb (c .producer) t) _ j) ∙ ap r to ∙ not-itself)
+
+    repeat-joins : (c d : Connection) → sameEnds c d ≡ true → joins c ≡ true → joins d ≡ true
+    unfolding sameEnds
+    repeat-joins c d s j =
+        let from = eqb-true (c .producer) (d .producer) (both-left _ _ s) in
+        let to = eqb-true (c .consumer) (d .consumer) (both-right (eqb (c .producer) (d .producer)) _ s) in
+        rw (← from, ← to) j
+
+    earlier-joins : (k : ℕ) → k < length (p .connections) → keeps k ≡ false → joins (theConnection p k) ≡ true
+        → (j : ℕ) × (j < k) × (joins (theConnection p j) ≡ true)
+    unfolding connectionKeeps theConnection
+    earlier-joins k w e f = look (isOwn (theConnection p k)) refl
       where
-        look : (b : Bool) → isOwn (theConnection p k) ≡ b → (j : ℕ) × (j < k) × (q (theConnection p j) ≡ true)
-        look true o = absurd (not-own (theConnection p k) (eqb-true (theConnection p k .producer) (theConnection p k .consumer) o) f)
+        look : (b : Bool) → isOwn (theConnection p k) ≡ b → (j : ℕ) × (j < k) × (joins (theConnection p j) ≡ true)
+        look true o = absurd (own-joins-not (theConnection p k) o f)
         look false o =
-            let g = not-fresh sameEnds noConnection (p .connections) k (omega arith) (sym (ap (λ (b : Bool). not b && isFresh sameEnds noConnection (p .connections) k) o) ∙ e) in
-            let c = theConnection p k in
-            let d = theConnection p (g .0) in
-            let from = eqb (c .producer) (d .producer) in
-            let to = eqb (c .consumer) (d .consumer) in
-            let same-from = eqb-true (c .producer) (d .producer) (both-left from to (g .2)) in
-            let same-to = eqb-true (c .consumer) (d .consumer) (both-right from to (g .2)) in
-            (g .0, g .1, sym (by-ends c d same-from same-to) ∙ f)
+            let stale = sym (ap (λ (b : Bool). not b && isFresh sameEnds noConnection (p .connections) k) o) ∙ e in
+            let g = not-fresh sameEnds noConnection (p .connections) k (omega arith) stale in
+            (g .0, g .1, repeat-joins (theConnection p k) (theConnection p (g .0)) (g .2) f)
 
-    pub any-undoubted : any q (undoubted p) ≡ any q (p .connections)
+    any-joins : any joins (undoubted p) ≡ any joins (p .connections)
     unfolding undoubted theConnection
-    any-undoubted = any-keepAt (connectionKeeps p) noConnection (p .connections) q earlier-passes
+    any-joins = any-keepAt keeps noConnection (p .connections) joins earlier-joins
 
   -- ---- bus tasks and consumers
 
-  leaving-by-ends : (t : ℕ) (c d : Connection) → c .producer ≡ d .producer → c .consumer ≡ d .consumer → leaves p t c ≡ leaves p t d
-  unfolding leaves
-  leaving-by-ends t c d a b = rw (a, b)
-
-  own-stays : (t : ℕ) (c : Connection) → c .producer ≡ c .consumer → leaves p t c ≡ true → ⊥
-  unfolding leaves
-  own-stays t c e l =
-      let same : c .consumer ≡ t = sym e ∙ eqb-true (c .producer) t (both-left _ _ l) in
-      true-false (sym (both-right (eqb (c .producer) t) _ l) ∙ ap not (eq-eqb (taskNode p (c .consumer)) (taskNode p t) (ap (taskNode p) same)))
-
   pub same-bus-task : (t : ℕ) → isBusTask (withoutDoubtful p) t ≡ isBusTask p t
   unfolding isBusTask leaves taskNode moduleNode theTask withoutDoubtful withConnections
-  same-bus-task t = ap (λ (b : Bool). any (invokes t) (p .invocations) && b) (any-undoubted (leaves p t) (leaving-by-ends t) (own-stays t))
+  same-bus-task t =
+      let here = ap not (eq-eqb (taskNode p t) (taskNode p t) refl) in
+      ap (λ (b : Bool). any (invokes t) (p .invocations) && b)
+      (any-joins t (λ u. not (eqb (taskNode p u) (taskNode p t))) here)
+
+  pub same-consumers : (n t : ℕ) → consumes (withoutDoubtful p) n t ≡ consumes p n t
+  unfolding consumes brings taskNode moduleNode theTask withoutDoubtful withConnections
+  same-consumers n t = look (eqb (taskNode p t) n) refl
+    where
+      look : (b : Bool) → eqb (taskNode p t) n ≡ b
+          → (any (brings p n t) (undoubted p) && not (eqb (taskNode p t) n)) ≡ (any (brings p n t) (p .connections) && not (eqb (taskNode p t) n))
+      look true e = rw e (and-false (any (brings p n t) (undoubted p)) ∙ sym (and-false (any (brings p n t) (p .connections))))
+      look false e = ap (λ (b : Bool). b && not (eqb (taskNode p t) n)) (any-joins t (λ u. eqb (taskNode p u) n) e)
 
   -- ---- what the plan comes to
 
@@ -126,7 +138,7 @@ module _ (p : Plan) where
   unfolding controlFrom withoutDoubtful withConnections
   same-rows-from start [] = refl
   same-rows-from start (n ∷ ns) =
-      rw (same-control) (ap (λ (rows : List ControlRow). record { node = n; start = start; stop = start + sendingTime (p .bus) (controlPayload p n) } ∷ rows) (same-rows-from _ ns))
+      rw same-control (ap (λ (rows : List ControlRow). record { node = n; start = start; stop = start + sendingTime (p .bus) (controlPayload p n) } ∷ rows) (same-rows-from _ ns))
 
   same-rows : controlRows (withoutDoubtful p) ≡ controlRows p
   unfolding controlRows
@@ -152,25 +164,6 @@ module _ (p : Plan) where
   pub same-layout : layout (withoutDoubtful p) ≡ layout p
   unfolding layout layoutOf pairs someBusTask rowTime payload block bytesIn isModeIn theMode pairSize theTask withoutDoubtful withConnections
   same-layout = rw (same-bus-tasks, same-traffic, same-fit, same-end, same-rows)
-
-  bringing-by-ends : (n t : ℕ) (c d : Connection) → c .producer ≡ d .producer → c .consumer ≡ d .consumer → brings p n t c ≡ brings p n t d
-  unfolding brings
-  bringing-by-ends n t c d a b = rw (a, b)
-
-  own-not-brought : (n t : ℕ) → eqb (taskNode p t) n ≡ false → (c : Connection) → c .producer ≡ c .consumer → brings p n t c ≡ true → ⊥
-  unfolding brings
-  own-not-brought n t away c e l =
-      let same : c .consumer ≡ t = sym e ∙ eqb-true (c .producer) t (both-left _ _ l) in
-      true-false (sym (both-right (eqb (c .producer) t) _ l) ∙ ap (λ (u : ℕ). eqb (taskNode p u) n) same ∙ away)
-
-  pub same-consumers : (n t : ℕ) → consumes (withoutDoubtful p) n t ≡ consumes p n t
-  unfolding consumes brings taskNode moduleNode theTask withoutDoubtful withConnections
-  same-consumers n t = look (eqb (taskNode p t) n) refl
-    where
-      look : (b : Bool) → eqb (taskNode p t) n ≡ b
-          → (any (brings p n t) (undoubted p) && not (eqb (taskNode p t) n)) ≡ (any (brings p n t) (p .connections) && not (eqb (taskNode p t) n))
-      look true e = rw e (and-false (any (brings p n t) (undoubted p)) ∙ sym (and-false (any (brings p n t) (p .connections))))
-      look false e = ap (λ (b : Bool). b && not (eqb (taskNode p t) n)) (any-undoubted (brings p n t) (bringing-by-ends n t) (own-not-brought n t e))
 
 -- a plan that is read has no doubtful connection
 pub none-in-read : (file : List ℕ) (p : Plan) → readPlan file ≡ ok p → withoutDoubtful p ≡ p

@@ -3,7 +3,7 @@ use lib.Dec.{T}
 use Rattle.laws.specs.Lists.{all}
 use Rattle.laws.specs.Numbers.{euclid, gcd, lcm, ceil, up, down}
 use Rattle.rules.specs.Records.{kinds, known, fields, bodyLength, planFollows, tableFollows, recordOf, walk, records}
-use Rattle.rules.specs.Plan.{busOf, modeOf, taskOf, invocationOf, connectionOf, isKind, things, only, moduleOf, planOf, count, leastCounts, mostCounts, countFits, namesAreThere, payloadsOrdered, numbersAreWithin, theMode, theTask, theInvocation, periodOf, isHome, hasMode, switchDivides, fitsItsMode, theConnection, sameRun, invocationKeeps, isOwn, sameEnds, connectionKeeps, firstMode, firstInvocation, firstConnection, rule5, readPlan}
+use Rattle.rules.specs.Plan.{busOf, modeOf, taskOf, invocationOf, connectionOf, isKind, things, only, moduleOf, planOf, count, leastCounts, mostCounts, countFits, namesAreThere, payloadsOrdered, numbersAreWithin, theMode, theTask, theInvocation, periodOf, isHome, hasMode, switchDivides, fitsItsMode, sameRun, invocationKeeps, isOwn, sameEnds, connectionKeeps, firstMode, firstInvocation, firstConnection, rule5, readPlan}
 use Rattle.rules.specs.Traffic.{moduleNode, taskNode, invokes, leaves, isBusTask, busTasks, livesIn, isSending, standsOn}
 use Rattle.rules.specs.Traffic.{sendersOn, controlPayload, isSendingNode, sendingNodes, runOf, ofBusTask, busRuns, withRun}
 use Rattle.rules.specs.Traffic.{periodOfRuns, busPeriod, withMode, ofSender, switchGrid, message, messagesOf, messages, basic, isMessage, has}
@@ -21,7 +21,7 @@ unfoldable pub everything : Unit {0}
 unfolding euclid gcd lcm ceil up down kinds known fields bodyLength planFollows tableFollows recordOf walk records busOf modeOf
     taskOf invocationOf connectionOf isKind things only moduleOf planOf count leastCounts mostCounts countFits namesAreThere
     payloadsOrdered numbersAreWithin theMode theTask theInvocation periodOf isHome hasMode switchDivides fitsItsMode sameRun
-    theConnection invocationKeeps isOwn sameEnds connectionKeeps firstMode firstInvocation firstConnection rule5 readPlan moduleNode taskNode invokes leaves isBusTask busTasks
+    invocationKeeps isOwn sameEnds connectionKeeps firstMode firstInvocation firstConnection rule5 readPlan moduleNode taskNode invokes leaves isBusTask busTasks
     livesIn isSending standsOn sendersOn controlPayload isSendingNode sendingNodes runOf ofBusTask busRuns withRun periodOfRuns
     busPeriod withMode ofSender switchGrid message messagesOf messages pairOrder merged withPair pairsOf pairs pairOf basic isMessage has pairSize hasOf bytesIn isModeIn block payload rowTime
     ticksOfBits sendingTime gapTime cycleEnd controlFrom controlRows controlEnd someBusTask messageFits controlFits payloadsFit layoutOf

@@ -202,7 +202,7 @@ module _ (p : Plan) where
       })
       (λ h. (((h .rate, h .period), (h .worst, h .home)), λ j v q. h .once j v (q .0) (q .1)))
 
-  pub connection-means : (k : ℕ) → k < length (p .connections) → Tests (connectionKeeps p k) (ConnectionFits p k)
+  pub connection-means : (k : ℕ) → k < length (p .connections) → Tests (connectionKeeps (p .connections) k) (ConnectionFits p k)
   unfolding connectionKeeps isOwn sameEnds theConnection
   connection-means k w =
       let c = theConnection p k in
@@ -240,7 +240,7 @@ module _ (rs : List Rec) where
       (invocation-means p)) λ h₇.
       exact-rule
       (record { number = 5; first = firstConnection p; places = length (p .connections); asks = ConnectionFits p })
-      (connectionKeeps p)
+      (connectionKeeps (p .connections))
       (connection-means p)
 
   grouped : _>>_ judgedPlan (ok (planOf rs))

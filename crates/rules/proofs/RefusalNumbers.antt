@@ -60,7 +60,7 @@ five-gives p =
     gives-then (gives-at 5 2 (firstBad (hasMode p) (upTo (length (p .modules)))) (lit≤ tt) (lit≤ tt))
     (gives-then (gives-at 5 (firstMode p) (firstBad switchDivides (p .modes)) (lit≤ tt) (lit≤ tt))
     (gives-then (gives-at 5 (firstInvocation p) (firstBad (invocationKeeps p) (upTo (length (p .invocations)))) (lit≤ tt) (lit≤ tt))
-    (gives-at 5 (firstConnection p) (firstBad (connectionKeeps p) (upTo (length (p .connections)))) (lit≤ tt) (lit≤ tt))))
+    (gives-at 5 (firstConnection p) (firstBad (connectionKeeps (p .connections)) (upTo (length (p .connections)))) (lit≤ tt) (lit≤ tt))))
 
 pub plan-gives : (file : List ℕ) → Gives 1 5 (readPlan file)
 unfolding readPlan

@@ -5,7 +5,7 @@ use Rattle.rules.specs.Plan.{Connection, Plan, noConnection, connectionK
 
 -- The connections that rules 6.5.8 and 6.5.9 find no fault with, in their order.
 unfoldable pub undoubted : Plan → List Connection
-undoubted p = keepAt (connectionKeeps p) noConnection (p .connections)
+undoubted p = keepAt (connectionKeeps (p .connections)) noConnection (p .connections)
 
 -- a plan with these connections, all else as it stands
 unfoldable pub withConnections : Plan → List Connection → Plan

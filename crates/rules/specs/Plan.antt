@@ -203,8 +203,8 @@ isOwn c = eqb (c .producer) (c .consumer)
 unfoldable pub sameEnds : Connection → Connection → Bool
 sameEnds c d = eqb (c .producer) (d .producer) && eqb (c .consumer) (d .consumer)
 
-unfoldable pub connectionKeeps : Plan → ℕ → Bool
-connectionKeeps p k = not (isOwn (theConnection p k)) && isFresh sameEnds noConnection (p .connections) k
+unfoldable pub connectionKeeps : List Connection → ℕ → Bool
+connectionKeeps cs k = not (isOwn (getD cs k noConnection)) && isFresh sameEnds noConnection cs k
 
 -- The first record of each kind of thing: bus 0, nodes 1, then the things in the order of their kinds (reading 6).
 unfoldable pub firstMode : Plan → ℕ
@@ -222,7 +222,7 @@ rule5 p = do
   at 5 2 (firstBad (hasMode p) (upTo (length (p .modules))))
   at 5 (firstMode p) (firstBad switchDivides (p .modes))
   at 5 (firstInvocation p) (firstBad (invocationKeeps p) (upTo (length (p .invocations))))
-  at 5 (firstConnection p) (firstBad (connectionKeeps p) (upTo (length (p .connections))))
+  at 5 (firstConnection p) (firstBad (connectionKeeps (p .connections)) (upTo (length (p .connections))))
 
 -- Refusals 1 to 5 by rule 6.31: each over the whole plan before the next, and at the lowest place where it applies.
 unfoldable pub readPlan : List ℕ → Res Plan

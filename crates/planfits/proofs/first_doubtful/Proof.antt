@@ -9,9 +9,8 @@ use lib.ListN.{length, getD, take}
 use Prim.Native.Nat.{_-_, _≤_}
 use Rattle.laws.specs.Lists.{any, firstBad, upTo}
 use Rattle.laws.proofs.Loops.{firstBad-upTo-more}
-use Rattle.rules.specs.Plan.{sameEnds, noConnection}
+use Rattle.rules.specs.Plan.{sameEnds, connectionKeeps, noConnection}
 use Rattle.plan.specs.Memory.{connectionSeen, connectionLaid}
-use Rattle.planfits.specs.Fits.{isDoubtlessIn}
 use Rattle.planfits.proofs.Places.{met-upTo, none-upTo}
 use Rattle.planfits.proofs.Repeats.{pair-missed, pair-met, none-repeated}
 use Rattle.planfits.proofs.Doubtless.{own-doubtful, doubtless-if}
@@ -28,7 +27,7 @@ abbrev μ-loop : tie.MeasureT-loop
 
 abbrev Inv-pairs : tie.InvT-pairs
 Inv-pairs count connections later₀ later =
-    (later ≤ count) × (firstBad (isDoubtlessIn (map connectionSeen (take count connections))) (upTo later) ≡ none)
+    (later ≤ count) × (firstBad (connectionKeeps (map connectionSeen (take count connections))) (upTo later) ≡ none)
 
 abbrev μ-pairs : tie.MeasureT-pairs
 μ-pairs count connections later₀ later = count - later
@@ -56,7 +55,7 @@ pairs-again c =
     let a = c2 .before .before in
     let w : a .args .count ≤ length (a .args .t1) = omega (arith, a .good .0 .1 .0 .1) in (
       search needs,
-      firstBad-upTo-more (isDoubtlessIn (map connectionSeen (take (a .args .count) (a .args .t1)))) (c2 .before .pairs .later) (c2 .before .pairs .inv .1)
+      firstBad-upTo-more (connectionKeeps (map connectionSeen (take (a .args .count) (a .args .t1)))) (c2 .before .pairs .later) (c2 .before .pairs .inv .1)
           (doubtless-if _ _ _ w (c2 .pairs-test .taken) _ (c1 .is-own .ensures) _ (c .before .before .if1 .left)
           (none-repeated connectionSeen sameEnds _ (connectionLaid noConnection) _ _ w (c2 .pairs-test .taken) _ (c .before .loop .inv .0) (c .loop-test .left) (c .before .loop .inv .1))),
     )
