@@ -22,9 +22,9 @@ enum {
     OLBIOTHAR_MODULES = 16,
     OLBIOTHAR_MODES = 32,
     OLBIOTHAR_TASKS = 32,
-    OLBIOTHAR_FRAMES = 256,
-    /* No table is longer: a header, 8 control rows, 256 data rows and an end. */
-    OLBIOTHAR_LONGEST_TABLE = 8 + 8 * 10 + 256 * 14 + 1
+    OLBIOTHAR_FRAMES = 1024,
+    /* No table is longer, 14,425 bytes: a header, 8 control rows, 1,024 data rows and an end. */
+    OLBIOTHAR_LONGEST_TABLE = 8 + OLBIOTHAR_NODES * 10 + OLBIOTHAR_FRAMES * 14 + 1
 };
 
 /* The numbers of the refusals, and what the place says. */
@@ -43,7 +43,7 @@ enum {
     OLBIOTHAR_CONTROL_TOO_LONG = 11,    /* 0 */
     OLBIOTHAR_NO_ROOM = 12,             /* frame for which the maker's rule found no place; a table may still exist */
     OLBIOTHAR_BUFFER_TOO_SHORT = 13,    /* bytes needed */
-    OLBIOTHAR_TOO_FEW_ROWS = 19,        /* 256, the rows needed */
+    OLBIOTHAR_TOO_FEW_ROWS = 19,        /* 1,024, the rows needed */
     OLBIOTHAR_BAD_TABLE_RECORDS = 20,   /* offset in the table */
     OLBIOTHAR_WRONG_HEADER = 21,        /* 0 */
     OLBIOTHAR_WRONG_CONTROL_ROW = 22,   /* record of the table */
@@ -76,13 +76,13 @@ typedef struct olbiothar_frame {
 
 /* Makes the table of a plan by the latest-release rule.
  *
- * `plan`, `plan_length`: any bytes. `rows`, `row_count`: lent frame rows, 256 or more. `table`, `table_length`: lent bytes, with any
+ * `plan`, `plan_length`: any bytes. `rows`, `row_count`: lent frame rows, 1,024 or more. `table`, `table_length`: lent bytes, with any
  * contents; OLBIOTHAR_LONGEST_TABLE are always enough, and NULL with 0 asks for the bytes needed (13, if no other number applies).
  *
  * number 0: the table stands in the first `place` bytes of `table`, and passes olbiothar_check; the bytes behind it are as they
  *   were. The rows are the frames by number, with their starts, then zero rows to the end.
  * number 1 to 13: the bytes of `table` are as they were, every row is zero.
- * number 19 (fewer than 256 rows; tested before all else): table and rows are as they were.
+ * number 19 (fewer than 1,024 rows; tested before all else): table and rows are as they were.
  */
 olbiothar_answer olbiothar_make(const uint8_t *plan, size_t plan_length, olbiothar_frame *rows, size_t row_count,
                                 uint8_t *table, size_t table_length);
@@ -242,7 +242,7 @@ OLBIOTHAR_SIZE(olbiothar_node, 512, 8);
 OLBIOTHAR_AT(olbiothar_node, landed, 0, 256);
 OLBIOTHAR_AT(olbiothar_node, shown, 256, 256);
 
-OLBIOTHAR_SIZE(olbiothar_station, 13960, 8);
+OLBIOTHAR_SIZE(olbiothar_station, 27016, 8);
 OLBIOTHAR_AT(olbiothar_station, fixed, 0, 608);
 OLBIOTHAR_AT(olbiothar_station, fixed.modules, 0, 33);
 OLBIOTHAR_AT(olbiothar_station, fixed.modules.count, 0, 1);
@@ -266,26 +266,26 @@ OLBIOTHAR_AT(olbiothar_station, fixed.controls.stops, 568, 32);
 OLBIOTHAR_AT(olbiothar_station, fixed.period, 600, 4);
 OLBIOTHAR_AT(olbiothar_station, fixed.pairs, 604, 2);
 OLBIOTHAR_AT(olbiothar_station, runs, 608, 4096);
-OLBIOTHAR_AT(olbiothar_station, pair_tasks, 4704, 256);
-OLBIOTHAR_AT(olbiothar_station, pair_deadlines, 4960, 1024);
-OLBIOTHAR_AT(olbiothar_station, pair_starts, 5984, 1024);
-OLBIOTHAR_AT(olbiothar_station, pair_stops, 7008, 1024);
-OLBIOTHAR_AT(olbiothar_station, pair_modes, 8032, 1024);
-OLBIOTHAR_AT(olbiothar_station, play, 9056, 808);
-OLBIOTHAR_AT(olbiothar_station, play.clock, 9056, 4);
-OLBIOTHAR_AT(olbiothar_station, play.running, 9060, 16);
-OLBIOTHAR_AT(olbiothar_station, play.ages, 9076, 64);
-OLBIOTHAR_AT(olbiothar_station, play.bytes, 9140, 16);
-OLBIOTHAR_AT(olbiothar_station, play.givens, 9156, 32);
-OLBIOTHAR_AT(olbiothar_station, play.out, 9192, 256);
-OLBIOTHAR_AT(olbiothar_station, play.held, 9448, 128);
-OLBIOTHAR_AT(olbiothar_station, play.full, 9576, 32);
-OLBIOTHAR_AT(olbiothar_station, play.loads, 9608, 256);
-OLBIOTHAR_AT(olbiothar_station, nodes, 9864, 4096);
+OLBIOTHAR_AT(olbiothar_station, pair_tasks, 4704, 1024);
+OLBIOTHAR_AT(olbiothar_station, pair_deadlines, 5728, 4096);
+OLBIOTHAR_AT(olbiothar_station, pair_starts, 9824, 4096);
+OLBIOTHAR_AT(olbiothar_station, pair_stops, 13920, 4096);
+OLBIOTHAR_AT(olbiothar_station, pair_modes, 18016, 4096);
+OLBIOTHAR_AT(olbiothar_station, play, 22112, 808);
+OLBIOTHAR_AT(olbiothar_station, play.clock, 22112, 4);
+OLBIOTHAR_AT(olbiothar_station, play.running, 22116, 16);
+OLBIOTHAR_AT(olbiothar_station, play.ages, 22132, 64);
+OLBIOTHAR_AT(olbiothar_station, play.bytes, 22196, 16);
+OLBIOTHAR_AT(olbiothar_station, play.givens, 22212, 32);
+OLBIOTHAR_AT(olbiothar_station, play.out, 22248, 256);
+OLBIOTHAR_AT(olbiothar_station, play.held, 22504, 128);
+OLBIOTHAR_AT(olbiothar_station, play.full, 22632, 32);
+OLBIOTHAR_AT(olbiothar_station, play.loads, 22664, 256);
+OLBIOTHAR_AT(olbiothar_station, nodes, 22920, 4096);
 
-OLBIOTHAR_SIZE(olbiothar_begun, 13976, 8);
+OLBIOTHAR_SIZE(olbiothar_begun, 27032, 8);
 OLBIOTHAR_AT(olbiothar_begun, answer, 0, 16);
-OLBIOTHAR_AT(olbiothar_begun, station, 16, 13960);
+OLBIOTHAR_AT(olbiothar_begun, station, 16, 27016);
 
 OLBIOTHAR_SIZE(olbiothar_starting, 32, 1);
 OLBIOTHAR_AT(olbiothar_starting, modes, 0, 16);

@@ -15,10 +15,17 @@ const ROUND_NANOSECONDS: f64 = 2_000_000.0;
 const TICKS: usize = 2_000;
 
 /// How often each bus task runs in a cycle: the sum is the number of frames. All divide the cycle.
-const SIZES: [(usize, &[u16]); 3] = [
+const SIZES: [(usize, &[u16]); 4] = [
     (8, &[1, 2, 5]),
     (64, &[1, 2, 3, 4, 5, 6, 7, 8, 9, 10, 9]),
     (256, &[1, 2, 3, 4, 5, 6, 7, 8, 9, 10, 11, 12, 13, 14, 15, 16, 18, 20, 21, 22, 24, 15]),
+    (
+        1_024,
+        &[
+            1, 2, 3, 4, 5, 6, 7, 8, 9, 10, 11, 12, 13, 14, 15, 16, 18, 20, 21, 22, 24, 28, 36, 44,
+            55, 70, 88, 104, 112, 120, 126,
+        ],
+    ),
 ];
 
 /// Two nodes: all bus tasks are on one, and one task on the other reads them.
@@ -175,7 +182,7 @@ fn main() {
     println!("\nrefused 9 at 0");
     println!("tasks  ticks          P   messages    proved ns    Rust ns    ratio   middle half");
     for tasks in [1, 31] {
-        for (ticks, period) in [(1, 1_000), (1, 65_535), (16, 16_000), (16, 1_000_000)] {
+        for (ticks, period) in [(1, 2_000), (1, 65_535), (16, 32_000), (16, 1_000_000)] {
             compare_quick(tasks, ticks, period);
         }
     }

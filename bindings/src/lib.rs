@@ -14,9 +14,9 @@ pub const MODULES: usize = 16;
 pub const MODES: usize = 32;
 pub const TASKS: usize = 32;
 /// Frame rows to lend, at the least.
-pub const FRAMES: usize = 256;
-/// No table is longer: a header, 8 control rows, 256 data rows and an end.
-pub const LONGEST_TABLE: usize = 8 + 8 * 10 + 256 * 14 + 1;
+pub const FRAMES: usize = 1_024;
+/// No table is longer, 14,425 bytes: a header, 8 control rows, 1,024 data rows and an end.
+pub const LONGEST_TABLE: usize = 8 + NODES * 10 + FRAMES * 14 + 1;
 
 /// A frame, by its number: by deadline, then by task. Times are in ticks of one microsecond.
 #[repr(C)]

@@ -152,13 +152,13 @@ lies!(
     period at 600, pairs at 604
 );
 lies!(
-    Station, size 13_960, alignment 8, fixed at 0, runs at 608, pair_tasks at 4_704,
-    pair_deadlines at 4_960, pair_starts at 5_984, pair_stops at 7_008, pair_modes at 8_032,
-    play at 9_056, nodes at 9_864
+    Station, size 27_016, alignment 8, fixed at 0, runs at 608, pair_tasks at 4_704,
+    pair_deadlines at 5_728, pair_starts at 9_824, pair_stops at 13_920, pair_modes at 18_016,
+    play at 22_112, nodes at 22_920
 );
 lies!(Starting, size 32, alignment 1, modes at 0, given at 16);
 lies!(Input, size 320, alignment 8, results at 0, given at 256, modes at 288, changed at 304);
-lies!(Begun, size 13_976, alignment 8, answer at 0, station at 16);
+lies!(Begun, size 27_032, alignment 8, answer at 0, station at 16);
 lies!(Row, size 16, alignment 4, kind at 0, sender at 1, deadline at 4, start at 8, stop at 12);
 lies!(TickAnswer, size 32, alignment 8, answer at 0, row at 16);
 

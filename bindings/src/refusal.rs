@@ -1,5 +1,6 @@
 //! The refusals, each with its place in the kind of number that the place is.
 
+use crate::FRAMES;
 use crate::raw::Answer;
 use std::fmt;
 
@@ -22,7 +23,7 @@ pub enum Refusal {
     PeriodDoesNotDivide,
     /// 8: the bus period is no multiple of the resolution.
     PeriodOffResolution,
-    /// 9: more than 256 data frames.
+    /// 9: more than 1,024 data frames.
     TooManyFrames,
     /// 10: a message or a control frame is larger than the bus allows.
     PayloadTooLarge,
@@ -32,7 +33,7 @@ pub enum Refusal {
     NoRoom { frame: u64 },
     /// 13: the lent table is too short.
     BufferTooShort { needed: u64 },
-    /// 19: fewer than 256 frame rows are lent.
+    /// 19: fewer than 1,024 frame rows are lent.
     TooFewRows,
     /// 20: the table's bytes break the record rules.
     BadTableRecords { offset: u64 },
@@ -160,7 +161,7 @@ impl Refusal {
             | Refusal::WrongHeader => 0,
             Refusal::NoRoom { frame } => frame,
             Refusal::BufferTooShort { needed } => needed,
-            Refusal::TooFewRows => 256,
+            Refusal::TooFewRows => FRAMES as u64,
             Refusal::NotBegun { module } | Refusal::ChangeNotAllowed { module } => module,
             Refusal::NotAwaited { task }
             | Refusal::ResultTooLarge { task }

@@ -38,7 +38,7 @@ pub fn run(bytes: &[u8]) {
     }
 }
 
-/// Near 256 as a rule.
+/// As many as must be lent, or some more or fewer.
 fn lent_rows(byte: u8) -> usize {
     match byte {
         0..128 => MOST_FRAMES,

@@ -123,7 +123,9 @@ fn common_multiple(a: u32, b: u32) -> u32 {
 
 /// The number of frames, or `None` above `MOST_FRAMES`.
 fn list_frames(plan: &Plan, runs: &[Run], period: u32, rows: &mut [FrameRow]) -> Option<usize> {
-    let mut packed = [0; MOST_FRAMES];
+    let messages: u32 = runs.iter().map(|run| period / run.period).sum();
+    // A plan of few messages does not pay for memory that a plan of many needs.
+    let mut packed = vec![0; MOST_FRAMES.min(messages as usize)];
     let mut frames = 0;
     for of_task in runs.chunk_by(|one, next| one.task == next.task) {
         let worst_time = plan.tasks[usize::from(of_task[0].task)].worst_time;

@@ -87,7 +87,7 @@ fn judge_data_rows(bus: &Bus, data: &[DataRecord], frames: &mut [FrameRow]) -> R
     let first = 1 + bus.control.len();
     let lowest = |index: Option<usize>| index.map(|index| first + index);
     let rows = || data.iter().map(read_data_row);
-    let mut numbers = [0u8; MOST_FRAMES];
+    let mut numbers = [0u16; MOST_FRAMES];
     refuse_at(23, lowest(name_frames(rows(), frames, &mut numbers)))?;
     let named = || rows().zip(numbers.iter().map(|&number| usize::from(number)));
     refuse_at(24, lowest(rows().position(|row| !keeps_time(bus, &row))))?;
@@ -103,23 +103,26 @@ fn judge_data_rows(bus: &Bus, data: &[DataRecord], frames: &mut [FrameRow]) -> R
     Ok(())
 }
 
+/// The number of the frame that a row names.
+pub fn frame_of(frames: &[FrameRow], row: &DataRow) -> Option<usize> {
+    let key = u64::from(row.deadline) << 32 | u64::from(row.task);
+    frames.binary_search_by_key(&key, frame_key).ok()
+}
+
 /// Writes the frame number of each row; gives the first row that names no frame or one already named.
 fn name_frames(
     mut rows: impl Iterator<Item = DataRow>,
     frames: &[FrameRow],
-    numbers: &mut [u8; MOST_FRAMES],
+    numbers: &mut [u16; MOST_FRAMES],
 ) -> Option<usize> {
     let mut taken = [false; MOST_FRAMES];
     let mut numbers = numbers.iter_mut();
-    rows.position(|row| {
-        let key = u64::from(row.deadline) << 32 | u64::from(row.task);
-        match (frames.binary_search_by_key(&key, frame_key), numbers.next()) {
-            (Ok(found), Some(number)) => {
-                *number = found as u8;
-                std::mem::replace(&mut taken[found], true)
-            }
-            _ => true,
+    rows.position(|row| match (frame_of(frames, &row), numbers.next()) {
+        (Some(found), Some(number)) => {
+            *number = found as u16;
+            std::mem::replace(&mut taken[found], true)
         }
+        _ => true,
     })
 }
 

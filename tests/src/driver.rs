@@ -7,6 +7,9 @@ use crate::{FrameRow, MOST_NODES, MOST_TASKS, Refusal, Row};
 use std::io::{BufReader, Read, Write};
 use std::process::{Child, ChildStdin, ChildStdout, Command, Stdio};
 
+/// Bytes of a frame row in a request and in an answer.
+const ROW: usize = 16;
+
 pub struct Driver {
     child: Child,
     requests: ChildStdin,
@@ -65,8 +68,12 @@ impl Driver {
     }
 
     fn rows(&mut self, rows: &mut [FrameRow]) {
-        for row in rows {
-            let [task, release, deadline, start] = std::array::from_fn(|_| self.number());
+        let mut bytes = vec![0; rows.len() * ROW];
+        self.bytes(&mut bytes);
+        for (row, numbers) in rows.iter_mut().zip(bytes.as_chunks::<ROW>().0) {
+            let numbers = numbers.as_chunks().0;
+            let [task, release, deadline, start] =
+                std::array::from_fn(|place| u32::from_le_bytes(numbers[place]));
             *row = FrameRow { task, release, deadline, start };
         }
     }
@@ -84,7 +91,7 @@ impl Driver {
 }
 
 fn request(kind: u8, lengths: &[usize]) -> Vec<u8> {
-    let mut request = Vec::with_capacity(1 << 14);
+    let mut request = Vec::with_capacity(1 << 16);
     request.push(kind);
     lengths.iter().for_each(|&length| request.extend((length as u32).to_le_bytes()));
     request

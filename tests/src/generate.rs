@@ -11,11 +11,14 @@ mod tables;
 pub use damage::{break_plan_rule, break_table_rule, damage_bytes};
 pub use draft::{Draft, TableDraft, job_a, job_j};
 pub use histories::{History, Tick, broken_starting_modes, starting_modes};
-pub use plans::{Size, near_limit_plan, quick_runs, valid_plan};
+pub use plans::{
+    Size, also_in_modes, longest_table, near_limit_plan, plan_with_rates, quick_runs, valid_plan,
+};
 pub use random::Rng;
-pub use tables::{Made, made_plan, move_rows};
+pub use tables::{Made, made_plan, move_rows, playable_plan};
 
 use crate::MOST_FRAMES;
+use crate::maker::LONGEST_TABLE;
 use crate::station::Modes;
 
 #[derive(Clone, Debug)]
@@ -40,7 +43,8 @@ pub struct PlayCase {
 }
 
 /// Longer than any table.
-pub const PLENTY: usize = 4_096;
+pub const PLENTY: usize = 16_384;
+const _: () = assert!(PLENTY > LONGEST_TABLE);
 
 /// A plan file of any sort.
 pub fn plan_file(rng: &mut Rng) -> Vec<u8> {
@@ -75,19 +79,21 @@ fn broken_plan(rng: &mut Rng, most_faults: u32) -> Vec<u8> {
 
 pub fn make_case(rng: &mut Rng) -> MakeCase {
     let plan = plan_file(rng);
-    let room = match tables::Made::of(&plan) {
-        Some(made) if rng.one_in(2) => {
-            let length = made.table.bytes().len();
-            rng.pick(&[0, length / 2, length - 1, length, length + 9])
-        }
-        _ => PLENTY,
-    };
+    // Where no table is made, the room is as for a small one.
+    let length = Made::of(&plan).map_or(100, |made| made.table.bytes().len());
+    let some_more = length + rng.below(500);
+    let room =
+        rng.pick(&[0, length / 2, length - 1, length, some_more, some_more, some_more, PLENTY]);
     MakeCase { plan, rows: lent_rows(rng), room }
 }
 
 fn lent_rows(rng: &mut Rng) -> usize {
     match rng.below(16) {
-        0 => rng.below(MOST_FRAMES),
+        0 => {
+            // 256 were enough before request 7.
+            let too_few = rng.below(MOST_FRAMES);
+            rng.pick(&[too_few, 256, MOST_FRAMES - 1])
+        }
         1 => MOST_FRAMES + rng.below(50),
         _ => MOST_FRAMES,
     }
@@ -120,8 +126,7 @@ fn any_table(rng: &mut Rng, made: &mut Made) -> Vec<u8> {
 }
 
 pub fn play_case(rng: &mut Rng) -> PlayCase {
-    let size = Size::short(rng);
-    let mut made = made_plan(rng, &size);
+    let mut made = playable_plan(rng);
     let modes = if rng.one_in(4) {
         broken_starting_modes(rng, &made.read_plan)
     } else {

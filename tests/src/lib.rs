@@ -25,7 +25,7 @@ pub const MOST_MODES: usize = 32;
 pub const MOST_TASKS: usize = 32;
 pub const MOST_INVOCATIONS: usize = 64;
 pub const MOST_CONNECTIONS: usize = 64;
-pub const MOST_FRAMES: usize = 256;
+pub const MOST_FRAMES: usize = 1_024;
 
 #[repr(C)]
 #[derive(Clone, Copy, Debug, Default, PartialEq, Eq)]

@@ -2,7 +2,7 @@
 
 use crate::bus::{self, Bus};
 use crate::records::{CONTROL_ROW, DATA_ROW, END, TABLE, record_length};
-use crate::{FrameRow, MOST_FRAMES, Refusal, plan, with_rows};
+use crate::{FrameRow, MOST_FRAMES, MOST_NODES, Refusal, plan, with_rows};
 use std::collections::BinaryHeap;
 
 /// Makes the table at the front of the buffer and gives its length.
@@ -12,28 +12,30 @@ pub fn make(plan: &[u8], rows: &mut [FrameRow], buffer: &mut [u8]) -> Result<usi
         let bus = bus::derive(&plan, rows)?;
         let frames = &mut rows[..bus.frames];
         let order = place_frames(&bus, frames)?;
-        let needed = table_length(&bus);
+        let needed = table_length(bus.control.len(), bus.frames);
         let table = buffer.get_mut(..needed).ok_or(Refusal::new(13, needed))?;
-        write_table(&bus, frames, &order[..bus.frames], table);
+        write_table(&bus, frames, &order, table);
         Ok((bus.frames, needed))
     })
 }
 
-pub fn table_length(bus: &Bus) -> usize {
+pub const LONGEST_TABLE: usize = table_length(MOST_NODES, MOST_FRAMES);
+
+const fn table_length(control_rows: usize, data_rows: usize) -> usize {
     record_length(TABLE)
-        + bus.control.len() * record_length(CONTROL_ROW)
-        + bus.frames * record_length(DATA_ROW)
+        + control_rows * record_length(CONTROL_ROW)
+        + data_rows * record_length(DATA_ROW)
         + record_length(END)
 }
 
-/// The latest-release rule: writes the starts and gives the frame numbers by start.
-fn place_frames(bus: &Bus, frames: &mut [FrameRow]) -> Result<[u16; MOST_FRAMES], Refusal> {
-    let mut order = [0; MOST_FRAMES];
+/// The latest-release rule: writes the starts and gives the frame numbers by start, the last first.
+fn place_frames(bus: &Bus, frames: &mut [FrameRow]) -> Result<Vec<u16>, Refusal> {
+    let mut order = Vec::with_capacity(frames.len());
     let mut candidates = BinaryHeap::with_capacity(frames.len());
     let mut not_yet = frames.len();
     // The next cycle's first frame starts at the bus period; C is at least a gap and at most the period.
     let mut end = bus.period - bus.gap;
-    for place in order[..frames.len()].iter_mut().rev() {
+    while order.len() < frames.len() {
         // A candidate's deadline is not before the end, so only without one the end can fall.
         if candidates.is_empty() {
             end = end.min(frames[not_yet - 1].deadline);
@@ -46,7 +48,7 @@ fn place_frames(bus: &Bus, frames: &mut [FrameRow]) -> Result<[u16; MOST_FRAMES]
         let number = latest as u32 as usize;
         let start = latest_start(bus, &frames[number], end).ok_or(Refusal::new(12, number))?;
         frames[number].start = start;
-        *place = number as u16;
+        order.push(number as u16);
         end = start - bus.gap;
     }
     Ok(order)
@@ -58,7 +60,7 @@ fn latest_start(bus: &Bus, frame: &FrameRow, end: u32) -> Option<u32> {
     (start >= frame.release && start >= bus.control_end).then_some(start)
 }
 
-fn write_table(bus: &Bus, frames: &[FrameRow], order: &[u16], table: &mut [u8]) {
+fn write_table(bus: &Bus, frames: &[FrameRow], from_the_last: &[u16], table: &mut [u8]) {
     let (header, rows) = table.split_at_mut(record_length(TABLE));
     let (control, rows) = rows.split_at_mut(bus.control.len() * record_length(CONTROL_ROW));
     let (data, end) = rows.split_at_mut(bus.frames * record_length(DATA_ROW));
@@ -68,7 +70,7 @@ fn write_table(bus: &Bus, frames: &[FrameRow], order: &[u16], table: &mut [u8]) 
     for (bytes, row) in control.as_chunks_mut().0.iter_mut().zip(bus.control.iter()) {
         *bytes = control_record(row);
     }
-    for (bytes, &number) in data.as_chunks_mut().0.iter_mut().zip(order) {
+    for (bytes, &number) in data.as_chunks_mut().0.iter_mut().zip(from_the_last.iter().rev()) {
         let frame = &frames[usize::from(number)];
         *bytes = data_record(frame, bus.sending_times[frame.task as usize]);
     }

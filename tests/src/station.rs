@@ -12,8 +12,6 @@ use crate::{
 pub type Results = [Option<u64>; MOST_TASKS];
 pub type Modes = [Option<u8>; MOST_MODULES];
 
-const MOST_ROWS: usize = MOST_NODES + MOST_FRAMES;
-
 #[derive(Clone, Copy, Debug, PartialEq, Eq)]
 pub enum Row {
     Control { node: u8, start: u32, stop: u32 },
@@ -29,7 +27,7 @@ enum Cargo {
 }
 
 /// What a beginning fixes: the plan's and the table's part in a tick.
-#[derive(Clone, Copy, Debug)]
+#[derive(Clone, Debug)]
 struct Fixed {
     modules: usize,
     modes: usize,
@@ -46,8 +44,7 @@ struct Fixed {
     /// By node: the modules whose modes its control frame carries.
     carried_modules: [u32; MOST_NODES],
     bus_period: u32,
-    rows: [Row; MOST_ROWS],
-    row_count: usize,
+    rows: Vec<Row>,
 }
 
 #[derive(Clone, Debug)]
@@ -275,7 +272,7 @@ impl Station {
             return None;
         }
         self.next_row =
-            if self.next_row + 1 < self.fixed.row_count { self.next_row + 1 } else { 0 };
+            if self.next_row + 1 < self.fixed.rows.len() { self.next_row + 1 } else { 0 };
         self.cargo_stop = stop;
         self.cargo = match row {
             Row::Control { node, .. } => Cargo::Modes { node, modes: self.modes },
@@ -374,8 +371,7 @@ impl Fixed {
             bus_tasks: 0,
             carried_modules: [0; MOST_NODES],
             bus_period: 0,
-            rows: [Row::Control { node: 0, start: 0, stop: 0 }; MOST_ROWS],
-            row_count: 0,
+            rows: Vec::new(),
         }
     }
 
@@ -385,11 +381,8 @@ impl Fixed {
         fixed.keep_modes(plan);
         fixed.keep_tasks(plan);
         fixed.keep_bus(plan, bus);
-        let rows = bus.control.iter().copied().map(Row::from).chain(passed.data().map(Row::from));
-        for (place, row) in fixed.rows.iter_mut().zip(rows) {
-            *place = row;
-            fixed.row_count += 1;
-        }
+        let control = bus.control.iter().copied().map(Row::from);
+        fixed.rows = control.chain(passed.data().map(Row::from)).collect();
         fixed
     }
 

@@ -3,6 +3,7 @@
 
 mod cases;
 mod jobs;
+mod limits;
 mod plans;
 mod requests;
 mod tables;
@@ -47,12 +48,13 @@ fn table_of(plan: &[u8]) -> Vec<u8> {
 /// What the program `vectors` reads, a file for each sort of case in the order of its arguments, and
 /// what it must write.
 fn vectors() -> Vec<Stored> {
-    let sorts: [(&str, Vec<Case>); 5] = [
+    let sorts: [(&str, Vec<Case>); 6] = [
         ("jobs", jobs::all()),
         ("plans", plans::own()),
         ("make", plans::vectors()),
         ("check", tables::all()),
         ("requests", requests::all()),
+        ("limits", limits::all()),
     ];
     let mut files = Vec::new();
     let (mut words, mut lines) = (String::new(), String::new());

@@ -1,8 +1,8 @@
 //! The jobs of docs/RULES.md.
 
-use reference::generate::{Draft, job_a, job_j};
+use reference::generate::{Draft, PLENTY, job_a, job_j};
 use reference::plan::Connection;
-use reference::{FrameRow, Refusal, Row, Station, check, make};
+use reference::{FrameRow, MOST_FRAMES, Refusal, Row, Station, check, make};
 
 const TABLE_A: [&[u8]; 7] = [
     &[0x10, 0x60, 0xea, 0, 0, 1, 4, 0],
@@ -16,18 +16,18 @@ const TABLE_A: [&[u8]; 7] = [
 
 fn make_with_room(plan: &Draft, room: usize) -> Result<Vec<u8>, Refusal> {
     let mut table = vec![0; room];
-    let mut rows = [FrameRow::default(); 256];
+    let mut rows = [FrameRow::default(); MOST_FRAMES];
     let length = make(&plan.bytes(), &mut rows, &mut table)?;
     table.truncate(length);
     Ok(table)
 }
 
 fn made(plan: &Draft) -> Result<Vec<u8>, Refusal> {
-    make_with_room(plan, 4_096)
+    make_with_room(plan, PLENTY)
 }
 
 fn checked(plan: &Draft, table: &[u8]) -> Result<(), Refusal> {
-    check(&plan.bytes(), table, &mut [FrameRow::default(); 256])
+    check(&plan.bytes(), table, &mut [FrameRow::default(); MOST_FRAMES])
 }
 
 fn refused<T>(number: u32, place: usize) -> Result<T, Refusal> {
@@ -45,7 +45,7 @@ fn moved(row: usize, start: u32, stop: u32) -> Vec<u8> {
 #[test]
 fn a_the_whole_table() {
     assert_eq!(made(&job_a()), Ok(TABLE_A.concat()));
-    let mut rows = [FrameRow::default(); 300];
+    let mut rows = [FrameRow::default(); MOST_FRAMES + 44];
     assert_eq!(make(&job_a().bytes(), &mut rows, &mut [0; 75]), Ok(75));
     let windows = rows.map(|row| (row.task, row.release, row.deadline));
     let frames = [(0, 1_000, 20_000), (0, 1_000, 30_000), (0, 21_000, 40_000), (0, 41_000, 60_000)];
@@ -69,7 +69,7 @@ fn c_short_buffer() {
 
 #[test]
 fn d_empty_plan() {
-    let mut rows = [FrameRow::default(); 256];
+    let mut rows = [FrameRow::default(); MOST_FRAMES];
     assert_eq!(make(&[], &mut rows, &mut []), refused(1, 0));
 }
 

@@ -1,12 +1,11 @@
 //! Both sides of single limits, from job A.
 
-use reference::generate::{Draft, job_a};
-use reference::plan::{Connection, Invocation, Task};
-use reference::{FrameRow, Refusal, check, make};
+use reference::generate::{PLENTY, also_in_modes, job_a, longest_table, plan_with_rates};
+use reference::{FrameRow, MOST_FRAMES, Refusal, check, make};
 
 fn made(plan: &[u8]) -> Result<Vec<u8>, Refusal> {
-    let mut table = [0; 4_096];
-    let length = make(plan, &mut [FrameRow::default(); 256], &mut table)?;
+    let mut table = [0; PLENTY];
+    let length = make(plan, &mut [FrameRow::default(); MOST_FRAMES], &mut table)?;
     Ok(table[..length].to_vec())
 }
 
@@ -14,28 +13,31 @@ fn refused<T>(number: u32, place: usize) -> Result<T, Refusal> {
     Err(Refusal { number, place })
 }
 
-/// Job A on a quick bus; module 0 runs tasks 0, 2, 3, .. in its mode a only, at these rates.
-fn with_rates(rates: &[u16]) -> Draft {
-    let mut plan = job_a();
-    (plan.bits.kbits, plan.bits.overhead) = (100_000, 0);
-    plan.tasks.iter_mut().for_each(|task| task.worst_time = 1);
-    plan.tasks.resize(rates.len() + 1, Task { module: 0, size: 1, worst_time: 1 });
-    let tasks = [0].into_iter().chain(2..);
-    plan.invocations = vec![Invocation { mode: 2, task: 1, rate: 1 }];
-    plan.connections.clear();
-    for (task, &rate) in tasks.zip(rates) {
-        plan.invocations.push(Invocation { mode: 0, task, rate });
-        plan.connections.push(Connection { producer: task, consumer: 1 });
-    }
-    plan
+#[test]
+fn frames() {
+    let length =
+        |rates: &[u16]| made(&plan_with_rates(60_000, rates).bytes()).map(|table| table.len());
+    assert_eq!(length(&[1_000, 20, 3, 1]), Ok(8 + 10 + 1_024 * 14 + 1));
+    assert_eq!(length(&[1_000, 20, 4, 1]), refused(9, 0));
+    assert_eq!(length(&[60_000, 1]), refused(9, 0));
 }
 
 #[test]
-fn frames() {
-    let table = made(&with_rates(&[250, 5, 1]).bytes()).unwrap();
-    assert_eq!(table.len(), 8 + 10 + 256 * 14 + 1);
-    assert_eq!(made(&with_rates(&[250, 6, 1]).bytes()), refused(9, 0));
-    assert_eq!(made(&with_rates(&[60_000, 1]).bytes()), refused(9, 0));
+fn room_for_the_longest_table() {
+    let plan = longest_table().bytes();
+    let mut rows = [FrameRow::default(); MOST_FRAMES];
+    let mut table = [0; 14_425];
+    assert_eq!(make(&plan, &mut rows, &mut table), Ok(14_425));
+    assert_eq!(make(&plan, &mut rows, &mut table[1..]), refused(13, 14_425));
+}
+
+/// 9 counts pairs of task and deadline: 1,921 messages are 1,024 frames.
+#[test]
+fn messages() {
+    let runs = |rates: &[u16]| also_in_modes(plan_with_rates(20_480, rates), &[512, 256, 128, 1]);
+    let table = made(&runs(&[1_024]).bytes()).unwrap();
+    assert_eq!(table.len(), 8 + 10 + 1_024 * 14 + 1);
+    assert_eq!(made(&runs(&[1_024, 1]).bytes()), refused(9, 0));
 }
 
 /// Refusal 11 leaves C = P to refusal 12: no frame finds room.
@@ -69,7 +71,7 @@ fn payloads() {
 fn cut_files() {
     let plan = job_a().bytes();
     let table = made(&plan).unwrap();
-    let checked = |table: &[u8]| check(&plan, table, &mut [FrameRow::default(); 256]);
+    let checked = |table: &[u8]| check(&plan, table, &mut [FrameRow::default(); MOST_FRAMES]);
     for length in 0..plan.len() {
         assert_eq!(made(&plan[..length]), refused(1, length));
     }
@@ -97,10 +99,10 @@ fn wrong_kinds() {
 #[test]
 fn order_of_numbers() {
     let mut plan = job_a();
-    let mut rows = [FrameRow::default(); 255];
-    assert_eq!(make(&[], &mut rows, &mut []), refused(19, 256));
+    let mut rows = [FrameRow::default(); 1_024];
+    assert_eq!(make(&[], &mut rows[1..], &mut []), refused(19, 1_024));
     plan.tasks[0].worst_time = 19_905;
-    assert_eq!(make(&plan.bytes(), &mut [FrameRow::default(); 256], &mut []), refused(12, 3));
+    assert_eq!(make(&plan.bytes(), &mut rows, &mut []), refused(12, 3));
     plan.bits.resolution = 7;
     assert_eq!(made(&plan.bytes()), refused(8, 0));
     plan.modules[1].node = 0;

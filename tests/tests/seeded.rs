@@ -5,10 +5,10 @@ use reference::bus::{Bus, derive};
 use reference::checker::DataRow;
 use reference::generate::{
     self, CheckCase, Draft, History, Made, MakeCase, PLENTY, PlayCase, Rng, Size, break_table_rule,
-    made_plan, move_rows, starting_modes, valid_plan,
+    made_plan, move_rows, playable_plan, starting_modes, valid_plan,
 };
 use reference::plan::{self, Connection, Plan};
-use reference::{FrameRow, MOST_CONNECTIONS, Refusal, Row, Station, check, make};
+use reference::{FrameRow, MOST_CONNECTIONS, MOST_FRAMES, Refusal, Row, Station, check, make};
 use std::collections::BTreeMap;
 
 const MAKE_CASES: u64 = 60_000;
@@ -40,7 +40,7 @@ fn assert_rows_refused(rows: &[FrameRow], refusal: Refusal) {
 }
 
 fn checked(plan: &[u8], table: &[u8]) -> Result<(), Refusal> {
-    check(plan, table, &mut [OLD_ROW; 256])
+    check(plan, table, &mut [OLD_ROW; MOST_FRAMES])
 }
 
 #[test]
@@ -105,18 +105,16 @@ fn moved_tables() {
     assert_reached(&counts, 21..=28);
 }
 
-/// No two frames of two cycles are closer than the gap.
+/// No two frames of two cycles are closer than the gap: by start, each keeps it to the next.
 fn assert_apart(made: &Made) {
     let control = made.table.control.iter().map(|row| (row.start, row.stop));
     let data = made.table.data.iter().map(|row| (row.start, row.stop));
     let cycle: Vec<(u32, u32)> = control.chain(data).collect();
     let next = cycle.iter().map(|(start, stop)| (start + made.bus.period, stop + made.bus.period));
-    let frames: Vec<(u32, u32)> = cycle.iter().copied().chain(next).collect();
-    for (index, one) in frames.iter().enumerate() {
-        for other in &frames[..index] {
-            let (first, second) = (one.min(other), one.max(other));
-            assert!(first.1 + made.bus.gap <= second.0, "{one:?} and {other:?}");
-        }
+    let mut frames: Vec<(u32, u32)> = cycle.iter().copied().chain(next).collect();
+    frames.sort_unstable();
+    for pair in frames.windows(2) {
+        assert!(pair[0].1 + made.bus.gap <= pair[1].0, "{pair:?}");
     }
 }
 
@@ -153,7 +151,7 @@ fn doubtful_connections() {
 
 fn made(plan: &Draft) -> Result<Vec<u8>, Refusal> {
     let mut table = vec![0; PLENTY];
-    let length = make(&plan.bytes(), &mut [OLD_ROW; 256], &mut table)?;
+    let length = make(&plan.bytes(), &mut [OLD_ROW; MOST_FRAMES], &mut table)?;
     table.truncate(length);
     Ok(table)
 }
@@ -177,7 +175,7 @@ fn frames_and_rule_word_by_word() {
     for seed in 0..20_000 {
         let rng = &mut Rng::new(seed);
         let plan = generate::plan_file(rng);
-        let mut rows = [OLD_ROW; 256];
+        let mut rows = [OLD_ROW; MOST_FRAMES];
         let Ok(read) = plan::read(&plan) else { continue };
         let Ok(bus) = derive(&read, &mut rows) else { continue };
         let frames = frames_word_by_word(&read, &bus);
@@ -291,8 +289,7 @@ fn play(
 fn rows_started() {
     for seed in 0..300 {
         let rng = &mut Rng::new(seed);
-        let size = Size::short(rng);
-        let made = made_plan(rng, &size);
+        let made = playable_plan(rng);
         let modes = starting_modes(rng, &made.read_plan);
         let mut station = Station::begin(&made.plan, &made.table.bytes(), modes).unwrap();
         let mut history = History::new(rng, &made.read_plan, &modes, None);
@@ -352,11 +349,11 @@ fn any_bytes() {
             file.iter().for_each(|_| generate::damage_bytes(rng, &mut plan));
             file = plan;
         }
-        let _ = make(&file, &mut [OLD_ROW; 256], &mut [0; PLENTY]);
+        let _ = make(&file, &mut [OLD_ROW; MOST_FRAMES], &mut [0; PLENTY]);
         let _ = checked(&generate::job_a().bytes(), &file);
         let _ = Station::begin(&file, &file, [Some(0); 16]);
     }
     let many_modules = [[1; 17].as_slice(), &[2, 1], &[3; 2_000_000], &[0]].concat();
     let refusal = Refusal { number: 2, place: 3 };
-    assert_eq!(make(&many_modules, &mut [OLD_ROW; 256], &mut []), Err(refusal));
+    assert_eq!(make(&many_modules, &mut [OLD_ROW; MOST_FRAMES], &mut []), Err(refusal));
 }

@@ -9,6 +9,7 @@ use lib.Dec.{eqb}
 use lib.ListN.{length, getD, replicate, getD-replicate, List·getD-eq-default}
 use lib.Seq.{ext-getD}
 use Prim.Native.Nat.{ℕ, _+_, _*_, _/_, _%_, _≤_, _<_}
+use Rattle.rules.specs.Limits.{mostFrames}
 use Rattle.laws.specs.Lists.{tab}
 use Rattle.laws.specs.Loops.{padTo, stores}
 use Rattle.laws.proofs.Arrays.{getD-laid}
@@ -58,15 +59,15 @@ rows-laid f l d n e =
     (λ k w. let v : k < n = rw sized at w in getD-laid f l d n k e v ∙ sym (table-at n (λ k. f (getD l k d)) k 0 v))
 
 abbrev zeros : List ℕ
-zeros = replicate 256 0
+zeros = replicate mostFrames 0
 
 -- a number of each pair, and zeros behind
-pairs-laid : (n : ℕ) (f g : ℕ → ℕ) → n ≤ 256 → ((q : ℕ) → q < n → f q ≡ g q) → ((q : ℕ) → n ≤ q → g q ≡ 0) → byPair n f ≡ tab g 0 256
+pairs-laid : (n : ℕ) (f g : ℕ → ℕ) → n ≤ mostFrames → ((q : ℕ) → q < n → f q ≡ g q) → ((q : ℕ) → n ≤ q → g q ≡ 0) → byPair n f ≡ tab g 0 mostFrames
 unfolding byPair
-pairs-laid n f g few same behind = is-table 256 g (stores zeros f n) (length-stores zeros f n) (λ q w. place q w (le-or-lt n q))
+pairs-laid n f g few same behind = is-table mostFrames g (stores zeros f n) (length-stores zeros f n) (λ q w. place q w (le-or-lt n q))
   where
-    place : (q : ℕ) → q < 256 → (n ≤ q) ⊎ (q < n) → getD (stores zeros f n) q (g 0) ≡ g q
-    place q w (inl h) = stores-beyond zeros f n q (g 0) h ∙ getD-replicate 256 q 0 (g 0) w ∙ sym (behind q h)
+    place : (q : ℕ) → q < mostFrames → (n ≤ q) ⊎ (q < n) → getD (stores zeros f n) q (g 0) ≡ g q
+    place q w (inl h) = stores-beyond zeros f n q (g 0) h ∙ getD-replicate mostFrames q 0 (g 0) w ∙ sym (behind q h)
     place q w (inr h) = stores-at zeros f n q (g 0) h few ∙ same q h
 
 -- ---- stations with the same parts
@@ -168,26 +169,26 @@ module _ (p : Plan) (d : Drawn p) (t : TableRead) (obeys : ObeysTable (layoutOf 
 
   -- ---- what stands in the arrays
 
-  task-at : (q : ℕ) → q < 256 → getD (lineOf p .tasks) q 0 ≡ passedPair passed q .task
+  task-at : (q : ℕ) → q < mostFrames → getD (lineOf p .tasks) q 0 ≡ passedPair passed q .task
   unfolding lineOf passedPair
-  task-at q w = getD-laid taskOf (layoutOf p .pairs) noPair 256 q refl w
+  task-at q w = getD-laid taskOf (layoutOf p .pairs) noPair mostFrames q refl w
 
-  deadline-at : (q : ℕ) → q < 256 → getD (lineOf p .deadlines) q 0 ≡ passedPair passed q .deadline
+  deadline-at : (q : ℕ) → q < mostFrames → getD (lineOf p .deadlines) q 0 ≡ passedPair passed q .deadline
   unfolding lineOf passedPair
-  deadline-at q w = getD-laid deadlineOf (layoutOf p .pairs) noPair 256 q refl w
+  deadline-at q w = getD-laid deadlineOf (layoutOf p .pairs) noPair mostFrames q refl w
 
   none-starts : startIn (t .rows) noPair ≡ 0
   unfolding startIn
   none-starts = ap (λ (r : Row). r .start) no-row
 
-  start-at : (q : ℕ) → q < 256 → getD (startsOf passed) q 0 ≡ passedRow passed q .start
+  start-at : (q : ℕ) → q < mostFrames → getD (startsOf passed) q 0 ≡ passedRow passed q .start
   unfolding startsOf passedRow passedPair startIn
-  start-at q w = getD-laid (startIn (t .rows)) (layoutOf p .pairs) noPair 256 q none-starts w
+  start-at q w = getD-laid (startIn (t .rows)) (layoutOf p .pairs) noPair mostFrames q none-starts w
 
   pub stop-at : (q : ℕ) → q < length (pairs p) → stopAt (startsOf passed) (lineOf p .tasks) (lineOf p .times) q ≡ passedRow passed q .stop
   unfolding stopAt
   stop-at q w =
-      let v : q < 256 = omega (arith, d .few) in
+      let v : q < mostFrames = omega (arith, d .few) in
       rw (start-at q v, task-at q v) (sym (pair-stops q w))
 
   -- ---- the modes that have the message of a pair
@@ -212,7 +213,7 @@ module _ (p : Plan) (d : Drawn p) (t : TableRead) (obeys : ObeysTable (layoutOf 
   modes-at : (q : ℕ) → q < length (pairs p) → modesAt (runsOf p) (lineOf p .tasks) (lineOf p .deadlines) q ≡ modesLaid k q
   unfolding modesAt modesLaid rules.keptOf passedPair layoutOf pairs
   modes-at q w =
-      let v : q < 256 = omega (arith, d .few) in
+      let v : q < mostFrames = omega (arith, d .few) in
       rw (task-at q v, deadline-at q v)
       (bits-agree (hasMessage (runsOf p) (passedPair passed q .task) (passedPair passed q .deadline)) (k .pairHas q) 32
       (sent-by (passedPair passed q) (member-getD (pairs p) noPair q w)))
@@ -247,22 +248,22 @@ module _ (p : Plan) (d : Drawn p) (t : TableRead) (obeys : ObeysTable (layoutOf 
         rows-laid stopOf (layoutOf p .control) noControlRow 8 refl,
       )
 
-  starts-laid : startsOf passed ≡ tab (k .pairStart) 0 256
+  starts-laid : startsOf passed ≡ tab (k .pairStart) 0 mostFrames
   unfolding startsOf startIn rules.keptOf passedRow passedPair
-  starts-laid = rows-laid (startIn (t .rows)) (layoutOf p .pairs) noPair 256 none-starts
+  starts-laid = rows-laid (startIn (t .rows)) (layoutOf p .pairs) noPair mostFrames none-starts
 
-  stops-laid : byPair (length (pairs p)) (stopAt (startsOf passed) (lineOf p .tasks) (lineOf p .times)) ≡ tab (k .pairStop) 0 256
+  stops-laid : byPair (length (pairs p)) (stopAt (startsOf passed) (lineOf p .tasks) (lineOf p .times)) ≡ tab (k .pairStop) 0 mostFrames
   unfolding rules.keptOf
   stops-laid =
       pairs-laid (length (pairs p)) (stopAt (startsOf passed) (lineOf p .tasks) (lineOf p .times)) (k .pairStop) (d .few) stop-at
       (λ q h. ap (λ (r : Row). r .stop) (row-behind q h))
 
-  modes-laid : byPair (length (pairs p)) (modesAt (runsOf p) (lineOf p .tasks) (lineOf p .deadlines)) ≡ tab (modesLaid k) 0 256
+  modes-laid : byPair (length (pairs p)) (modesAt (runsOf p) (lineOf p .tasks) (lineOf p .deadlines)) ≡ tab (modesLaid k) 0 mostFrames
   modes-laid =
       pairs-laid (length (pairs p)) (modesAt (runsOf p) (lineOf p .tasks) (lineOf p .deadlines)) (modesLaid k) (d .few) modes-at no-modes
 
   pub kept-whole : keptFrom p (lineOf p) (startsOf passed) ≡ keptLaid k
   unfolding keptFrom modulesOf modesOf tasksOf keeping.homeOf keeping.periodOf keeping.switchOf keeping.taskHome keeping.taskSize keeping.taskWorst lineOf layoutOf pairs keptLaid rules.keptOf passedPair
   kept-whole =
-      station-made controls-laid runs-laid (rows-laid taskOf (pairs p) noPair 256 refl) (rows-laid deadlineOf (pairs p) noPair 256 refl)
+      station-made controls-laid runs-laid (rows-laid taskOf (pairs p) noPair mostFrames refl) (rows-laid deadlineOf (pairs p) noPair mostFrames refl)
       starts-laid stops-laid modes-laid

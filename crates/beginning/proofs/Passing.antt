@@ -10,6 +10,7 @@ use borrow.Author.Tests.{ltb-true}
 use lib.Dec.{eqb, ltb}
 use lib.ListN.{getD}
 use Prim.Native.Nat.{ℕ, _≤_, _<_}
+use Rattle.rules.specs.Limits.{mostFrames}
 use Rattle.laws.specs.Lists.{firstBad, tab, upTo}
 use Rattle.laws.specs.Res.{Res, ok, refuse, _>>_, at}
 use Rattle.laws.proofs.Bus.{table-at}
@@ -122,12 +123,11 @@ module _ (plan table : List ℕ) (x : Passing) (says : Passes x (checkFiles plan
     unfolding StopsFit lineOf layoutOf pairs rules.keptOf
     fits p t d obeys is q w =
         let kept = kept-begins plan table (passedOf p t) is in
-        let v : q < 256 = omega (arith, d .few) in
-        rw (stop-at p d t obeys q w) (omega (arith, kept .pairs q v .stop, kept .period .most))
+        rw (stop-at p d t obeys q w) (omega (arith, kept .pairs q w .stop, kept .period .most))
 
     -- what `kept` asks of what is handed on
     pub kept-ready : PlanKept (seen (x .plan))
-        × (((x .line .controls ≤ 8) × (x .line .frames ≤ 256)) × StopsFit (x .line .frames) (x .starts) (x .line .tasks) (x .line .times))
+        × (((x .line .controls ≤ 8) × (x .line .frames ≤ mostFrames)) × StopsFit (x .line .frames) (x .starts) (x .line .tasks) (x .line .times))
     unfolding lineOf layoutOf pairs
     kept-ready =
         passed-is λ p t d obeys isRead is.

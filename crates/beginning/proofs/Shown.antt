@@ -9,6 +9,7 @@ use mathlib.Core.Option.{Option}
 use native.Mathlib.Omega.{arith}
 use lib.ListN.{length, getD, replicate, getD-replicate}
 use Prim.Native.Nat.{ℕ, _+_, _*_, _/_, _%_, _<_}
+use Rattle.rules.specs.Limits.{mostFrames}
 use Rattle.laws.specs.Lists.{tab}
 use Rattle.laws.specs.Res.{Res, ok, refuse}
 use Rattle.laws.proofs.Bus.{table-at}
@@ -54,9 +55,9 @@ flag-place : (n : ℕ) (flags : ℕ → Bool) (k : ℕ) → k < n → flagAt (ta
 flag-place n flags k w = ap isSet (table-at n (flagBytes flags) k 0 w) ∙ set-byte (flags k)
 
 -- a mode that is kept as a bit
-mode-bit : (k : Kept) (q μ : ℕ) → q < 256 → μ < 32 → bitAt (getD (tab (modesLaid k) 0 256) q 0) μ ≡ k .pairHas q μ
+mode-bit : (k : Kept) (q μ : ℕ) → q < mostFrames → μ < 32 → bitAt (getD (tab (modesLaid k) 0 mostFrames) q 0) μ ≡ k .pairHas q μ
 unfolding modesLaid
-mode-bit k q μ v w = ap (λ (word : ℕ). bitAt word μ) (table-at 256 (modesLaid k) q 0 v) ∙ bits-are (k .pairHas q) 32 μ w
+mode-bit k q μ v w = ap (λ (word : ℕ). bitAt word μ) (table-at mostFrames (modesLaid k) q 0 v) ∙ bits-are (k .pairHas q) 32 μ w
 
 module _ (b : rules.Begun) where
   abbrev k : Kept
@@ -85,10 +86,10 @@ module _ (b : rules.Begun) where
         controlStart = λ r w. table-at 8 (k .controlStart) r 0 w;
         controlStop = λ r w. table-at 8 (k .controlStop) r 0 w;
         pairs = refl;
-        pairTask = λ q w. table-at 256 (k .pairTask) q 0 w;
-        pairDeadline = λ q w. table-at 256 (k .pairDeadline) q 0 w;
-        pairStart = λ q w. table-at 256 (k .pairStart) q 0 w;
-        pairStop = λ q w. table-at 256 (k .pairStop) q 0 w;
+        pairTask = λ q w. table-at mostFrames (k .pairTask) q 0 w;
+        pairDeadline = λ q w. table-at mostFrames (k .pairDeadline) q 0 w;
+        pairStart = λ q w. table-at mostFrames (k .pairStart) q 0 w;
+        pairStop = λ q w. table-at mostFrames (k .pairStop) q 0 w;
         pairHas = λ q v μ w. mode-bit k q μ v w;
       }
 

@@ -50,7 +50,7 @@ unfolding tooLongLine
 long-response plan old out n h a =
     (rw (too-long (length old) plan h) a, λ room. front-counts tooLongLine old out n a (omega arith))
 
--- with 256 rows lent, 19 does not apply
+-- with 1,024 rows lent, 19 does not apply
 rows-lent : (plan : List ℕ) (room : ℕ) → lentFor plan mostFrames room ≡ tableFor plan room
 unfolding lentFor
 rows-lent plan room = refl

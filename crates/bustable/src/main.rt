@@ -34,8 +34,8 @@ fn main() {
     let got = input::read_open(STDIN_FILENO, b"standard input", &mut plan);
     match got {
         Input::Bytes(n) => {
-            // The longest table, 8 control rows and 256 data rows, has 3,673 bytes.
-            let mut out = [0u8; 4096];
+            // The longest table, 8 control rows and 1,024 data rows, has 14,425 bytes.
+            let mut out = [0u8; 14425];
             let length = respond(&plan[..n], &mut out);
             io::write_all(STDOUT_FILENO, &out[..length]);
         }

@@ -7,6 +7,7 @@ use native.Mathlib.Omega.{arith}
 use lib.Dec.{lit≤}
 use lib.ListN.{length-map}
 use Prim.Native.Nat.{ℕ, _≤_, _<_}
+use Rattle.rules.specs.Limits.{mostFrames}
 use Rattle.laws.specs.Res.{Res, ok, refuse, _>>_}
 use Rattle.laws.specs.Loops.{padTo}
 use Rattle.laws.proofs.Lists.{true-false}
@@ -145,7 +146,7 @@ map-twice f g h [] e = refl
 map-twice f g h (a ∷ l) e = rw (e a, map-twice f g h l e)
 
 rows-laid : (p : Plan) (t : TableRead)
-    → rowsOn (lineOf p) (padTo 256 0 (map (startIn (t .rows)) (layoutOf p .pairs))) ≡ rowsLaid (map (checkedRow t) (layoutOf p .pairs))
+    → rowsOn (lineOf p) (padTo mostFrames 0 (map (startIn (t .rows)) (layoutOf p .pairs))) ≡ rowsLaid (map (checkedRow t) (layoutOf p .pairs))
 unfolding rowsOn lineOf rowsLaid checkedRow startIn
 rows-laid p t =
     let pairs = layoutOf p .pairs in
@@ -168,7 +169,7 @@ module _ (p : Plan) (d : Drawn p) (t : TableRead) (early : Bool) (j : Judgement)
   passing (ok u) = refl
   passing (refuse n at) = refl
 
-  judged-by : (lent : ℕ) (r : Checked) (rule : Res rules.Passed) → 256 ≤ lent → rule ≡ _>>_ (judged (layoutOf p) t) (ok (passedOf p t))
+  judged-by : (lent : ℕ) (r : Checked) (rule : Res rules.Passed) → mostFrames ≤ lent → rule ≡ _>>_ (judged (layoutOf p) t) (ok (passedOf p t))
       → r ≡ record { answer = j .verdict; rows = rowsOn (lineOf p) (j .starts) } → Judged early lent r rule
   unfolding rowsOn
   judged-by lent r rule enough q e =
@@ -179,7 +180,7 @@ module _ (p : Plan) (d : Drawn p) (t : TableRead) (early : Bool) (j : Judgement)
         few = rw e (line-numbered p d .room);
       }
     where
-      looked : (early ≡ true) ⊎ (256 ≤ lent → NoneEarly (lineOf p .releases) (j .starts) (lineOf p .frames)) → (early ≡ true) ⊎ NoneEarly (lineOf p .releases) (j .starts) (lineOf p .frames)
+      looked : (early ≡ true) ⊎ (mostFrames ≤ lent → NoneEarly (lineOf p .releases) (j .starts) (lineOf p .frames)) → (early ≡ true) ⊎ NoneEarly (lineOf p .releases) (j .starts) (lineOf p .frames)
       looked (inl h) = inl h
       looked (inr h) = inr (h enough)
 
@@ -187,10 +188,10 @@ module _ (p : Plan) (d : Drawn p) (t : TableRead) (early : Bool) (j : Judgement)
 
 module _ (plan table : List ℕ) (lent : ℕ) (early : Bool) (r : Checked) where
   -- 19
-  pub way-few : lent < 256 → r ≡ refusedBy TooFewRows → Judged early lent r (lentPassed plan table lent)
+  pub way-few : lent < mostFrames → r ≡ refusedBy TooFewRows → Judged early lent r (lentPassed plan table lent)
   way-few h e = judged-refused early lent TooFewRows r (lentPassed plan table lent) e (short-is plan table lent h)
 
-  module _ (enough : 256 ≤ lent) (x : Laid) (h : Lays x (fileLaid plan)) where
+  module _ (enough : mostFrames ≤ lent) (x : Laid) (h : Lays x (fileLaid plan)) where
     -- 1 to 11
     pub way-plan : (why : Refusal) → x .answer ≡ Refused why → r ≡ refusedBy why → Judged early lent r (lentPassed plan table lent)
     way-plan why q e =

@@ -108,7 +108,7 @@ module _ (p : Plan) (d : Drawn p) where
       record {
         room = d .few;
         small = λ k h. rw (task-at k h) (omega (arith, task-small k h));
-        rising = λ j k h w. rw (task-at j (omega arith), deadline-at j (omega arith), task-at k w, deadline-at k w)
+        rising = λ j k h w. read-lower (task-at j (omega arith)) (deadline-at j (omega arith)) (task-at k w) (deadline-at k w)
             (lower (getD (pairs p) j noPair) (getD (pairs p) k noPair) (task-small j (omega arith)) (pairs-getD noPair (d .sorted) j k h w));
       }
     where
@@ -120,6 +120,9 @@ module _ (p : Plan) (d : Drawn p) where
 
       deadline-at : (k : ℕ) → k < length (pairs p) → getD (lineOf p .deadlines) k 0 ≡ getD (pairs p) k noPair .deadline
       deadline-at k h = ap (λ (f : Pair). f .deadline) (frame-drawn p d k h)
+
+      read-lower : {t d u e t′ d′ u′ e′ : ℕ} → t ≡ t′ → d ≡ d′ → u ≡ u′ → e ≡ e′ → d′ * 256 + t′ < e′ * 256 + u′ → d * 256 + t < e * 256 + u
+      read-lower a b c g h = rw (a, b, c, g) h
 
       lower : (f g : Pair) → f .task < 32 → Before f g → f .deadline * 256 + f .task < g .deadline * 256 + g .task
       lower f g h o = before-case f g o (λ d. omega arith) (λ d u. omega arith)

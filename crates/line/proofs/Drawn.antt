@@ -50,12 +50,17 @@ frameOf p k = record { task = getD (lineOf p .tasks) k 0; release = getD (lineOf
 unfoldable pub controlOf : Plan → ℕ → ControlRow
 controlOf p k = record { node = getD (lineOf p .«control_nodes») k 0; start = getD (lineOf p .«control_starts») k 0; stop = getD (lineOf p .«control_stops») k 0 }
 
+same-pair : {t r d t′ r′ d′ : ℕ} → t ≡ t′ → r ≡ r′ → d ≡ d′
+    → _≡_ {A = Pair} (record { task = t; release = r; deadline = d }) (record { task = t′; release = r′; deadline = d′ })
+same-pair e f g = rw (e, f, g)
+
 module _ (p : Plan) (d : Drawn p) where
   pub frame-drawn : (k : ℕ) → k < length (pairs p) → frameOf p k ≡ getD (pairs p) k noPair
   unfolding frameOf lineOf layoutOf pairs
   frame-drawn k h =
       let w : k < mostFrames = omega (arith, d .few) in
-      rw (getD-laid taskOf (pairs p) noPair mostFrames k refl w, getD-laid releaseOf (pairs p) noPair mostFrames k refl w, getD-laid deadlineOf (pairs p) noPair mostFrames k refl w)
+      same-pair (getD-laid taskOf (pairs p) noPair mostFrames k refl w) (getD-laid releaseOf (pairs p) noPair mostFrames k refl w)
+      (getD-laid deadlineOf (pairs p) noPair mostFrames k refl w)
 
   pub frames-drawn : tab (frameOf p) 0 (length (pairs p)) ≡ pairs p
   frames-drawn = tab-list (frameOf p) (pairs p) noPair (length (pairs p)) refl frame-drawn

@@ -34,7 +34,7 @@ use Rattle.outward.specs.Answers.{answerOf}
 use Rattle.olbiothar.specs.Lent.{ChecksRows}
 use Rattle.olbiothar.proofs.FewFrames.{few-laid}
 
--- ---- at most 256 rows
+-- ---- at most 1,024 rows
 
 few-passed : (plan table : List ℕ) (c : Passed) → checkFiles plan table ≡ ok c → length (c .layout .pairs) ≤ mostFrames
 unfolding checkFiles

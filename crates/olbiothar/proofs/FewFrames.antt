@@ -1,4 +1,4 @@
--- Refusal 9: a laid out plan has at most 256 frames.
+-- Refusal 9: a laid out plan has at most 1,024 frames.
 use mathlib.Core.Path.{_≡_, subst}
 use lib.ListN.{length}
 use Prim.Native.Nat.{_≤_}

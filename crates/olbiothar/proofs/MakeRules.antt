@@ -23,7 +23,7 @@ use Rattle.outward.specs.Answers.{madeOf}
 use Rattle.olbiothar.specs.Lent.{MakesRows}
 use Rattle.olbiothar.proofs.FewFrames.{few-laid}
 
--- ---- at most 256 rows
+-- ---- at most 1,024 rows
 
 length-rowsFrom : (rows : List PlacedRow) (k : ℕ) (fs : List Pair) → length (rowsFrom rows k fs) ≡ length fs
 unfolding rowsFrom

@@ -19,7 +19,7 @@ use Rattle.units.specs.declared.Frame.{Frame}
 use Rattle.rows.specs.Frames.{zeroFrame, withinPlaces, frameAt, frameIn, frameTable, endIn, filled}
 use Rattle.rows.specs.Passes.{derivedRow, startedRow, tabledRow, tabled}
 
--- ---- at most 256
+-- ---- at most 1,024
 
 pub within-below : (k : ℕ) → k < mostFrames → k ≡ withinPlaces k
 unfolding withinPlaces

@@ -6,6 +6,7 @@ use native.Mathlib.Omega.{arith}
 use lib.ListN.{length, getD, set, List·getD-eq-default}
 use lib.Seq.{set-out}
 use Prim.Native.Nat.{ℕ, zero, suc, _+_, _-_, _%_, _≤_, _<_}
+use Rattle.rules.specs.Limits.{mostFrames}
 use Rattle.rows.specs.Rows.{scattered}
 
 pub getD-past : (l : List ℕ) (n k x : ℕ) → length l ≡ n → x ≡ k → n ≤ x → 0 ≡ getD l k 0
@@ -18,7 +19,7 @@ scatter-on number start by (suc j) h =
     let e : suc j - 1 ≡ j = omega arith in
     rw e
 
-pub scatter-past : (number start by : List ℕ) (j k : ℕ) → 0 < j → length by ≡ 256 → k ≡ getD number (j - 1) 0 → 256 ≤ k
+pub scatter-past : (number start by : List ℕ) (j k : ℕ) → 0 < j → length by ≡ mostFrames → k ≡ getD number (j - 1) 0 → mostFrames ≤ k
     → scattered number start j by ≡ scattered number start (j - 1) by
 scatter-past number start by j k h l e w =
     scatter-on number start by j h ∙ ap (scattered number start (j - 1)) (set-out by (getD number (j - 1) 0) (getD start (j - 1) 0) (omega arith))

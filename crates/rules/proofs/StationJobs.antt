@@ -19,7 +19,7 @@ use Rattle.rules.specs.Station.{outAfter, hasTime, rowWith, isAt, someAt
 use Rattle.rules.specs.Station.{isByteOf, heldAfter, endsNow, hasMessage, ownShows, otherShows, shownAfter, modeAfter}
 use Rattle.rules.specs.Station.{oneOn, ageAfter, givenAfter, startingControl, startingPair, modeByteAfter, startsNow, isTaken}
 use Rattle.rules.specs.Station.{fullAfter, loadAfter, tick, keptControl, keptData, started, step, startsWell, begin}
-use Rattle.rules.specs.StationRange.{isBetween, countsInRange, moduleInRange, modeInRange, taskInRange, runInRange, runsInRange, controlInRange, pairInRange, keptInRange, playInRange, isValue, boxInRange, placeInRange, byteInRange, nodeInRange, stateInRange, inRange, ticked}
+use Rattle.rules.specs.StationRange.{isBetween, countsInRange, moduleInRange, modeInRange, taskInRange, runInRange, runsInRange, controlInRange, pairInRange, pairsInRange, keptInRange, playInRange, isValue, boxInRange, placeInRange, byteInRange, nodeInRange, stateInRange, inRange, ticked}
 use Rattle.rules.specs.OneBoard.{modeNow, sinceMode, periodNow, runEnds, resultWithin, value}
 use Rattle.rules.proofs.Jobs.{everything}
 
@@ -416,7 +416,7 @@ unfolding everything planWith plan row rows earlyTable numbers truths boards she
     landedAfter isByteOf heldAfter endsNow hasMessage ownShows otherShows shownAfter modeAfter oneOn ageAfter givenAfter
     startingControl startingPair modeByteAfter startsNow isTaken fullAfter loadAfter tick keptControl keptData started step
     startsWell begin isBetween countsInRange moduleInRange modeInRange taskInRange runInRange runsInRange controlInRange
-    pairInRange keptInRange playInRange isValue boxInRange placeInRange byteInRange nodeInRange stateInRange inRange ticked
+    pairInRange pairsInRange keptInRange playInRange isValue boxInRange placeInRange byteInRange nodeInRange stateInRange inRange ticked
 opened = tt
 
 -- Every entry is answered as it says.

@@ -1,5 +1,5 @@
 -- Of what a station keeps, too, a tick looks at the station's own places alone: 8 nodes, 16 modules, 32 modes, 32 tasks, 8 control
--- rows, 256 pairs. Where two stations keep the same at these, their ticks answer the same, and each follows the other's history.
+-- rows, 1,024 pairs. Where two stations keep the same at these, their ticks answer the same, and each follows the other's history.
 use mathlib.Core.Path.{_≡_, refl, sym, ap, _∙_}
 use mathlib.Core.Bool.{Bool, true, false, not, _&&_}
 use mathlib.Core.List.{List}
@@ -181,7 +181,7 @@ module _ {k k′ : Kept} (same : SameKept k k′) where
         tasks = λ t w. task-range t w (h .tasks t w);
         runs = λ μ v t w. rw (← same .run μ v t w, ← same .modePeriod μ v) (h .runs μ v t w);
         controls = λ r w. control-range r w (h .controls r w);
-        pairs = λ q w. pair-range q w (h .pairs q w);
+        pairs = λ q w. let v : q < k .pairs = rw (same .pairs) w in pair-range q (omega (arith, h .pairCount)) (h .pairs q v);
       }
 
   play-range : {s : State} (m : ℕ) → s .mode m < modePlaces → PlayIn k s m → PlayIn k′ s m

@@ -15,6 +15,7 @@ use Rattle.rules.specs.StationRange.{
   runsInRange,
   controlInRange,
   pairInRange,
+  pairsInRange,
   keptInRange,
   playInRange,
   isValue,
@@ -64,7 +65,7 @@ pub record KeptIn (k : Kept) : Type 0 where
   pub tasks : (t : ℕ) → t < taskPlaces → TaskIn k t
   pub runs : (μ : ℕ) → μ < modePlaces → (t : ℕ) → t < taskPlaces → k .run μ t ≤ k .modePeriod μ
   pub controls : (r : ℕ) → r < nodePlaces → ControlIn k r
-  pub pairs : (q : ℕ) → q < mostFrames → PairIn k q
+  pub pairs : (q : ℕ) → q < k .pairs → PairIn k q
 
 abbrev pub IsValue : ℕ → Type 0
 IsValue v = v < 2 ^ 64
@@ -140,6 +141,10 @@ module _ (k : Kept) where
       (λ h. record { task = h .0 .0; deadline = h .0 .1; start = h .1 .0; stop = h .1 .1 })
       (λ h. ((h .task, h .deadline), (h .start, h .stop)))
 
+  pairs-tests : Tests (pairsInRange k) ((k .pairs ≤ mostFrames) × ((q : ℕ) → q < k .pairs → PairIn k q))
+  unfolding pairsInRange
+  pairs-tests = by-and (by-le (k .pairs) mostFrames) (by-all-upTo (pairInRange k) (k .pairs) (λ q w. pair-tests q))
+
   pub kept-tests : Tests (keptInRange k) (KeptIn k)
   unfolding keptInRange countsInRange
   kept-tests =
@@ -148,28 +153,28 @@ module _ (k : Kept) where
       (by-and
       (by-and
       (by-and (between-tests 1 modulePlaces (k .modules)) (by-and (between-tests 1 modePlaces (k .modes)) (between-tests 1 taskPlaces (k .tasks))))
-      (by-and (between-tests 1 longestTime (k .period)) (by-and (by-le (k .controls) nodePlaces) (by-le (k .pairs) mostFrames))))
+      (by-and (between-tests 1 longestTime (k .period)) (by-le (k .controls) nodePlaces)))
       (by-and (by-all-upTo (moduleInRange k) modulePlaces (λ m w. module-tests m)) (by-all-upTo (modeInRange k) modePlaces (λ μ w. mode-tests μ))))
       (by-and
       (by-and (by-all-upTo (taskInRange k) taskPlaces (λ t w. task-tests t)) (by-all-upTo (runsInRange k) modePlaces (λ μ w. runs-tests μ)))
-      (by-and (by-all-upTo (controlInRange k) nodePlaces (λ r w. control-tests r)) (by-all-upTo (pairInRange k) mostFrames (λ q w. pair-tests q)))))
+      (by-and (by-all-upTo (controlInRange k) nodePlaces (λ r w. control-tests r)) pairs-tests)))
       (λ h. record {
         moduleCount = h .0 .0 .0 .0;
         modeCount = h .0 .0 .0 .1 .0;
         taskCount = h .0 .0 .0 .1 .1;
         period = h .0 .0 .1 .0;
-        controlCount = h .0 .0 .1 .1 .0;
-        pairCount = h .0 .0 .1 .1 .1;
+        controlCount = h .0 .0 .1 .1;
+        pairCount = h .1 .1 .1 .0;
         modules = h .0 .1 .0;
         modes = h .0 .1 .1;
         tasks = h .1 .0 .0;
         runs = h .1 .0 .1;
         controls = h .1 .1 .0;
-        pairs = h .1 .1 .1;
+        pairs = h .1 .1 .1 .1;
       })
       (λ h. (
-        (((h .moduleCount, (h .modeCount, h .taskCount)), (h .period, (h .controlCount, h .pairCount))), (h .modules, h .modes)),
-        ((h .tasks, h .runs), (h .controls, h .pairs)),
+        (((h .moduleCount, (h .modeCount, h .taskCount)), (h .period, h .controlCount)), (h .modules, h .modes)),
+        ((h .tasks, h .runs), (h .controls, (h .pairCount, h .pairs))),
       ))
 
   module _ (s : State) where

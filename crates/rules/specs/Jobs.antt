@@ -7,6 +7,7 @@ use lib.ListN.{length, getD, set, take, replicate}
 use Prim.Native.Nat.{ℕ, _+_, _-_, _/_, _%_}
 use Rattle.laws.specs.Res.{Res, ok, refuse}
 use Rattle.laws.specs.Lists.{joined, upTo}
+use Rattle.rules.specs.Limits.{mostFrames}
 use Rattle.rules.specs.Records.{Rec}
 use Rattle.rules.specs.Plan.{Plan, numbersAreWithin, readPlan}
 use Rattle.rules.specs.Traffic.{busRuns, basic}
@@ -89,12 +90,12 @@ holds (walks plan found steps) = walksTo (readPlan plan) found steps
 holds (reads plan says) = sameAnswer anyValue (readPlan plan) says
 holds (outside r) = not (numbersAreWithin r)
 holds (made plan room table rows) =
-    comesTo (make plan (lentRows 256) (lentBytes room)) (ok (length table)) (rows ++ zeroRows (256 - length rows))
+    comesTo (make plan (lentRows mostFrames) (lentBytes room)) (ok (length table)) (rows ++ zeroRows (mostFrames - length rows))
     (table ++ lentBytes (room - length table))
 holds (notMade plan room number place) =
-    comesTo (make plan (lentRows 256) (lentBytes room)) (refuse number place) (zeroRows 256) (lentBytes room)
-holds (passes plan table rows) = checksTo (check plan table (lentRows 256)) (ok tt) (rows ++ zeroRows (256 - length rows))
-holds (fails plan table number place) = checksTo (check plan table (lentRows 256)) (refuse number place) (zeroRows 256)
+    comesTo (make plan (lentRows mostFrames) (lentBytes room)) (refuse number place) (zeroRows mostFrames) (lentBytes room)
+holds (passes plan table rows) = checksTo (check plan table (lentRows mostFrames)) (ok tt) (rows ++ zeroRows (mostFrames - length rows))
+holds (fails plan table number place) = checksTo (check plan table (lentRows mostFrames)) (refuse number place) (zeroRows mostFrames)
 holds (rowsLent rows number place after) =
     comesTo (make [] (lentRows rows) (lentBytes 9)) (refuse number place) after (lentBytes 9)
     && checksTo (check [] [] (lentRows rows)) (refuse number place) after
@@ -516,17 +517,17 @@ ownEntries =
     ∷ notMade (planAJoined ((0 ∷ 1 ∷ []) ∷ (0 ∷ 2 ∷ []) ∷ [])) plenty 3 14  -- 3 goes before 5
     ∷ notMade (planAWith 3 0 0) plenty 6 0  -- 6
     ∷ notMade (planAWith 5 2 20000) plenty 7 0  -- 7
-    ∷ notMade (file (recordsMany 256)) plenty 9 0  -- 9
-    ∷ notMade (file (recordsMany 255)) plenty 12 254  -- 256 pairs are allowed
+    ∷ notMade (file (recordsMany 1024)) plenty 9 0  -- 9
+    ∷ notMade (file (recordsMany 1023)) plenty 12 1022  -- 1,024 pairs are allowed
     ∷ walks planA 4 5  -- a step for each message
     ∷ walks (file recordsJ) 4 4  -- three tasks at one deadline
-    ∷ walks (file (recordsMany 65535)) 257 257  -- one pair too many ends it, whatever P
-    ∷ walks (file (changed (changed (changed recordsA 7 2 1) 9 2 60000) 10 2 60000 ++ (rec 7 (1 ∷ 0 ∷ []) ∷ []))) 257 514  -- two runs end at each deadline
+    ∷ walks (file (recordsMany 65535)) 1025 1025  -- one pair too many ends it, whatever P
+    ∷ walks (file (changed (changed (changed recordsA 7 2 1) 9 2 60000) 10 2 60000 ++ (rec 7 (1 ∷ 0 ∷ []) ∷ []))) 1025 2050  -- two runs end at each deadline
     ∷ notMade (planAWith 0 3 3) plenty 10 0  -- 10: a message
     ∷ notMade (file (changed (recordsS 0 1 1 4) 0 3 1)) plenty 10 0  -- 10: a control payload, of two sending modules
     ∷ notMade (file (changed (recordsMany 5) 0 1 5)) plenty 11 0  -- 11
-    ∷ rowsLent 255 19 256 (lentRows 255)  -- 19
-    ∷ rowsLent 257 1 0 (zeroRows 257)
+    ∷ rowsLent 1023 19 1024 (lentRows 1023)  -- 19
+    ∷ rowsLent 1025 1 0 (zeroRows 1025)
     ∷ passes planA tableEarly (framesA 1000 1106 21000 41000)  -- rows that stop long before their deadlines
     ∷ passes (file (recordsS 0 4 2 4)) tableCoarse (framesOfFour 8 24 40 52 56)
     ∷ fails planA [] 20 0  -- 20

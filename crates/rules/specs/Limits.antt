@@ -23,7 +23,7 @@ mostConnections = 64
 
 -- Rule 3.4: data frames (9), and the frame rows that are to be lent (19).
 abbrev pub mostFrames : ℕ
-mostFrames = 256
+mostFrames = 1024
 
 -- Rule 3.2, of the bus: kbit/s, overhead and payload in bytes, gap in bits, resolution in ticks.
 abbrev pub fastestBus : ℕ

@@ -142,7 +142,7 @@ pub record PayloadsFit (p : Plan) : Type 0 where
   pub messages : (t : ℕ) → t < length (p .tasks) → IsBusTask p t → theTask p t .size ≤ p .bus .most
   pub control : (n : ℕ) → n < p .nodes → 0 < controlPayload p n → controlPayload p n ≤ p .bus .most
 
--- The rules in order, each at 0; 6.7: P divides G; 6.8: P is a multiple of the resolution; 6.9: no more than 256 frames; 6.11: C is not
+-- The rules in order, each at 0; 6.7: P divides G; 6.8: P is a multiple of the resolution; 6.9: no more than 1,024 frames; 6.11: C is not
 -- above P.
 abbrev pub layoutRules : Plan → List Rule
 layoutRules p =

@@ -9,15 +9,15 @@ use Rattle.rules.specs.Playing.{nodePlaces, modulePlaces, modePlaces, ta
 use Rattle.rules.specs.Station.{Kept, State, Ticked, step}
 
 -- Every number that a station holds has its range, at every place; what the places behind a count hold from the beginning on, zero,
--- is within.
+-- is within. Only of the pairs it holds no more than their number says: what lies in the places behind them is none of its numbers.
 unfoldable pub isBetween : ℕ → ℕ → ℕ → Bool
 isBetween low high x = leb low x && leb x high
 
--- counts as in a plan (rule 3.1); P as any period; a control row for each node at most, and as many pairs as frames
+-- counts as in a plan (rule 3.1); P as any period; a control row for each node at most
 unfoldable pub countsInRange : Kept → Bool
 countsInRange k =
     (isBetween 1 modulePlaces (k .modules) && (isBetween 1 modePlaces (k .modes) && isBetween 1 taskPlaces (k .tasks)))
-    && (isBetween 1 longestTime (k .period) && (leb (k .controls) nodePlaces && leb (k .pairs) mostFrames))
+    && (isBetween 1 longestTime (k .period) && leb (k .controls) nodePlaces)
 
 unfoldable pub moduleInRange : Kept → ℕ → Bool
 moduleInRange k m = ltb (k .moduleNode m) nodePlaces
@@ -50,11 +50,15 @@ pairInRange k q =
     (ltb (k .pairTask q) (k .tasks) && leb (k .pairDeadline q) (k .period))
     && (leb (k .pairStart q) (k .period) && leb (k .pairStop q) (k .period))
 
+-- as many pairs as frames at most
+unfoldable pub pairsInRange : Kept → Bool
+pairsInRange k = leb (k .pairs) mostFrames && all (pairInRange k) (upTo (k .pairs))
+
 unfoldable pub keptInRange : Kept → Bool
 keptInRange k =
     (countsInRange k && (all (moduleInRange k) (upTo modulePlaces) && all (modeInRange k) (upTo modePlaces)))
     && ((all (taskInRange k) (upTo taskPlaces) && all (runsInRange k) (upTo modePlaces))
-    && (all (controlInRange k) (upTo nodePlaces) && all (pairInRange k) (upTo mostFrames)))
+    && (all (controlInRange k) (upTo nodePlaces) && pairsInRange k))
 
 -- the mode that runs is one of the module's own, and its age at most its period; a mode byte is a mode's
 unfoldable pub playInRange : Kept → State → ℕ → Bool

@@ -36,6 +36,7 @@ use Rattle.rules.specs.StationRange.{
   runsInRange,
   controlInRange,
   pairInRange,
+  pairsInRange,
   keptInRange,
   playInRange,
   boxInRange,
@@ -64,7 +65,7 @@ joined {a} {b} {c} {d} e f g h =
 
 module _ (st : Station) where
   pub kept-range : keptTest (st .fixed) (st .runs) (st .«pair_tasks») (st .«pair_deadlines») (st .«pair_starts») (st .«pair_stops») ≡ keptInRange (keptOf st)
-  unfolding keptTest keptInRange keptOf countsInRange moduleInRange modeInRange taskInRange runInRange runsInRange controlInRange pairInRange runsTest
+  unfolding keptTest keptInRange keptOf countsInRange moduleInRange modeInRange taskInRange runInRange runsInRange controlInRange pairInRange pairsInRange runsTest
   kept-range = refl
 
   -- a node whose places are in range is in range by the mode bytes that it holds

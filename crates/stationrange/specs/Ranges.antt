@@ -9,11 +9,11 @@ use Rattle.laws.specs.Lists.{all, upTo}
 use Rattle.rules.specs.Limits.{mostNodes, mostModules, mostModes, mostTasks, mostFrames, longestTime, largestMessage}
 use Rattle.rules.specs.StationRange.{isBetween, isValue}
 
--- how many modules, modes and tasks there are, the bus period, and how many control rows and pairs
-abbrev pub countsTest : ℕ → ℕ → ℕ → ℕ → ℕ → ℕ → Bool
-countsTest modules modes tasks period controls pairs =
+-- how many modules, modes and tasks there are, the bus period, and how many control rows
+abbrev pub countsTest : ℕ → ℕ → ℕ → ℕ → ℕ → Bool
+countsTest modules modes tasks period controls =
     (isBetween 1 mostModules modules && (isBetween 1 mostModes modes && isBetween 1 mostTasks tasks))
-    && (isBetween 1 longestTime period && (leb controls mostNodes && leb pairs mostFrames))
+    && (isBetween 1 longestTime period && leb controls mostNodes)
 
 abbrev pub moduleTest : List ℕ → ℕ → Bool
 moduleTest nodes m = ltb (getD nodes m 0) mostNodes
@@ -46,6 +46,11 @@ abbrev pub pairTest : ℕ → ℕ → List ℕ → List ℕ → List ℕ → Lis
 pairTest tasks period pairTasks pairDeadlines pairStarts pairStops q =
     (ltb (getD pairTasks q 0) tasks && leb (getD pairDeadlines q 0) period)
     && (leb (getD pairStarts q 0) period && leb (getD pairStops q 0) period)
+
+-- how many pairs there are, and each of them
+abbrev pub pairsTest : ℕ → ℕ → ℕ → List ℕ → List ℕ → List ℕ → List ℕ → Bool
+pairsTest pairs tasks period pairTasks pairDeadlines pairStarts pairStops =
+    leb pairs mostFrames && all (pairTest tasks period pairTasks pairDeadlines pairStarts pairStops) (upTo pairs)
 
 -- the mode that runs, its age and its mode byte
 abbrev pub playTest : ℕ → ℕ → List ℕ → List ℕ → List ℕ → List ℕ → List ℕ → ℕ → Bool

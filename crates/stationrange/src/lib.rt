@@ -5,9 +5,9 @@ ghost use mathlib.Core.Bool.{_&&_, _||_};
 ghost use Prim.Native.Nat.{_<_};
 ghost use lib.Dec.{leb, ltb};
 ghost use Rattle.laws.specs.Lists.{all, upTo};
-ghost use Rattle.rules.specs.Limits.{mostFrames, mostModes, mostModules, mostNodes, mostTasks};
+ghost use Rattle.rules.specs.Limits.{mostModes, mostModules, mostNodes, mostTasks};
 ghost use Rattle.rules.specs.StationRange.{isBetween, isValue};
-ghost use Rattle.stationrange.specs.Ranges.{boxTest, byteTest, controlTest, countsTest, modeTest, moduleTest, pairTest, playTest, runTest, runsTest, taskTest, thingTest};
+ghost use Rattle.stationrange.specs.Ranges.{boxTest, byteTest, controlTest, countsTest, modeTest, moduleTest, pairsTest, playTest, runTest, runsTest, taskTest, thingTest};
 use figures::both;
 use figures::if_so;
 use figures::wide;
@@ -27,8 +27,8 @@ fn is_between(low: usize, high: usize, x: usize) -> bool
     both(low <= x, x <= high)
 }
 
-pub fn counts(modules: u8, modes: u8, tasks: u8, period: Ticks, controls: u8, pairs: u16) -> bool
-    ensures { λ r. ⌜ r ≡ countsTest modules modes tasks (period .0) controls pairs ⌝ }
+pub fn counts(modules: u8, modes: u8, tasks: u8, period: Ticks, controls: u8) -> bool
+    ensures { λ r. ⌜ r ≡ countsTest modules modes tasks (period .0) controls ⌝ }
 {
     let things = both(
         is_between(1, ModuleNo::MOST, modules as usize),
@@ -41,10 +41,7 @@ pub fn counts(modules: u8, modes: u8, tasks: u8, period: Ticks, controls: u8, pa
         things,
         both(
             is_between(1, Ticks::LONGEST as usize, period.0 as usize),
-            both(
-                controls as usize <= NodeNo::MOST,
-                pairs as usize <= Frame::MOST,
-            ),
+            controls as usize <= NodeNo::MOST,
         ),
     )
 }
@@ -201,7 +198,9 @@ fn pair(tasks: u8, period: Ticks, task: TaskNo, deadline: Ticks, start: Ticks, s
     )
 }
 
+// The places behind the pairs are not looked at: most stations have few pairs, and places for many.
 pub fn pairs<'a>(
+    pairs: u16,
     tasks: u8,
     period: Ticks,
     pair_tasks: &'a [u8; Frame::MOST],
@@ -209,11 +208,15 @@ pub fn pairs<'a>(
     pair_starts: &'a [u32; Frame::MOST],
     pair_stops: &'a [u32; Frame::MOST],
 ) -> bool
-    ensures { λ r. ⌜ r ≡ all (pairTest tasks (period .0) (now («pair_tasks» .entry)) (now («pair_deadlines» .entry)) (now («pair_starts» .entry)) (now («pair_stops» .entry))) (upTo mostFrames) ⌝ }
+    ensures { λ r. ⌜ r ≡ pairsTest pairs tasks (period .0) (now («pair_tasks» .entry)) (now («pair_deadlines» .entry)) (now («pair_starts» .entry)) (now («pair_stops» .entry)) ⌝ }
 {
+    let count = pairs as usize;
+    if Frame::MOST < count {
+        return false;
+    }
     let mut good = true;
     let mut q = 0;
-    while q < Frame::MOST {
+    while q < count {
         good = both(
             good,
             pair(

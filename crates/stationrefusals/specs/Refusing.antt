@@ -5,8 +5,8 @@ use lib.Dec.{leb}
 use Prim.Native.Nat.{ℕ}
 use Rattle.laws.specs.Lists.{all, upTo}
 use Rattle.laws.specs.Res.{Res, _>>_, unless}
-use Rattle.rules.specs.Limits.{mostNodes, mostModules, mostModes, mostTasks, mostFrames}
-use Rattle.stationrange.specs.Ranges.{countsTest, moduleTest, modeTest, taskTest, runsTest, controlTest, pairTest, playTest, boxTest, byteTest}
+use Rattle.rules.specs.Limits.{mostNodes, mostModules, mostModes, mostTasks}
+use Rattle.stationrange.specs.Ranges.{countsTest, moduleTest, modeTest, taskTest, runsTest, controlTest, pairsTest, playTest, boxTest, byteTest}
 use Rattle.stationjudge.specs.Judging.{resultsJudged, changesJudged}
 use Rattle.stationruns.specs.declared.Input.{Input}
 use Rattle.stationrefusals.specs.declared.Fixed.{Fixed}
@@ -20,13 +20,13 @@ keptTest fixed runs pairTasks pairDeadlines pairStarts pairStops =
     let tasks = fixed .tasks in
     let controls = fixed .controls in
     let period = fixed .period .0 in
-    (countsTest (modules .count) (modes .count) (tasks .count) period (controls .count) (fixed .pairs)
+    (countsTest (modules .count) (modes .count) (tasks .count) period (controls .count)
     && (all (moduleTest (modules .sites)) (upTo mostModules)
     && all (modeTest (modules .count) (modes .count) (modes .homes) (modes .periods) (modes .switches)) (upTo mostModes)))
     && ((all (taskTest (modules .count) (tasks .count) (tasks .homes) (tasks .sizes) (tasks .worsts)) (upTo mostTasks)
     && all (runsTest runs (modes .periods)) (upTo mostModes))
     && (all (controlTest period (controls .nodes) (controls .starts) (controls .stops)) (upTo mostNodes)
-    && all (pairTest (tasks .count) period pairTasks pairDeadlines pairStarts pairStops) (upTo mostFrames)))
+    && pairsTest (fixed .pairs) (tasks .count) period pairTasks pairDeadlines pairStarts pairStops))
 
 -- 40: the state, but for the places of the nodes
 abbrev pub heldTest : List ℕ → ℕ → ℕ → Bool

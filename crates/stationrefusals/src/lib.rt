@@ -97,7 +97,6 @@ fn kept_in_range<'a>(
         fixed.tasks.count,
         fixed.period,
         fixed.controls.count,
-        fixed.pairs,
     );
     let moded = both(
         stationrange::modules(&fixed.modules.sites),
@@ -127,6 +126,7 @@ fn kept_in_range<'a>(
             &fixed.controls.stops,
         ),
         stationrange::pairs(
+            fixed.pairs,
             fixed.tasks.count,
             fixed.period,
             pair_tasks,

@@ -129,7 +129,7 @@ pub struct Frame {
 
 impl Frame {
     // Refusals 9 and 19: a plan has at most this many frames, and as many rows are lent.
-    pub const MOST: usize = 256;
+    pub const MOST: usize = 1024;
 
     pub fn zero() -> Frame
         ensures { λ r. ⌜ r ≡ record { task = record { 0 = 0 }; release = record { 0 = 0 }; deadline = record { 0 = 0 }; start = record { 0 = 0 } } ⌝ }

@@ -3,6 +3,7 @@ ghost use Prim.Native.Nat.{_≤_};
 use answers::Refusal;
 use libc::STDOUT_FILENO;
 use rows::Rows;
+use units::Frame;
 
 pub fn say(text: &[u8]) {
     io::write_all(STDOUT_FILENO, text);
@@ -42,7 +43,7 @@ fn say_row(task: u8, release: u32, deadline: u32, start: u32) {
 pub fn say_rows(rows: Rows) {
     let n = rows.frames;
     let mut k = 0;
-    while k < n && k < 256 {
+    while k < n && k < Frame::MOST {
         say_row(
             rows.tasks[k],
             rows.releases[k],

@@ -14,6 +14,7 @@ use lines::say_rows;
 use lines::say_table;
 use little::read32;
 use rows::Rows;
+use units::Frame;
 
 mod lines;
 
@@ -44,7 +45,7 @@ fn is_zero(task: u8, release: u32, deadline: u32, start: u32) -> bool {
 fn zeros(rows: Rows) -> u64 {
     let mut n: u64 = 0;
     let mut k = 0;
-    while k < 256 {
+    while k < Frame::MOST {
         n += one_if(is_zero(
             rows.tasks[k],
             rows.releases[k],
@@ -85,8 +86,8 @@ fn make_in(plan: &[u8], lent: usize, buf: &mut [u8]) {
 
 // No table is longer than the buffer.
 fn make(plan: &[u8], lent: usize, room: usize) {
-    let mut buf = [OLD; 4096];
-    if room <= 4096 {
+    let mut buf = [OLD; 16384];
+    if room <= 16384 {
         make_in(plan, lent, &mut buf[..room]);
     }
 }

@@ -8,7 +8,7 @@ use reference::generate::{
 };
 use reference::plan;
 use reference::program::{Program, Reference};
-use reference::{FrameRow, Refusal, vectors};
+use reference::{FrameRow, MOST_FRAMES, Refusal, vectors};
 use std::collections::BTreeMap;
 use std::time::Instant;
 
@@ -17,6 +17,9 @@ const CHECK_CASES: u64 = 40_000;
 const NOISE_CASES: u64 = 10_000;
 const PLAY_CASES: u64 = 1_200;
 const MOST_TICKS: usize = 400;
+/// A table of so many bytes is played for more than its cycle, so that every row starts.
+const LONG_TABLE: usize = 4_096;
+const WHOLE_CYCLE: usize = 1_500;
 
 /// The numbers that a run must reach, 0 for "not refused".
 fn numbers() -> impl Iterator<Item = u32> {
@@ -66,7 +69,9 @@ impl Comparison {
             Ok(read) if rust.is_ok() => {
                 let fault_in = rng.pick(&[Some(5), Some(50), None]);
                 let history = History::new(rng, &read, modes, fault_in);
-                self.play_on(case, history, 1 + rng.below(MOST_TICKS));
+                let long = table.len() >= LONG_TABLE;
+                let ticks = if long { WHOLE_CYCLE } else { 1 + rng.below(MOST_TICKS) };
+                self.play_on(case, history, ticks);
             }
             _ => self.tick(case, &generate::Tick { results: [None; 32], modes: [None; 16] }),
         }
@@ -89,17 +94,20 @@ impl Comparison {
 
 /// Lent memory has any contents.
 fn any_rows(rng: &mut Rng, count: usize) -> Vec<FrameRow> {
-    let mut row = || FrameRow {
-        task: rng.below(256) as u32,
-        release: rng.number() as u32,
-        deadline: rng.number() as u32,
-        start: rng.number() as u32,
+    let mut row = || {
+        let (one, other) = (rng.number(), rng.number());
+        FrameRow {
+            task: u32::from(one as u8),
+            release: (one >> 32) as u32,
+            deadline: other as u32,
+            start: (other >> 32) as u32,
+        }
     };
     (0..count).map(|_| row()).collect()
 }
 
 fn any_bytes(rng: &mut Rng, count: usize) -> Vec<u8> {
-    (0..count).map(|_| rng.number() as u8).collect()
+    std::iter::repeat_with(|| rng.number().to_le_bytes()).flatten().take(count).collect()
 }
 
 fn make_cases(comparison: &mut Comparison) {
@@ -122,7 +130,7 @@ fn check_cases(comparison: &mut Comparison) {
 
 /// Bytes that are hardly a file, and files of many times the length of any plan.
 fn noise_cases(comparison: &mut Comparison) {
-    let rows = [FrameRow::default(); 256];
+    let rows = [FrameRow::default(); MOST_FRAMES];
     for seed in 0..NOISE_CASES {
         let rng = &mut Rng::new(seed);
         let mut file: Vec<u8> = (0..rng.below(200)).map(|_| rng.below(20) as u8).collect();

@@ -244,7 +244,7 @@ pub fn near_limit_plan(rng: &mut Rng) -> Draft {
 const DIVISIBLE: u32 = 720_720;
 
 /// Two nodes; task i of node 0 runs `rates[i]` times in the period, and a task of node 1 reads all.
-fn plan_with_rates(period: u32, rates: &[u16]) -> Draft {
+pub fn plan_with_rates(period: u32, rates: &[u16]) -> Draft {
     let mut draft = job_a();
     draft.bits = loose_bits();
     draft.modes = [0, 1].map(|module| Mode { module, period, switch_period: period }).to_vec();
@@ -257,18 +257,72 @@ fn plan_with_rates(period: u32, rates: &[u16]) -> Draft {
     draft
 }
 
-fn frames_near_limit(rng: &mut Rng) -> Draft {
-    let mut left = rng.between(254, 258);
-    let mut frames = Vec::new();
-    while left > 0 && frames.len() < MOST_TASKS - 1 {
-        let most = if frames.len() + 2 == MOST_TASKS { left } else { left.min(30) };
-        let some = rng.between(1, most);
-        if DIVISIBLE.is_multiple_of(some) {
-            frames.push(some as u16);
-            left -= some;
-        }
+/// The same plan with its tasks on all nodes, one module on each; task 0 reads what others send, and
+/// task 1 what node 0 sends.
+fn on_all_nodes(plan: Draft) -> Draft {
+    let nodes = MOST_NODES as u8;
+    let Mode { period, switch_period, .. } = plan.modes[0];
+    let mut draft = Draft { nodes, ..plan };
+    draft.modules = (0..nodes).map(|node| Module { node }).collect();
+    draft.modes = (0..nodes).map(|module| Mode { module, period, switch_period }).collect();
+    for (number, task) in (0..).zip(&mut draft.tasks) {
+        task.module = number % nodes;
     }
-    plan_with_rates(DIVISIBLE, &frames)
+    draft.invocations.iter_mut().for_each(|run| run.mode = run.task % nodes);
+    for Connection { producer, consumer } in &mut draft.connections {
+        *consumer = u8::from(*producer % nodes == 0);
+    }
+    draft
+}
+
+/// Eight tasks on eight nodes, with as many frames as there may be, on a bus whose gap is a tick.
+pub fn longest_table() -> Draft {
+    let mut draft = on_all_nodes(plan_with_rates(60_000, &[300, 250, 200, 150, 100, 20, 3, 1]));
+    draft.bits.gap_bits = 100;
+    draft
+}
+
+/// The same plan, where task 0 runs in further modes too.
+pub fn also_in_modes(plan: Draft, rates: &[u16]) -> Draft {
+    let mut draft = plan;
+    for (mode, &rate) in (draft.modes.len() as u8..).zip(rates) {
+        draft.modes.push(draft.modes[0]);
+        draft.invocations.push(Invocation { mode, task: 0, rate });
+    }
+    draft
+}
+
+/// Any number of frames above 256, most often as many as may be or a few more or less; on one node or on
+/// all, with a bus that has room or one that is loaded.
+fn frames_near_limit(rng: &mut Rng) -> Draft {
+    let most = MOST_FRAMES as u32;
+    let frames =
+        if rng.one_in(3) { rng.between(257, most) } else { rng.between(most - 2, most + 2) };
+    let rates = rates_for(rng, frames);
+    let mut draft = plan_with_rates(DIVISIBLE, &rates);
+    if rng.one_in(2) {
+        draft = on_all_nodes(draft);
+    }
+    if rng.one_in(2) {
+        draft.bits = fitting_bits(rng, &draft);
+    }
+    draft
+}
+
+/// Rates of at most thirty-one tasks that come to so many frames. The first is 1: so P is the period.
+fn rates_for(rng: &mut Rng, frames: u32) -> Vec<u16> {
+    let most_often = rng.pick(&[40, 120, frames]);
+    let mut rates = vec![1];
+    let mut left = frames - 1;
+    while left > 0 {
+        // Of what is left the last tasks take as much as they can: three are enough.
+        let last = rates.len() + 4 >= MOST_TASKS;
+        let most = if last { left } else { rng.between(1, left.min(most_often)) };
+        let rate = (1..=most).rev().find(|&rate| DIVISIBLE.is_multiple_of(rate)).unwrap_or(1);
+        rates.push(rate as u16);
+        left -= rate;
+    }
+    rates
 }
 
 fn extreme_bits(rng: &mut Rng) -> Draft {
@@ -332,10 +386,7 @@ fn long_common_multiple(rng: &mut Rng) -> Draft {
 /// A plan with these rates whose first task also runs once in the period, in another mode: so P is the
 /// period, and a run has as many messages as its rate.
 pub fn quick_runs(period: u32, rates: &[u16]) -> Draft {
-    let mut draft = plan_with_rates(period, rates);
-    draft.modes.push(Mode { module: 0, period, switch_period: period });
-    draft.invocations.push(Invocation { mode: 2, task: 0, rate: 1 });
-    draft
+    also_in_modes(plan_with_rates(period, rates), &[1])
 }
 
 /// Plans of up to two million messages: one task or up to thirty-one of them, with runs from one tick
@@ -351,6 +402,14 @@ fn any_quick_runs(rng: &mut Rng) -> Draft {
     let mut rate = || if all_alike { quickest } else { rng.pick(&rates) };
     let rates: Vec<u16> = (0..tasks).map(|_| rate()).collect();
     quick_runs(period, &rates)
+}
+
+/// As many frames as may be, or almost, in a cycle that is short enough to be played: all tasks send in
+/// every run of little more ticks than there are tasks.
+pub fn crowded_cycle(rng: &mut Rng) -> Draft {
+    let tasks = rng.pick(&[8, 16, MOST_TASKS - 1]);
+    let often = MOST_FRAMES / tasks;
+    quick_runs(((tasks + 2) * often) as u32, &vec![often as u16; tasks])
 }
 
 /// A full plan with one list a thing shorter or longer.

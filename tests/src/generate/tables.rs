@@ -2,10 +2,10 @@
 
 use super::PLENTY;
 use super::draft::{Draft, TableDraft, job_a};
-use super::plans::{Size, near_limit_plan, valid_plan};
+use super::plans::{Size, crowded_cycle, near_limit_plan, valid_plan};
 use super::random::Rng;
 use crate::bus::{self, Bus};
-use crate::checker::DataRow;
+use crate::checker::{DataRow, frame_of};
 use crate::plan::{self, Plan};
 use crate::{FrameRow, MOST_FRAMES, make};
 
@@ -32,9 +32,7 @@ impl Made {
     }
 
     pub fn release_and_time(&self, row: &DataRow) -> Option<(u32, u32)> {
-        let named =
-            |frame: &&FrameRow| frame.task == u32::from(row.task) && frame.deadline == row.deadline;
-        let frame = self.frames.iter().find(named)?;
+        let frame = &self.frames[frame_of(&self.frames, row)?];
         Some((frame.release, self.bus.sending_times[usize::from(row.task)]))
     }
 }
@@ -50,6 +48,15 @@ pub fn made_plan(rng: &mut Rng, size: &Size) -> Made {
     };
     let found = (0..TRIES).find_map(|_| try_one());
     found.or_else(|| Made::of(&job_a().bytes())).expect("job A has a table")
+}
+
+/// A plan whose cycle is short enough to be played, now and then one of very many frames.
+pub fn playable_plan(rng: &mut Rng) -> Made {
+    if rng.one_in(32) {
+        return Made::of(&crowded_cycle(rng).bytes()).expect("each run has a tick for each frame");
+    }
+    let size = Size::short(rng);
+    made_plan(rng, &size)
 }
 
 /// Moves every data row to any start that keeps the rules, and exchanges neighbours where they fit.

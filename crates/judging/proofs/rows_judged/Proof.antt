@@ -1,4 +1,4 @@
--- Six exits: each scan's finding decides the definition's next rule; a row found is among the first 256, so no place wraps.
+-- Six exits: each scan's finding decides the definition's next rule; a row found is among the first 1,024, so no place wraps.
 use native.Mathlib.Omega.{arith}
 use borrow.Author.Needs.{needs}
 use Rattle.rules.specs.Limits.{mostFrames}

@@ -1,6 +1,7 @@
 -- Invariant: the words below q are filled (`Filled`); a turn is the promise of `modes_with`.
 use Prim.Native.Nat.{_≤_, _-_}
 use lib.ListN.{replicate}
+use Rattle.rules.specs.Limits.{mostFrames}
 use Rattle.laws.proofs.Turns.{Filled, filled-none, filled-turn, filled-end}
 use Rattle.keeping.specs.Keeping.{byPair, modesAt}
 use borrow.Author.Needs.{needs}
@@ -8,7 +9,7 @@ use Rattle.keeping.proofs.pair_modes.Statement.{statement}
 use Rattle.keeping.proofs.pair_modes.Tie as tie
 
 abbrev Inv-loop : tie.InvT-loop
-Inv-loop runs pairs tasks deadlines modes₀ q₀ modes q = (q ≤ pairs) × Filled (replicate 256 0) (modesAt runs tasks deadlines) q modes
+Inv-loop runs pairs tasks deadlines modes₀ q₀ modes q = (q ≤ pairs) × Filled (replicate mostFrames 0) (modesAt runs tasks deadlines) q modes
 
 abbrev μ-loop : tie.MeasureT-loop
 μ-loop runs pairs tasks deadlines modes₀ q₀ modes q = pairs - q

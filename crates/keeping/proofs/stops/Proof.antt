@@ -2,6 +2,7 @@
 use denote.Ref.{now}
 use Prim.Native.Nat.{_≤_, _-_}
 use lib.ListN.{replicate}
+use Rattle.rules.specs.Limits.{mostFrames}
 use Rattle.laws.proofs.Turns.{Filled, filled-none, filled-turn, filled-end}
 use Rattle.keeping.specs.Keeping.{byPair, stopAt}
 use Rattle.keeping.proofs.Pairs.{stop-is, stop-fits}
@@ -10,7 +11,7 @@ use Rattle.keeping.proofs.stops.Statement.{statement}
 use Rattle.keeping.proofs.stops.Tie as tie
 
 abbrev Inv-loop : tie.InvT-loop
-Inv-loop pairs starts tasks times stops₀ q₀ stops q = (q ≤ pairs) × Filled (replicate 256 0) (stopAt starts tasks times) q stops
+Inv-loop pairs starts tasks times stops₀ q₀ stops q = (q ≤ pairs) × Filled (replicate mostFrames 0) (stopAt starts tasks times) q stops
 
 abbrev μ-loop : tie.MeasureT-loop
 μ-loop pairs starts tasks times stops₀ q₀ stops q = pairs - q

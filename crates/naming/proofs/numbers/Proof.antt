@@ -3,6 +3,7 @@ use mathlib.Core.Path.{_≡_, refl}
 use Prim.Native.Nat.{_-_, _≤_}
 use native.Mathlib.Omega.{arith}
 use lib.ListN.{replicate}
+use Rattle.rules.specs.Limits.{mostFrames}
 use Rattle.laws.specs.Loops.{stores}
 use Rattle.laws.proofs.Loops.{stores-turn}
 use Rattle.naming.specs.Places.{numberAt}
@@ -12,7 +13,7 @@ use Rattle.naming.proofs.numbers.Tie as tie
 
 abbrev Inv-loop : tie.InvT-loop
 Inv-loop tasks deadlines frames rowTasks rowDeadlines rows found₀ k₀ found k =
-    (k ≤ rows) × (found ≡ stores (replicate 256 0) (numberAt tasks deadlines frames rowTasks rowDeadlines) k)
+    (k ≤ rows) × (found ≡ stores (replicate mostFrames 0) (numberAt tasks deadlines frames rowTasks rowDeadlines) k)
 
 abbrev μ-loop : tie.MeasureT-loop
 μ-loop tasks deadlines frames rowTasks rowDeadlines rows found₀ k₀ found k = rows - k

@@ -275,7 +275,7 @@ module _ {M : Type 1} (𝓤 : URA M) (H : Heap 𝓤) (A : Atoms 𝓤) (W : Given
     abbrev Parted : List (Item 𝓤) → List (Item 𝓤)
     Parted =
         Parts l₄ l₅ l₆ l₇ l₈ l₉ l₁₀ l₁₁ (LL.val Fi.the-type Fi′.the-laws (h .fixed)) (LL.val Pl.the-type Pl′.the-laws (h .play)) (vptr b (o + 608))
-        (vptr b (o + 4704)) (vptr b (o + 4960)) (vptr b (o + 5984)) (vptr b (o + 7008)) (vptr b (o + 8032))
+        (vptr b (o + 4704)) (vptr b (o + 5728)) (vptr b (o + 9824)) (vptr b (o + 13920)) (vptr b (o + 18016))
 
     abbrev Above : List (Item 𝓤) → List (Item 𝓤)
     Above = Spare l₁₃ l₁₄ l₁₅

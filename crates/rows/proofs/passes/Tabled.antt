@@ -41,6 +41,7 @@ use denote.Triple.Statement.{Triple}
 use denote.Triple.Clauses.{closing}
 use denote.Triple.Walked.{says, Stays, stay-slice, stay-dropped, walkOf, goes-dropped, goes-slice, ends-at, walked, walk-meets}
 use denote.Exit.{yes}
+use Rattle.rules.specs.Limits.{mostFrames}
 use Rattle.laws.specs.Loops.{stores}
 use Rattle.laws.proofs.Loops.{stores-turn, length-stores}
 use Rattle.units.specs.declared.Frame.{Frame}
@@ -56,14 +57,14 @@ use Rattle.rows.proofs.passes.end_in.Symbol.{name as #end}
 use Rattle.rows.proofs.passes.within.Symbol.{name as #within}
 
 abbrev pub Table : RattleType
-Table = Array Row 257
+Table = Array Row 1025
 
 -- what the callees say, and a pass
 abbrev pub EndSays : ℕ → ℕ → Type 0
 EndSays n e = (e ≡ endIn n) × (e ≤ n)
 
 abbrev pub WithinSays : ℕ → ℕ → Type 0
-WithinSays k p = (p ≡ withinPlaces k) × (p ≤ 256)
+WithinSays k p = (p ≡ withinPlaces k) × (p ≤ mostFrames)
 
 abbrev pub StepSays : (Frame → Frame → Frame) → Frame → Frame → Frame → Type 0
 StepSays g row f r = r ≡ g row f
@@ -75,7 +76,7 @@ abbrev slice : Ty
 slice = sliceTy (tyRef (named 0) mut (pointee (Row .written)))
 
 abbrev array : Ty
-array = tyArray T′.mir 257
+array = tyArray T′.mir 1025
 
 -- ---- the MIR of a pass, over the key of its step
 abbrev scaled : ℕ → ℕ → Body
@@ -125,7 +126,7 @@ module _ {M : Type 1} (𝓤 : URA M) (H : Heap 𝓤) (A : Atoms 𝓤) (W : Given
     abbrev Post : Val → SProp 𝓤
     Post = walkOf 𝓤 H A (rowsEnded Table unit (TabledSays g)) (stayed g) (rowsClauses Table unit (TabledSays g) 𝓤 H A) .post (((κ, tt), (q, tt), tt, x, (s ∷ [], (tv ∷ [], tt))), tt)
 
-    many : length ts ≡ 257
+    many : length ts ≡ 1025
     many = gt .1 .0 .1
 
     exits : (zs : List Frame) → length zs ≡ length ys → zs ≡ tabled g ts ys → ent 𝓤 (⋆ 𝓤 H A (Had 𝓤 κ q b o γ zs)) (Post vunit)
@@ -193,7 +194,7 @@ module _ {M : Type 1} (𝓤 : URA M) (H : Heap 𝓤) (A : Atoms 𝓤) (W : Given
             assigns-last ! (bin ! (load ! (from ! (stop !)) (look ! 31 refl)) (lit ! tt) (record { fits = next-fits less })) (from ! (stop !)) (store ! 31 refl (tt, record { fits = next-fits less })) $
             forget ! 5 refl $ forget ! 7 refl $ forget ! 9 refl $ forget ! 11 refl $ forget ! 13 refl $ forget ! 15 refl $ forget ! 17 refl $ forget ! 19 refl $ forget ! 21 refl $ forget ! 23 refl $ forget ! 25 refl $ forget ! 27 refl $ again ! Nearer At t (next less p said u eu) (add-one-dec e i (small less)))))))
             (λ over. jumps ! $ exec ! (𝓣 .C) (𝓣 .Λ) En rest (atRet En Post) $
-            move ! (0 ∷ 2 ∷ 3 ∷ 4 ∷ []) $ closes-slice ! tt Row ys ws same b o $ move ! (3 ∷ []) $ array-shuts ! 257 ts l₃ many (λ _.
+            move ! (0 ∷ 2 ∷ 3 ∷ 4 ∷ []) $ closes-slice ! tt Row ys ws same b o $ move ! (3 ∷ []) $ array-shuts ! 1025 ts l₃ many (λ _.
             assigns ! (of-opd ! (unit-lit !)) (from ! (stop !)) (init ! 39 refl (tt, tt)) $
             returns ! (look ! 39 refl) $ forget ! 0 refl $ forget ! 26 refl $ forget ! 28 refl $ forget ! 30 refl $ forget ! 32 refl $ forget ! 35 refl $ forget ! 37 refl $ forget ! 39 refl $
             move ! (39 ∷ 40 ∷ []) $ free1 ! $ move ! (37 ∷ 38 ∷ []) $ free1 ! $ move ! (35 ∷ 36 ∷ []) $ free1 ! $ move ! (0 ∷ 34 ∷ []) $ free1 ! $ move ! (31 ∷ 32 ∷ []) $ free1 ! $ move ! (29 ∷ 30 ∷ []) $ free1 ! $ move ! (27 ∷ 28 ∷ []) $ free1 ! $ move ! (25 ∷ 26 ∷ []) $ free1 ! $ move ! (23 ∷ 24 ∷ []) $ free1 ! $
@@ -251,14 +252,14 @@ module _ {M : Type 1} (𝓤 : URA M) (H : Heap 𝓤) (A : Atoms 𝓤) (W : Given
     walk 𝓣 fm known-end known-within k step =
         qed W ((‵ (flft κ q) ⊛ ‵ ftrue) ∷ ‵ (owns (MutSlice (named 0) κ Row ∷ Table ∷ []) x (s ∷ [], (tv ∷ [], tt))) ∷ []) ∵ enter ! (𝓣 .C) (𝓣 .Λ) (function k) (s ∷ tv ∷ []) _ $
         alloc1 ! (λ l₀. alloc1 ! (λ l₁. alloc1 ! (λ l₂. alloc1 ! (λ l₃. alloc1 ! (λ l₄. alloc1 ! (λ l₅. alloc1 ! (λ l₆. alloc1 ! (λ l₇. alloc1 ! (λ l₈. alloc1 ! (λ l₉. alloc1 ! (λ l₁₀. alloc1 ! (λ l₁₁. alloc1 ! (λ l₁₂. alloc1 ! (λ l₁₃. alloc1 ! (λ l₁₄. alloc1 ! (λ l₁₅. alloc1 ! (λ l₁₆. alloc1 ! (λ l₁₇. alloc1 ! (λ l₁₈. alloc0 ! $ params1 ! $
-        pass1 ! (init ! 34 refl (tt, (tt, (record { fits = gn .0 }, tt)))) $ pass1 ! (init ! 32 refl (typed-array 𝓤 H A W 257 ts gt)) $ pass0 ! $
-        assigns ! (of-opd ! (load ! (from ! (stop !)) (look ! 32 refl))) (from ! (stop !)) (init ! 30 refl (typed-array 𝓤 H A W 257 ts gt)) $
+        pass1 ! (init ! 34 refl (tt, (tt, (record { fits = gn .0 }, tt)))) $ pass1 ! (init ! 32 refl (typed-array 𝓤 H A W 1025 ts gt)) $ pass0 ! $
+        assigns ! (of-opd ! (load ! (from ! (stop !)) (look ! 32 refl))) (from ! (stop !)) (init ! 30 refl (typed-array 𝓤 H A W 1025 ts gt)) $
         assigns ! (of-opd ! (load ! (from ! (fld ! refl (stop !))) (look-in ! 34 (sub ! 1 refl (whole !))))) (from ! (stop !)) (init ! 24 refl (tt, record { fits = gn .0 })) $
         calls-plain usize usize EndSays 𝓤 H A W (uint-makes 𝓤 H A W w64) (uint-vals w64) (uint-tells w64) ! fm known-end (length ys) (vint w64 (length ys)) (refl, gn .0) (λ I. and-then ! (load ! (from ! (stop !)) (look ! 25 refl)) (no-more !)) (λ e ee ge.
         land ! (from ! (stop !)) (init ! 28 refl (tt, record { fits = ge .1 })) $
         assigns ! (of-opd ! (lit ! tt)) (from ! (stop !)) (init ! 26 refl (tt, record { fits = lit< tt })) $
         move ! (39 ∷ []) $ fsplit ! $ fsplit ! $ move ! (1 ∷ []) $ fsplit ! $ move ! (42 ∷ []) $ split ! $ move ! (2 ∷ 3 ∷ 0 ∷ []) $ opens-slice ! tt Row ys b o $
-        move ! (37 ∷ []) $ array-opens ! 257 ts tv l₃ gt $
+        move ! (37 ∷ []) $ array-opens ! 1025 ts tv l₃ gt $
         keep ! (1 ∷ 0 ∷ 2 ∷ 3 ∷ 4 ∷ 8 ∷ 9 ∷ 10 ∷ 11 ∷ 12 ∷ 13 ∷ 14 ∷ 15 ∷ 16 ∷ 17 ∷ 18 ∷ 19 ∷ 20 ∷ 21 ∷ 22 ∷ 23 ∷ 24 ∷ 25 ∷ 26 ∷ 27 ∷ 28 ∷ 29 ∷ 30 ∷ 31 ∷ 32 ∷ 33 ∷ 34 ∷ 35 ∷ 36 ∷ 37 ∷ 38 ∷ 39 ∷ 40 ∷ 41 ∷ 42 ∷ 43 ∷ 44 ∷ []) $
         looping e ee 𝓣 fm known-within k step l₀ l₁ l₂ l₃ l₄ l₅ l₆ l₇ l₈ l₉ l₁₀ l₁₁ l₁₂ l₁₃ l₁₄ l₁₅ l₁₆ l₁₇ l₁₈))))))))))))))))))))
 
@@ -268,6 +269,6 @@ module _ {M : Type 1} (𝓤 : URA M) (H : Heap 𝓤) (A : Atoms 𝓤) (W : Given
       walk-meets 𝓤 H A (rowsEnded Table unit (TabledSays g)) (stayed g) W (goes-slice 𝓤 H A W 1 0 tt (plain (λ _. Row)), (goes-dropped 𝓤 H A W 1 (plain (λ _. Table)) yes (λ κs x f. refl), tt))
       (rowsClauses Table unit (TabledSays g) 𝓤 H A) (WpFn 𝓤 H (𝓣 .C) (𝓣 .Λ) (function k)) (WpFn-mono 𝓤 H (W .laws) 𝓣 (function k))
       (walked 𝓤 H A (rowsEnded Table unit (TabledSays g)) (stayed g) (rowsClauses Table unit (TabledSays g) 𝓤 H A) (WpFn 𝓤 H (𝓣 .C) (𝓣 .Λ) (function k))
-      (λ κs. (slice-vals, (array-vals vals, tt))) (λ κs. (mut-slice-tells (named 0) (κs .0) Row, (array-tells Row vals tells 257, tt)))
+      (λ κs. (slice-vals, (array-vals vals, tt))) (λ κs. (mut-slice-tells (named 0) (κs .0) Row, (array-tells Row vals tells 1025, tt)))
       (λ κs qs bounds a _ are. via 𝓤 _ (fst∗ 𝓤 _ (emp 𝓤))
       (walk (κs .0) (qs .0) (a .0 .ptr .0) (a .0 .ptr .1) (a .0 .name) (a .0 .now) (a .1 .0) (are .0 .0 .1) (are .1 .0) 𝓣 (fmOf 𝓤 H (W .laws) 𝓣) known-end known-within k step)))

@@ -2,6 +2,7 @@
 use mathlib.Core.Path.{_≡_, sym, _∙_}
 use Prim.Native.Nat.{_-_, _≤_}
 use lib.ListN.{length}
+use Rattle.rules.specs.Limits.{mostFrames}
 use Rattle.rows.specs.Rows.{scattered}
 use Rattle.rows.proofs.Placed.{scatter-on, scatter-past, scatter-end}
 use borrow.Author.Needs.{needs}
@@ -10,7 +11,7 @@ use Rattle.rows.proofs.starts_by_number.Tie as tie
 
 abbrev Inv-loop : tie.InvT-loop
 Inv-loop number start count by₀ j₀ by j =
-    (j ≤ count) × (length by ≡ 256) × (scattered number start count by₀ ≡ scattered number start j by)
+    (j ≤ count) × (length by ≡ mostFrames) × (scattered number start count by₀ ≡ scattered number start j by)
 
 abbrev μ-loop : tie.MeasureT-loop
 μ-loop number start count by₀ j₀ by j = j

@@ -31,6 +31,7 @@ use denote.Struct.Laws as LL
 use denote.Triple.Spec.{tripleOf}
 use denote.Triple.Statement.{Contract}
 use denote.Triple.Clauses.{ensured, lasts}
+use Rattle.rules.specs.Limits.{mostFrames}
 use Rattle.stationruns.specs.declared.Input.{Input}
 use Rattle.stationruns.proofs.Input as In
 use Rattle.stationruns.proofs.Input.Laws as In′
@@ -93,17 +94,17 @@ module _ {M : Type 1} (𝓤 : URA M) (H : Heap 𝓤) (A : Atoms 𝓤) (at-mem : 
           (α ∷ [], tt),
           (fullShare, tt),
           tt,
-          (i, (h .fixed, (h .play, (array 608 (γ .0) (h .runs), (array 4704 (γ .1 .0) (h .«pair_tasks»), (array 4960 (γ .1 .1 .0) (h .«pair_deadlines»), (array 5984 (γ .1 .1 .1 .0) (h .«pair_starts»), (array 7008 (γ .1 .1 .1 .1 .0) (h .«pair_stops»), (array 8032 (γ .1 .1 .1 .1 .1) (h .«pair_modes»), tt))))))))),
-          (LL.val In.the-type In′.the-laws i ∷ [], (LL.val Fi.the-type Fi′.the-laws (h .fixed) ∷ [], (LL.val Pl.the-type Pl′.the-laws (h .play) ∷ [], (vptr b (o + 608) ∷ [], (vptr b (o + 4704) ∷ [], (vptr b (o + 4960) ∷ [], (vptr b (o + 5984) ∷ [], (vptr b (o + 7008) ∷ [], (vptr b (o + 8032) ∷ [], tt))))))))),
+          (i, (h .fixed, (h .play, (array 608 (γ .0) (h .runs), (array 4704 (γ .1 .0) (h .«pair_tasks»), (array 5728 (γ .1 .1 .0) (h .«pair_deadlines»), (array 9824 (γ .1 .1 .1 .0) (h .«pair_starts»), (array 13920 (γ .1 .1 .1 .1 .0) (h .«pair_stops»), (array 18016 (γ .1 .1 .1 .1 .1) (h .«pair_modes»), tt))))))))),
+          (LL.val In.the-type In′.the-laws i ∷ [], (LL.val Fi.the-type Fi′.the-laws (h .fixed) ∷ [], (LL.val Pl.the-type Pl′.the-laws (h .play) ∷ [], (vptr b (o + 608) ∷ [], (vptr b (o + 4704) ∷ [], (vptr b (o + 5728) ∷ [], (vptr b (o + 9824) ∷ [], (vptr b (o + 13920) ∷ [], (vptr b (o + 18016) ∷ [], tt))))))))),
         ),
         tt,
       )
 
       abbrev Owned : ℕ → Names → Fml
       Owned α γ =
-          owns (In.the-row ∷ Fi.the-row ∷ Pl.the-row ∷ ShrRef (named 0) (α ∷ []) (Array u32 1024) ∷ ShrRef (named 0) (α ∷ []) (Array u8 256)
-          ∷ ShrRef (named 0) (α ∷ []) (Array u32 256) ∷ ShrRef (named 0) (α ∷ []) (Array u32 256) ∷ ShrRef (named 0) (α ∷ []) (Array u32 256)
-          ∷ ShrRef (named 0) (α ∷ []) (Array u32 256) ∷ [])
+          owns (In.the-row ∷ Fi.the-row ∷ Pl.the-row ∷ ShrRef (named 0) (α ∷ []) (Array u32 1024) ∷ ShrRef (named 0) (α ∷ []) (Array u8 mostFrames)
+          ∷ ShrRef (named 0) (α ∷ []) (Array u32 mostFrames) ∷ ShrRef (named 0) (α ∷ []) (Array u32 mostFrames) ∷ ShrRef (named 0) (α ∷ []) (Array u32 mostFrames)
+          ∷ ShrRef (named 0) (α ∷ []) (Array u32 mostFrames) ∷ [])
           (to-first α γ .0 .3) (to-first α γ .0 .4)
 
       joined : (α : ℕ) (γ : Names) → ent 𝓤 (sep 𝓤 (mean 𝓤 H A (‵ (flft (α ∷ []) fullShare) ⊛ ‵ ftrue)) (sem 𝓤 H A (Owned α γ))) (First .pre (to-first α γ))
@@ -117,11 +118,11 @@ module _ {M : Type 1} (𝓤 : URA M) (H : Heap 𝓤) (A : Atoms 𝓤) (at-mem : 
           qed W (‵ Memory′ ∷ ‵ (flft (α ∷ []) fullShare) ∷ []) ∵ updating ! $ bor-new ! tt (α ∷ []) $ bor-fracture ! tt (λ s. partAt T.the-row s h b o) fullShare $
           -- [the station's share; the way back; the token]
           shr-bor-dup ! $ move ! (0 ∷ 3 ∷ []) $ use2 W (later (some (λ (γ : GName). ‵ (ShrRef (named 0) (α ∷ []) (Array u32 1024) .own (array 608 γ (h .runs)) (vptr b (o + 608) ∷ [])) ⊛ ‵ (flft (α ∷ []) fullShare)))) (array-lent 𝓤 H A W (named 0) (α ∷ []) fullShare h b o 1 608 refl refl (h .runs) (numbers-same (h .runs))) $ await ! tt $ pick ! (λ γ₁. split ! $ move ! (2 ∷ []) $
-          shr-bor-dup ! $ move ! (0 ∷ 3 ∷ []) $ use2 W (later (some (λ (γ : GName). ‵ (ShrRef (named 0) (α ∷ []) (Array u8 256) .own (array 4704 γ (h .«pair_tasks»)) (vptr b (o + 4704) ∷ [])) ⊛ ‵ (flft (α ∷ []) fullShare)))) (array-lent 𝓤 H A W (named 0) (α ∷ []) fullShare h b o 2 4704 refl refl (h .«pair_tasks») (numbers-same (h .«pair_tasks»))) $ await ! tt $ pick ! (λ γ₂. split ! $ move ! (2 ∷ []) $
-          shr-bor-dup ! $ move ! (0 ∷ 3 ∷ []) $ use2 W (later (some (λ (γ : GName). ‵ (ShrRef (named 0) (α ∷ []) (Array u32 256) .own (array 4960 γ (h .«pair_deadlines»)) (vptr b (o + 4960) ∷ [])) ⊛ ‵ (flft (α ∷ []) fullShare)))) (array-lent 𝓤 H A W (named 0) (α ∷ []) fullShare h b o 3 4960 refl refl (h .«pair_deadlines») (numbers-same (h .«pair_deadlines»))) $ await ! tt $ pick ! (λ γ₃. split ! $ move ! (2 ∷ []) $
-          shr-bor-dup ! $ move ! (0 ∷ 3 ∷ []) $ use2 W (later (some (λ (γ : GName). ‵ (ShrRef (named 0) (α ∷ []) (Array u32 256) .own (array 5984 γ (h .«pair_starts»)) (vptr b (o + 5984) ∷ [])) ⊛ ‵ (flft (α ∷ []) fullShare)))) (array-lent 𝓤 H A W (named 0) (α ∷ []) fullShare h b o 4 5984 refl refl (h .«pair_starts») (numbers-same (h .«pair_starts»))) $ await ! tt $ pick ! (λ γ₄. split ! $
-          move ! (2 ∷ []) $ shr-bor-dup ! $ move ! (0 ∷ 3 ∷ []) $ use2 W (later (some (λ (γ : GName). ‵ (ShrRef (named 0) (α ∷ []) (Array u32 256) .own (array 7008 γ (h .«pair_stops»)) (vptr b (o + 7008) ∷ [])) ⊛ ‵ (flft (α ∷ []) fullShare)))) (array-lent 𝓤 H A W (named 0) (α ∷ []) fullShare h b o 5 7008 refl refl (h .«pair_stops») (numbers-same (h .«pair_stops»))) $ await ! tt $ pick ! (λ γ₅. split ! $
-          move ! (2 ∷ 1 ∷ []) $ use2 W (later (some (λ (γ : GName). ‵ (ShrRef (named 0) (α ∷ []) (Array u32 256) .own (array 8032 γ (h .«pair_modes»)) (vptr b (o + 8032) ∷ [])) ⊛ ‵ (flft (α ∷ []) fullShare)))) (array-lent 𝓤 H A W (named 0) (α ∷ []) fullShare h b o 6 8032 refl refl (h .«pair_modes») (numbers-same (h .«pair_modes»))) $ await ! tt $ pick ! (λ γ₆. split ! $
+          shr-bor-dup ! $ move ! (0 ∷ 3 ∷ []) $ use2 W (later (some (λ (γ : GName). ‵ (ShrRef (named 0) (α ∷ []) (Array u8 mostFrames) .own (array 4704 γ (h .«pair_tasks»)) (vptr b (o + 4704) ∷ [])) ⊛ ‵ (flft (α ∷ []) fullShare)))) (array-lent 𝓤 H A W (named 0) (α ∷ []) fullShare h b o 2 4704 refl refl (h .«pair_tasks») (numbers-same (h .«pair_tasks»))) $ await ! tt $ pick ! (λ γ₂. split ! $ move ! (2 ∷ []) $
+          shr-bor-dup ! $ move ! (0 ∷ 3 ∷ []) $ use2 W (later (some (λ (γ : GName). ‵ (ShrRef (named 0) (α ∷ []) (Array u32 mostFrames) .own (array 5728 γ (h .«pair_deadlines»)) (vptr b (o + 5728) ∷ [])) ⊛ ‵ (flft (α ∷ []) fullShare)))) (array-lent 𝓤 H A W (named 0) (α ∷ []) fullShare h b o 3 5728 refl refl (h .«pair_deadlines») (numbers-same (h .«pair_deadlines»))) $ await ! tt $ pick ! (λ γ₃. split ! $ move ! (2 ∷ []) $
+          shr-bor-dup ! $ move ! (0 ∷ 3 ∷ []) $ use2 W (later (some (λ (γ : GName). ‵ (ShrRef (named 0) (α ∷ []) (Array u32 mostFrames) .own (array 9824 γ (h .«pair_starts»)) (vptr b (o + 9824) ∷ [])) ⊛ ‵ (flft (α ∷ []) fullShare)))) (array-lent 𝓤 H A W (named 0) (α ∷ []) fullShare h b o 4 9824 refl refl (h .«pair_starts») (numbers-same (h .«pair_starts»))) $ await ! tt $ pick ! (λ γ₄. split ! $
+          move ! (2 ∷ []) $ shr-bor-dup ! $ move ! (0 ∷ 3 ∷ []) $ use2 W (later (some (λ (γ : GName). ‵ (ShrRef (named 0) (α ∷ []) (Array u32 mostFrames) .own (array 13920 γ (h .«pair_stops»)) (vptr b (o + 13920) ∷ [])) ⊛ ‵ (flft (α ∷ []) fullShare)))) (array-lent 𝓤 H A W (named 0) (α ∷ []) fullShare h b o 5 13920 refl refl (h .«pair_stops») (numbers-same (h .«pair_stops»))) $ await ! tt $ pick ! (λ γ₅. split ! $
+          move ! (2 ∷ 1 ∷ []) $ use2 W (later (some (λ (γ : GName). ‵ (ShrRef (named 0) (α ∷ []) (Array u32 mostFrames) .own (array 18016 γ (h .«pair_modes»)) (vptr b (o + 18016) ∷ [])) ⊛ ‵ (flft (α ∷ []) fullShare)))) (array-lent 𝓤 H A W (named 0) (α ∷ []) fullShare h b o 6 18016 refl refl (h .«pair_modes») (numbers-same (h .«pair_modes»))) $ await ! tt $ pick ! (λ γ₆. split ! $
           -- [the pairs' modes; the token; their stops, starts, deadlines, tasks; runs; the way back]
           at-once ! $ show ! (Asked α) (γ₁, (γ₂, (γ₃, (γ₄, (γ₅, γ₆))))) $ nothing ! $ move ! (1 ∷ 0 ∷ []) $ fjoin ! $ move ! (2 ∷ 0 ∷ []) $ fjoin ! $ move ! (2 ∷ 0 ∷ []) $ fjoin ! $ move ! (2 ∷ 0 ∷ []) $ fjoin ! $ move ! (2 ∷ 0 ∷ []) $ fjoin ! $ move ! (2 ∷ 0 ∷ []) $ fjoin ! $
           -- [the references; the token; the way back]

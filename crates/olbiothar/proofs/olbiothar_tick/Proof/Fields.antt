@@ -18,6 +18,7 @@ use types.Kit.{Given, Go, ‵, ! }
 use types.Part.{Part, whole, sub}
 use denote.Struct.At.{spelled}
 use denote.Struct.Laws as LL
+use Rattle.rules.specs.Limits.{mostFrames}
 use Rattle.stationnodes.specs.declared.Node.{Node}
 use Rattle.stationnodes.proofs.Node.Laws as N′
 use Rattle.station.specs.Parts.{withPlayAndNodes}
@@ -56,25 +57,25 @@ fixed-at = refl
 pub runs-at : fieldOf T′.mir 1 ≡ some (tyArray (tyInt w32) 1024, 608)
 runs-at = refl
 
-pub pair-tasks-at : fieldOf T′.mir 2 ≡ some (tyArray (tyInt w8) 256, 4704)
+pub pair-tasks-at : fieldOf T′.mir 2 ≡ some (tyArray (tyInt w8) mostFrames, 4704)
 pair-tasks-at = refl
 
-pub pair-deadlines-at : fieldOf T′.mir 3 ≡ some (tyArray (tyInt w32) 256, 4960)
+pub pair-deadlines-at : fieldOf T′.mir 3 ≡ some (tyArray (tyInt w32) mostFrames, 5728)
 pair-deadlines-at = refl
 
-pub pair-starts-at : fieldOf T′.mir 4 ≡ some (tyArray (tyInt w32) 256, 5984)
+pub pair-starts-at : fieldOf T′.mir 4 ≡ some (tyArray (tyInt w32) mostFrames, 9824)
 pair-starts-at = refl
 
-pub pair-stops-at : fieldOf T′.mir 5 ≡ some (tyArray (tyInt w32) 256, 7008)
+pub pair-stops-at : fieldOf T′.mir 5 ≡ some (tyArray (tyInt w32) mostFrames, 13920)
 pair-stops-at = refl
 
-pub pair-modes-at : fieldOf T′.mir 6 ≡ some (tyArray (tyInt w32) 256, 8032)
+pub pair-modes-at : fieldOf T′.mir 6 ≡ some (tyArray (tyInt w32) mostFrames, 18016)
 pair-modes-at = refl
 
-pub play-at : fieldOf T′.mir 7 ≡ some (Pl′.mir, 9056)
+pub play-at : fieldOf T′.mir 7 ≡ some (Pl′.mir, 22112)
 play-at = refl
 
-pub nodes-at : fieldOf T′.mir 8 ≡ some ((tyArray N′.mir 8), 9864)
+pub nodes-at : fieldOf T′.mir 8 ≡ some ((tyArray N′.mir 8), 22920)
 nodes-at = refl
 
 pub tick-at : fieldOf R′.mir 0 ≡ some (K′.mir, 0)
@@ -112,10 +113,10 @@ module _ {M : Type 1} (𝓤 : URA M) (H : Heap 𝓤) (A : Atoms 𝓤) (W : Given
     pub fixed-part : Part (Go {0}) W (‵ (fat fullShare T′.mir b o (mach g))) fullShare Fi′.mir b (o + 0) (LL.val Fi.the-type Fi′.the-laws (g .fixed)) (λ u. ‵ (fat fullShare T′.mir b o (station-with g 0 u)))
     fixed-part = sub ! 0 fixed-at (whole !)
 
-    pub play-part : Part (Go {0}) W (‵ (fat fullShare T′.mir b o (mach g))) fullShare Pl′.mir b (o + 9056) (LL.val Pl.the-type Pl′.the-laws (g .play)) (λ u. ‵ (fat fullShare T′.mir b o (station-with g 7 u)))
+    pub play-part : Part (Go {0}) W (‵ (fat fullShare T′.mir b o (mach g))) fullShare Pl′.mir b (o + 22112) (LL.val Pl.the-type Pl′.the-laws (g .play)) (λ u. ‵ (fat fullShare T′.mir b o (station-with g 7 u)))
     play-part = sub ! 7 play-at (whole !)
 
-    pub nodes-part : Part (Go {0}) W (‵ (fat fullShare T′.mir b o (mach g))) fullShare (tyArray N′.mir 8) b (o + 9864) (nodes-mach (g .nodes)) (λ u. ‵ (fat fullShare T′.mir b o (station-with g 8 u)))
+    pub nodes-part : Part (Go {0}) W (‵ (fat fullShare T′.mir b o (mach g))) fullShare (tyArray N′.mir 8) b (o + 22920) (nodes-mach (g .nodes)) (λ u. ‵ (fat fullShare T′.mir b o (station-with g 8 u)))
     nodes-part = sub ! 8 nodes-at (whole !)
 
   module _ (r : AnswerBeforeNodes) (l : ℕ) where

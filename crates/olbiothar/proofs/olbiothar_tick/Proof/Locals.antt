@@ -15,6 +15,7 @@ use types.Kit.{Given, Item, ‵, ⋆, runs, atRet, frees, prop, Sq, _$_, !, by, 
 use types.Part.{look-in}
 use types.Run.{look, init, forget, stop, fld, from, load, of-opd, assigns, returns, free1, free0}
 use denote.Memory.{pointee}
+use Rattle.rules.specs.Limits.{mostFrames}
 use Rattle.stationruns.proofs.Input.Laws as In′
 use Rattle.stationnodes.proofs.Node.Laws as N′
 use Rattle.stationrefusals.proofs.Fixed.Laws as Fi′
@@ -32,7 +33,7 @@ abbrev Words : ℕ → Ty
 Words n = tyRef erased imm (tyArray (tyInt w32) n)
 
 abbrev Carries : Ty
-Carries = tyRef erased imm (tyArray (tyInt w8) 256)
+Carries = tyRef erased imm (tyArray (tyInt w8) mostFrames)
 
 abbrev Nodes : Ty
 Nodes = tyArray N′.mir 8
@@ -54,12 +55,12 @@ module _ {M : Type 1} {𝓤 : URA M} where
   -- the locals for the station's parts: empty, and filled
   abbrev pub Unread : (l₄ l₅ l₆ l₇ l₈ l₉ l₁₀ l₁₁ : ℕ) → List (Item 𝓤) → List (Item 𝓤)
   Unread l₄ l₅ l₆ l₇ l₈ l₉ l₁₀ l₁₁ rest =
-      Free (Words 256) l₁₁ (Free (Words 256) l₁₀ (Free (Words 256) l₉ (Free (Words 256) l₈ (Free Carries l₇ (
+      Free (Words mostFrames) l₁₁ (Free (Words mostFrames) l₁₀ (Free (Words mostFrames) l₉ (Free (Words mostFrames) l₈ (Free Carries l₇ (
       Free (Words 1024) l₆ (Free Pl′.mir l₅ (Free Fi′.mir l₄ rest)))))))
 
   abbrev pub Parts : (l₄ l₅ l₆ l₇ l₈ l₉ l₁₀ l₁₁ : ℕ) (v₄ v₅ v₆ v₇ v₈ v₉ v₁₀ v₁₁ : Val) → List (Item 𝓤) → List (Item 𝓤)
   Parts l₄ l₅ l₆ l₇ l₈ l₉ l₁₀ l₁₁ v₄ v₅ v₆ v₇ v₈ v₉ v₁₀ v₁₁ rest =
-      Holding (Words 256) l₁₁ v₁₁ (Holding (Words 256) l₁₀ v₁₀ (Holding (Words 256) l₉ v₉ (Holding (Words 256) l₈ v₈ (Holding Carries l₇ v₇ (
+      Holding (Words mostFrames) l₁₁ v₁₁ (Holding (Words mostFrames) l₁₀ v₁₀ (Holding (Words mostFrames) l₉ v₉ (Holding (Words mostFrames) l₈ v₈ (Holding Carries l₇ v₇ (
       Holding (Words 1024) l₆ v₆ (Holding Pl′.mir l₅ v₅ (Holding Fi′.mir l₄ v₄ rest)))))))
 
   -- the parameters
@@ -73,7 +74,7 @@ module _ {M : Type 1} (𝓤 : URA M) (H : Heap 𝓤) (A : Atoms 𝓤) (W : Given
   abbrev pub En : Env 𝓤 H
   En =
       (K′.mir, l₀) ∷ (Lent, l₁) ∷ (In′.mir, l₂) ∷ (R′.mir, l₃) ∷ (Fi′.mir, l₄) ∷ (Pl′.mir, l₅) ∷ (Words 1024, l₆) ∷ (Carries, l₇)
-      ∷ (Words 256, l₈) ∷ (Words 256, l₉) ∷ (Words 256, l₁₀) ∷ (Words 256, l₁₁) ∷ (tyBool, l₁₂) ∷ (Nodes, l₁₃)
+      ∷ (Words mostFrames, l₈) ∷ (Words mostFrames, l₉) ∷ (Words mostFrames, l₁₀) ∷ (Words mostFrames, l₁₁) ∷ (tyBool, l₁₂) ∷ (Nodes, l₁₃)
       ∷ (Nodes, l₁₄) ∷ (Fi′.mir, l₁₅) ∷ []
 
   module _ (F₀ F₁ F₂ : Item 𝓤) where

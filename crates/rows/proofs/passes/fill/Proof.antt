@@ -111,20 +111,20 @@ module _ {M : Type 1} (𝓤 : URA M) (H : Heap 𝓤) (A : Atoms 𝓤) (W : Given
       qed W ((‵ (flft κ q) ⊛ ‵ ftrue) ∷ ‵ (owns (MutSlice (named 0) κ Row ∷ R.the-row ∷ []) x at) ∷ []) ∵ enter ! (𝓣 .C) (𝓣 .Λ) code.function (s ∷ rv ∷ []) _ $
       alloc1 ! (λ l₀. alloc1 ! (λ l₁. alloc1 ! (λ l₂. alloc1 ! (λ l₃. alloc1 ! (λ l₄. alloc1 ! (λ l₅. alloc1 ! (λ l₆. alloc1 ! (λ l₇. alloc1 ! (λ l₈. alloc0 ! $ params1 ! $
       pass1 ! (init ! 14 refl (tt, (tt, (record { fits = gn .0 }, tt)))) $ pass1 ! (init ! 12 refl typedR) $ pass0 ! $
-      calls-plain R.the-row Table TableSays 𝓤 H A W (LL.makes R.the-type R′.the-plain 𝓤 H A) (array-vals vals) (array-tells Row vals tells 257) ! fm known-table r rv gr (λ I. and-then ! (load ! (from ! (stop !)) (look ! 13 refl)) (no-more !)) (λ ts et gt.
-      land ! (from ! (stop !)) (init ! 10 refl (typed-array 𝓤 H A W 257 ts gt)) $
+      calls-plain R.the-row Table TableSays 𝓤 H A W (LL.makes R.the-type R′.the-plain 𝓤 H A) (array-vals vals) (array-tells Row vals tells 1025) ! fm known-table r rv gr (λ I. and-then ! (load ! (from ! (stop !)) (look ! 13 refl)) (no-more !)) (λ ts et gt.
+      land ! (from ! (stop !)) (init ! 10 refl (typed-array 𝓤 H A W 1025 ts gt)) $
       move ! (19 ∷ []) $ fsplit ! $ fsplit ! $ move ! (1 ∷ []) $ fsplit ! $ move ! (22 ∷ []) $ split ! $ move ! (2 ∷ 3 ∷ 0 ∷ []) $ opens-slice ! tt Row ys b o $
       keep ! (0 ∷ 1 ∷ 2 ∷ 3 ∷ 7 ∷ 8 ∷ 9 ∷ 10 ∷ 11 ∷ 12 ∷ 13 ∷ 14 ∷ 15 ∷ 16 ∷ 17 ∷ 18 ∷ 19 ∷ 20 ∷ 21 ∷ 22 ∷ 23 ∷ 24 ∷ []) $
       -- [the row; the open borrow; obs; auth; _8; …]
       assigns ! (addr ! (from ! (fld ! refl (hop ! (look-in ! 18 (sub ! 0 refl (whole !))) (stop !))))) (from ! (stop !)) (init ! 10 refl (tt, tt)) $
       assigns ! (agg ! (and-then ! (load ! (from ! (stop !)) (look ! 10 refl)) (and-then ! (load ! (from ! (fld ! refl (stop !))) (look-in ! 18 (sub ! 1 refl (whole !)))) (no-more !)))) (from ! (stop !)) (init ! 8 refl (tt, (tt, (record { fits = gn .0 }, tt)))) $
-      calls-rows Table unit (TabledSays derivedRow) 𝓤 H A W (array-makes 𝓤 H A W Row (makes 𝓤 H A W) 257) nothing-vals nothing-tells ! fm known-derive ts _ gt ys b o gn
+      calls-rows Table unit (TabledSays derivedRow) 𝓤 H A W (array-makes 𝓤 H A W Row (makes 𝓤 H A W) 1025) nothing-vals nothing-tells ! fm known-derive ts _ gt ys b o gn
       (λ I J. and-then ! (load ! (from ! (stop !)) (look ! 9 refl)) (and-then ! (load ! (from ! (stop !)) (look ! 15 refl)) (no-more !))) (λ _ ds same ed _.
       land ! (from ! (stop !)) (init ! 12 refl (tt, tt)) $
       assigns ! (addr ! (from ! (fld ! refl (hop ! (look-in ! 18 (sub ! 0 refl (whole !))) (stop !))))) (from ! (stop !)) (init ! 6 refl (tt, tt)) $
       assigns ! (agg ! (and-then ! (load ! (from ! (stop !)) (look ! 6 refl)) (and-then ! (load ! (from ! (fld ! refl (stop !))) (look-in ! 18 (sub ! 1 refl (whole !)))) (no-more !)))) (from ! (stop !)) (init ! 4 refl (tt, (tt, (record { fits = gn .0 }, tt)))) $
       rewrite ! 4 (λ (m : ℕ). ‵ (fat fullShare (sliceTy (tyRef erased mut (pointee (Row .written)))) l₈ 0 (sliceVal (b, o) m))) (sym same) refl $
-      calls-rows Table unit (TabledSays startedRow) 𝓤 H A W (array-makes 𝓤 H A W Row (makes 𝓤 H A W) 257) nothing-vals nothing-tells ! fm known-start ts _ gt ds b o (subst (Room Row) (sym same) gn)
+      calls-rows Table unit (TabledSays startedRow) 𝓤 H A W (array-makes 𝓤 H A W Row (makes 𝓤 H A W) 1025) nothing-vals nothing-tells ! fm known-start ts _ gt ds b o (subst (Room Row) (sym same) gn)
       (λ I J. and-then ! (load ! (from ! (stop !)) (look ! 5 refl)) (and-then ! (load ! (from ! (stop !)) (look ! 15 refl)) (no-more !))) (λ _ zs same-too es _.
       land ! (from ! (stop !)) (store ! 12 refl (tt, tt)) $
       closes-slice ! tt Row ys zs (same-too ∙ same) b o $

@@ -11,7 +11,7 @@ use Rattle.rows.proofs.passes.frame_table.Statement.{statement}
 use Rattle.rows.proofs.passes.frame_table.Tie as tie
 
 abbrev Inv-loop : tie.InvT-loop
-Inv-loop r table₀ end k₀ table k = (k ≤ end) × (table ≡ stores (replicate 257 zeroFrame) (frameAt r) k)
+Inv-loop r table₀ end k₀ table k = (k ≤ end) × (table ≡ stores (replicate 1025 zeroFrame) (frameAt r) k)
 
 abbrev μ-loop : tie.MeasureT-loop
 μ-loop r table₀ end k₀ table k = end - k
