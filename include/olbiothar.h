@@ -68,7 +68,7 @@ typedef struct olbiothar_answer {
 
 /* A frame, by its number: by deadline, then by task. `start` is its start in the table. */
 typedef struct olbiothar_frame {
-    uint8_t task;
+    uint32_t task;
     uint32_t release;
     uint32_t deadline;
     uint32_t start;
@@ -233,7 +233,7 @@ OLBIOTHAR_AT(olbiothar_answer, number, 0, 4);
 OLBIOTHAR_AT(olbiothar_answer, place, 8, 8);
 
 OLBIOTHAR_SIZE(olbiothar_frame, 16, 4);
-OLBIOTHAR_AT(olbiothar_frame, task, 0, 1);
+OLBIOTHAR_AT(olbiothar_frame, task, 0, 4);
 OLBIOTHAR_AT(olbiothar_frame, release, 4, 4);
 OLBIOTHAR_AT(olbiothar_frame, deadline, 8, 4);
 OLBIOTHAR_AT(olbiothar_frame, start, 12, 4);

@@ -22,7 +22,7 @@ pub const LONGEST_TABLE: usize = 8 + NODES * 10 + FRAMES * 14 + 1;
 #[repr(C)]
 #[derive(Clone, Copy, Debug, Default, PartialEq, Eq)]
 pub struct Frame {
-    pub task: u8,
+    pub task: u32,
     pub release: u32,
     pub deadline: u32,
     /// In the table that was made or checked.

@@ -65,7 +65,7 @@ const OLD_ROW: (Frame, FrameRow) = (
 fn same_rows(proved: &[Frame], rust: &[FrameRow]) -> bool {
     proved.iter().zip(rust).all(|(proved, rust)| {
         let Frame { task, release, deadline, start } = *proved;
-        *rust == FrameRow { task: u32::from(task), release, deadline, start }
+        *rust == FrameRow { task, release, deadline, start }
     })
 }
 

@@ -34,7 +34,7 @@ use Rattle.rules.proofs.PairRows.{HoldsPair, pair-row, rides}
 use Rattle.rules.proofs.Sent.{has-means, has-is, some-mode}
 use Rattle.rules.proofs.TransparentPlan.{control-same, row-lasts}
 use Rattle.control.specs.Control.{nodeOf, startOf, stopOf}
-use Rattle.line.specs.Line.{lineOf, taskOf, deadlineOf}
+use Rattle.line.specs.Line.{lineIn, lineOf, taskOf, deadlineOf}
 use Rattle.line.proofs.Drawn.{Drawn, time-drawn}
 use Rattle.judging.specs.Judged.{startIn}
 use Rattle.checker.specs.Passing.{startsOf}
@@ -237,7 +237,7 @@ module _ (p : Plan) (d : Drawn p) (t : TableRead) (obeys : ObeysTable (layoutOf 
   unfolding runsOf runsAmong runAmong runLaid rules.keptOf periodIn
   runs-laid = refl
 
-  controls-laid : controlsOf (lineOf p) ≡ keptLaid k .fixed .controls
+  controls-laid : controlsOf (lineIn (lineOf p)) ≡ keptLaid k .fixed .controls
   unfolding controlsOf lineOf layoutOf keptLaid rules.keptOf controlAt
   controls-laid =
       let rows = control-same p (d .kept) t obeys in
@@ -262,7 +262,7 @@ module _ (p : Plan) (d : Drawn p) (t : TableRead) (obeys : ObeysTable (layoutOf 
   modes-laid =
       pairs-laid (length (pairs p)) (modesAt (runsOf p) (lineOf p .tasks) (lineOf p .deadlines)) (modesLaid k) (d .few) modes-at no-modes
 
-  pub kept-whole : keptFrom p (lineOf p) (startsOf passed) ≡ keptLaid k
+  pub kept-whole : keptFrom p (lineIn (lineOf p)) (lineOf p .tasks) (lineOf p .deadlines) (startsOf passed) ≡ keptLaid k
   unfolding keptFrom modulesOf modesOf tasksOf keeping.homeOf keeping.periodOf keeping.switchOf keeping.taskHome keeping.taskSize keeping.taskWorst lineOf layoutOf pairs keptLaid rules.keptOf passedPair
   kept-whole =
       station-made controls-laid runs-laid (rows-laid taskOf (pairs p) noPair mostFrames refl) (rows-laid deadlineOf (pairs p) noPair mostFrames refl)

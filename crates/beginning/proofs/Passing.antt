@@ -95,7 +95,7 @@ verdict-refused n p (refuse m q) e = rw (refuse-number e, refuse-place e)
 abbrev passedOf : Plan → TableRead → Passed
 passedOf p t = record { plan = p; traffic = basic p; layout = layoutOf p; table = t }
 
-module _ (plan table : List ℕ) (x : Passing) (says : Passes x (checkFiles plan table)) where
+module _ (plan table : List ℕ) (x : Passing) {tasks deadlines starts : List ℕ} (says : Passes x tasks deadlines starts (checkFiles plan table)) where
   -- the checker's number
   pub refused-begins : (starting : Starting) (why : Refusal) {r : Begun} → x .answer ≡ Refused why
       → r ≡ record { answer = Refused why; station = notBegun } → Begins r (rules.begin plan table (startingAt starting))
@@ -127,22 +127,22 @@ module _ (plan table : List ℕ) (x : Passing) (says : Passes x (checkFiles plan
 
     -- what `kept` asks of what is handed on
     pub kept-ready : PlanKept (seen (x .plan))
-        × (((x .line .controls ≤ 8) × (x .line .frames ≤ mostFrames)) × StopsFit (x .line .frames) (x .starts) (x .line .tasks) (x .line .times))
+        × (((x .line .controls ≤ 8) × (x .line .frames ≤ mostFrames)) × StopsFit (x .line .frames) starts tasks (x .line .times))
     unfolding lineOf layoutOf pairs
     kept-ready =
         passed-is λ p t d obeys isRead is.
-        rw (says .plan, says .line, says .starts, is, read-seen plan p isRead)
+        rw (says .plan, says .line, says .tasks, says .starts, is, read-seen plan p isRead)
         (d .kept, ((d .controls, d .few), fits p t d obeys is))
 
     -- the station begins as the rules say
-    pub passed-begins : (starting : Starting) {st : Station} {r : Begun} → st ≡ keptFrom (seen (x .plan)) (x .line) (x .starts)
+    pub passed-begins : (starting : Starting) {st : Station} {r : Begun} → st ≡ keptFrom (seen (x .plan)) (x .line) tasks deadlines starts
         → r ≡ begunBy st starting → Begins r (rules.begin plan table (startingAt starting))
     unfolding rules.begin begunBy
     passed-begins starting {st} h q =
         passed-is λ p t d obeys isRead is.
         let c = passedOf p t in
         let kept : st ≡ keptLaid (rules.keptOf c) =
-        rw (h, says .plan, says .line, says .starts, is, read-seen plan p isRead) (kept-whole p d t obeys) in
+        rw (h, says .plan, says .line, says .tasks, says .deadlines, says .starts, is, read-seen plan p isRead) (kept-whole p d t obeys) in
         let few : rules.keptOf c .modes ≤ 32 = kept-begins plan table c is .modeCount .most in
         rw (q, kept, start-same (rules.keptOf c) starting few, is)
         (begins-by (rules.keptOf c) starting (firstBad (startsWell (rules.keptOf c) (startingAt starting)) (upTo 16)))

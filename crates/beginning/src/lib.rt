@@ -9,18 +9,22 @@ use starting::Begun;
 use starting::begin_with;
 use starting::refused;
 use stationruns::Starting;
+use units::Frame;
 
 // A station begins only with a passed table, else the checker's number is given; and with one mode of its own for each module.
 pub fn begin(plan: &[u8], table: &[u8], starting: Starting) -> Begun
     ensures { λ r. ⌜ Begins r (rules.begin (now (plan .entry)) (now (table .entry)) (startingAt starting)) ⌝ }
 {
-    let found = passed(plan, table);
+    let mut tasks: [u8; Frame::MOST] = [0; Frame::MOST];
+    let mut deadlines: [u32; Frame::MOST] = [0; Frame::MOST];
+    let mut starts: [u32; Frame::MOST] = [0; Frame::MOST];
+    let found = passed(plan, table, &mut tasks, &mut deadlines, &mut starts);
     let answer = found.answer;
     match answer {
         Verdict::Refused(why) => refused(why),
         Verdict::Fine => {
-            let starts = found.starts;
-            begin_with(kept(found.plan, found.line, starts), starting)
+            let station = kept(found.plan, found.line, &tasks, &deadlines, &starts);
+            begin_with(station, starting)
         }
     }
 }

@@ -15,9 +15,8 @@ use Rattle.rules.proofs.MadePasses.{table-made}
 use Rattle.answers.specs.declared.Refusal.{Refusal}
 use Rattle.answers.specs.Refusals.{numberOf, placeOf}
 use Rattle.linetable.specs.declared.Answer.the-variants.{Made, Refused}
-use Rattle.linetable.specs.declared.Making.{Making}
 use Rattle.maker.specs.Making.{lentFor}
-use Rattle.linetable.specs.Making.{Makes, heardMade, lengthOf, bufferLeft}
+use Rattle.linetable.specs.Making.{Making, Makes, heardMade, lengthOf, bufferLeft}
 use Rattle.linetable.proofs.Ways.{table-stored}
 use Rattle.text.specs.Text.{refusedLine, tooLongLine}
 use Rattle.text.proofs.Decimals.{refused-line-most}

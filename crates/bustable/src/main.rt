@@ -19,8 +19,20 @@ fn respond(plan: &[u8], out: &mut [u8]) -> usize
     if plan.len() > 65536 {
         return text::put_too_long(&mut *out);
     }
-    let making = maker::made(plan, Frame::MOST, &mut *out);
-    let answer = making.answer;
+    let mut tasks = [0u8; Frame::MOST];
+    let mut releases = [0u32; Frame::MOST];
+    let mut deadlines = [0u32; Frame::MOST];
+    let mut starts = [0u32; Frame::MOST];
+    let made = maker::made(
+        plan,
+        Frame::MOST,
+        &mut *out,
+        &mut tasks,
+        &mut releases,
+        &mut deadlines,
+        &mut starts,
+    );
+    let answer = made.answer;
     match answer {
         Answer::Made(length) => length,
         Answer::Refused(refusal) => {

@@ -4,11 +4,10 @@ use Rattle.laws.specs.Res.{Res}
 use Rattle.laws.proofs.Res.{refuse≢ok}
 use Rattle.rules.specs.Checker as rules
 use Rattle.answers.proofs.Said.{said-once}
-use Rattle.rows.specs.declared.Rows.{Rows}
+use Rattle.rows.specs.Rows.{Rows}
 use Rattle.answers.specs.declared.Verdict.{Verdict}
 use Rattle.answers.specs.declared.Verdict.the-variants.{Fine, Refused}
-use Rattle.checked.specs.declared.Checked.{Checked}
-use Rattle.checked.specs.Checking.{Checks}
+use Rattle.checked.specs.Checking.{Checked, Checks}
 use Rattle.answers.specs.Refusals.{heard}
 
 pub heard-once : (x y : Verdict) → heard x ≡ heard y → x ≡ y

@@ -1,4 +1,4 @@
--- What a check by value answers, and the frame rows that it leaves.
+-- What a check answers, and the frame rows that it leaves.
 use mathlib.Core.Path.{_≡_}
 use mathlib.Core.List.{List, [], map}
 use mathlib.Core.Logic.{_⊎_, _↔_}
@@ -10,13 +10,15 @@ use Rattle.rules.specs.Table.{FrameRow}
 use Rattle.rules.specs.Checker as rules
 use Rattle.rules.specs.Checker.{checkedRow, checkFiles}
 use Rattle.rules.specs.Obeys.{MayPass, CheckFault, UnreadAt, BrokenAt}
-use Rattle.answers.specs.Refusals.{said, heard}
-use Rattle.line.specs.declared.Line.{Line}
-use Rattle.rows.specs.declared.Rows.{Rows}
-use Rattle.rows.specs.Rows.{rowsLaid}
+use Rattle.answers.specs.Refusals.{heard}
+use Rattle.rows.specs.Rows.{Rows, rowsLaid}
 use Rattle.answers.specs.declared.Verdict.{Verdict}
-use Rattle.answers.specs.declared.Verdict.the-variants.{Fine, Refused}
-use Rattle.checked.specs.declared.Checked.{Checked}
+use Rattle.answers.specs.declared.Verdict.the-variants.{Fine}
+
+-- The answer, and the frames by number with the starts of the table that was checked; no rows where it is refused.
+pub record Checked : Type 0 where
+  pub answer : Verdict
+  pub rows : Rows
 
 abbrev pub verdict : Res rules.Passed → Res (Unit {0})
 verdict (ok c) = ok tt
@@ -37,11 +39,6 @@ unfoldable pub lentPassed : List ℕ → List ℕ → ℕ → Res rules.Passed
 lentPassed plan table lent = do
   unless 19 mostFrames (leb mostFrames lent)
   checkFiles plan table
-
--- the frames of a line in arrays, with a start for each
-unfoldable pub rowsOn : Line → List ℕ → Rows
-rowsOn l starts =
-    record { frames = l .frames; tasks = l .tasks; releases = l .releases; deadlines = l .deadlines; starts = starts }
 
 -- The answer passes exactly the tables of laid out plans that keep every rule.
 unfoldable pub PassesExactly : Verdict → List ℕ → List ℕ → ℕ → Type 0

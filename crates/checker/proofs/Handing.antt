@@ -3,20 +3,22 @@ use mathlib.Core.Path.{_≡_, refl, sym, ap, _∙_}
 use mathlib.Core.Bool.{true}
 use mathlib.Core.List.{List}
 use mathlib.Core.Logic.{inl}
+use lib.ListN.{replicate}
 use Prim.Native.Nat.{ℕ, _≤_}
 use Rattle.laws.specs.Res.{Res, ok, refuse}
 use Rattle.laws.proofs.Res.{refuse≢ok, refuse-number, refuse-place}
 use Rattle.units.specs.declared.Offset.{Offset}
+use Rattle.rules.specs.Limits.{mostFrames}
 use Rattle.rules.specs.Records.{records, tableFollows}
 use Rattle.rules.specs.Plan as rules
 use Rattle.rules.specs.Plan.{readPlan}
 use Rattle.rules.specs.Frames.{layoutOf}
 use Rattle.rules.specs.Checker.{Passed, judged, tableOf, checkFiles}
 use Rattle.rules.proofs.RecordsExact.{records-refused}
-use Rattle.rules.proofs.SingleRows.{table-single}
 use Rattle.answers.specs.declared.Refusal.{Refusal}
 use Rattle.answers.specs.declared.Refusal.the-variants.{BadTableRecords}
 use Rattle.answers.specs.Refusals.{numberOf, placeOf, said, heard}
+use Rattle.answers.specs.declared.Verdict.{Verdict}
 use Rattle.answers.specs.declared.Verdict.the-variants.{Fine, Refused}
 use Rattle.plan.specs.declared.Plan.{Plan}
 use Rattle.plan.specs.Memory.{seen, layOut}
@@ -26,61 +28,81 @@ use Rattle.planrules.specs.Reading as plans
 use Rattle.planrules.specs.Reading.{Reads}
 use Rattle.line.specs.declared.Laid.{Laid}
 use Rattle.line.specs.declared.Line.{Line}
-use Rattle.line.specs.Line.{lineOf}
+use Rattle.line.specs.Line.{Drawing, drawing, lineIn, lineOf, noLine}
 use Rattle.line.specs.Laying.{Lays, laid, fileLaid}
 use Rattle.line.proofs.Drawn.{Drawn}
 use Rattle.line.proofs.Reading.{sound-laid}
-use Rattle.table.specs.declared.read.Reading.{Reading}
 use Rattle.table.specs.declared.read.Outcome.the-variants.{Whole, Broken}
 use Rattle.table.specs.Memory as tables
-use Rattle.table.specs.Memory.{readingOf}
+use Rattle.table.specs.Memory.{ReadTable, readingOf}
 use Rattle.naming.specs.Places.{Numbered}
-use Rattle.judging.specs.declared.Judgement.{Judgement}
-use Rattle.judging.specs.Judged.{framesOn, lineJudged, Right}
-use Rattle.judging.proofs.Layouts.{line-numbered, line-controls, line-right}
+use Rattle.judging.specs.Judged.{judgement, framesOn, lineJudged, Right}
 use Rattle.checker.specs.declared.Passing.{Passing}
 use Rattle.checker.specs.Passing.{Passes, noPassing, startsOf, tablePassed}
-use Rattle.checker.proofs.Ways.{laid-refused, laid-sound, file-laid, file-drawn, plan-refused, reading-broken, reading-whole}
+use Rattle.checker.proofs.Ways.{right-by, drawn-ready, laid-refused, laid-sound, file-laid, file-drawn, plan-refused, reading-broken, reading-whole}
 
-passes-refused : (why : Refusal) (r : Passing) (rule : Res Passed) → r ≡ noPassing why → rule ≡ said why → Passes r rule
-unfolding noPassing
-passes-refused why r rule e q = rw (e, q) (record { answered = refl; plan = refl; line = refl; starts = refl })
+-- the three arrays of a plan's pairs are zeros
+abbrev NoPairs : List ℕ → List ℕ → List ℕ → Type 0
+NoPairs tasks deadlines starts =
+    (tasks ≡ replicate mostFrames 0) × (deadlines ≡ replicate mostFrames 0) × (starts ≡ replicate mostFrames 0)
+
+passes-refused : (why : Refusal) (r : Passing) {tasks deadlines starts : List ℕ} (rule : Res Passed) → r ≡ noPassing why → NoPairs tasks deadlines starts
+    → rule ≡ said why → Passes r tasks deadlines starts rule
+unfolding noPassing noLine
+passes-refused why r rule e z q =
+    rw (e, q) (record { answered = refl; plan = refl; line = refl; tasks = z .0; deadlines = z .1; starts = z .2 })
 
 -- ---- by a plan with its line
 
-module _ (p : Plan) (line : Line) (ready : (p ≡ layOut (seen p)) × (line ≡ lineOf (seen p)) × Drawn (seen p)) where
-  pub judge-ready : Numbered (line .tasks) (line .deadlines) (line .frames) × (line .controls ≤ 8)
-  judge-ready = rw (ready .1) (line-numbered (seen p) (ready .2), line-controls (seen p) (ready .2))
+module _ (p : Plan) (line : Line) (pairTasks releases pairDeadlines : List ℕ)
+    (ready : (p ≡ layOut (seen p)) × (drawing line pairTasks releases pairDeadlines ≡ lineOf (seen p)) × Drawn (seen p)) where
+  -- the line and its frames
+  abbrev l : Drawing
+  l = drawing line pairTasks releases pairDeadlines
 
-  module _ (table : List ℕ) (r : Passing) (reading : Reading) (is : reading ≡ readingOf (records tableFollows 20 table)) where
+  pub judge-ready : Numbered pairTasks pairDeadlines (line .frames) × (line .controls ≤ 8)
+  judge-ready = drawn-ready (seen p) (ready .2) (ready .1)
+
+  module _ (table : List ℕ) (r : Passing) (tasks deadlines starts : List ℕ) (reading : ReadTable) (is : reading ≡ readingOf (records tableFollows 20 table)) where
+    -- what is promised of the result and the lent arrays
+    abbrev Promised : Type 0
+    Promised = Passes r tasks deadlines starts (tablePassed (seen p) table)
+
     -- 20
-    pub on-broken : (at : Offset) → reading .outcome ≡ Broken at → r ≡ noPassing (BadTableRecords at) → Passes r (tablePassed (seen p) table)
+    pub on-broken : (at : Offset) → reading .outcome ≡ Broken at → r ≡ noPassing (BadTableRecords at) → NoPairs tasks deadlines starts → Promised
     unfolding tablePassed
-    on-broken at q e =
+    on-broken at q e z =
         let b = reading-broken (records tableFollows 20 table) reading at is q in
-        passes-refused (BadTableRecords at) r (tablePassed (seen p) table) e
+        passes-refused (BadTableRecords at) r (tablePassed (seen p) table) e z
         (rw (b .1, records-refused tableFollows 20 table (b .0) (at .0) .0 (b .1) .0))
 
-    module _ (whole : reading .outcome ≡ Whole) (j : Judgement)
-        (right : Right true (line .releases) (line .frames) (lineJudged line (tables.seen (reading .table))) (framesOn line) (tables.seen (reading .table)) j) where
+    module _ (whole : reading .outcome ≡ Whole) {v : Verdict} {given : List ℕ}
+        (right : Right true releases (line .frames) (lineJudged l (tables.seen (reading .table))) (framesOn l) (tables.seen (reading .table)) (judgement v given)) where
       -- 21 to 28
-      pub on-refused : (why : Refusal) → j .verdict ≡ Refused why → r ≡ noPassing why → Passes r (tablePassed (seen p) table)
+      pub on-refused : (why : Refusal) → v ≡ Refused why → r ≡ noPassing why → NoPairs tasks deadlines starts → Promised
       unfolding tablePassed
-      on-refused why q e =
+      on-refused why q e z =
           reading-whole (records tableFollows 20 table) reading is whole λ rs areRows held.
-          let says = line-right (seen p) (ready .2) (tableOf rs) (table-single rs) (rw (ready .1, held) at right) in
+          let says = right-by (seen p) (ready .2) rs (ready .1) held right in
           let refuses : judged (layoutOf (seen p)) (tableOf rs) ≡ said why = sym (says .verdict (inl refl)) ∙ ap heard q in
-          passes-refused why r (tablePassed (seen p) table) e (rw (areRows, refuses))
+          passes-refused why r (tablePassed (seen p) table) e z (rw (areRows, refuses))
 
       -- it passes
-      pub on-passed : j .verdict ≡ Fine → r ≡ record { answer = j .verdict; plan = p; line = line; starts = j .starts }
-          → Passes r (tablePassed (seen p) table)
+      pub on-passed : v ≡ Fine → r ≡ record { answer = v; plan = p; line = line } → tasks ≡ pairTasks → deadlines ≡ pairDeadlines → starts ≡ given → Promised
       unfolding tablePassed startsOf
-      on-passed q e =
+      on-passed q e t d s =
           reading-whole (records tableFollows 20 table) reading is whole λ rs areRows held.
-          let says = line-right (seen p) (ready .2) (tableOf rs) (table-single rs) (rw (ready .1, held) at right) in
+          let says = right-by (seen p) (ready .2) rs (ready .1) held right in
           let passes : judged (layoutOf (seen p)) (tableOf rs) ≡ ok tt = sym (says .verdict (inl refl)) ∙ ap heard q in
-          rw (areRows, passes, e) (record { answered = ap heard q; plan = ready .0; line = ready .1; starts = says .starts passes })
+          rw (areRows, passes, e)
+          (record {
+            answered = ap heard q;
+            plan = ready .0;
+            line = ap lineIn (ready .1);
+            tasks = t ∙ ap (λ (z : Drawing). z .tasks) (ready .1);
+            deadlines = d ∙ ap (λ (z : Drawing). z .deadlines) (ready .1);
+            starts = s ∙ says .starts passes;
+          })
 
 -- ---- by a plan file
 
@@ -90,34 +112,44 @@ read-refused n at (ok p) e = refuse≢ok (sym e)
 read-refused n at (refuse m k) e = rw (refuse-number e, refuse-place e)
 
 module _ (plan table : List ℕ) (reading : planread.Reading) (reads : Reads reading (readPlan plan)) where
-  pub way-unread : (r : Passing) (why : Refusal) → reading .answer ≡ Refused why → r ≡ noPassing why → Passes r (checkFiles plan table)
+  pub way-unread : (r : Passing) {tasks deadlines starts : List ℕ} (why : Refusal) → reading .answer ≡ Refused why → r ≡ noPassing why
+      → NoPairs tasks deadlines starts → Passes r tasks deadlines starts (checkFiles plan table)
   unfolding checkFiles
-  way-unread r why q e =
+  way-unread r why q e z =
       let n : readPlan plan ≡ said why = read-refused (numberOf why) (placeOf why) (readPlan plan) (sym (reads .answered) ∙ ap heard q) in
-      passes-refused why r (checkFiles plan table) e (rw n)
+      passes-refused why r (checkFiles plan table) e z (rw n)
 
-  module _ (sound : reading .answer ≡ Fine) (x : Laid) (lays : Lays x (laid (seen (reading .plan)))) where
-    lays-file : Lays x (fileLaid plan)
+  module _ (sound : reading .answer ≡ Fine) (x : Laid) {tasks releases deadlines : List ℕ} (lays : Lays x tasks releases deadlines (laid (seen (reading .plan)))) where
+    lays-file : Lays x tasks releases deadlines (fileLaid plan)
     lays-file = sound-laid plan reading reads x sound lays
 
-    pub way-unlaid : (r : Passing) (why : Refusal) → x .answer ≡ Refused why → r ≡ noPassing why → Passes r (checkFiles plan table)
-    way-unlaid r why q e =
+    -- what a plan that is not laid out leaves of its frames
+    none-laid : (n at : ℕ) → fileLaid plan ≡ refuse n at → drawing (x .line) tasks releases deadlines ≡ noLine
+    none-laid n at e = rw e at (lays-file .left)
+
+    pub way-unlaid : (r : Passing) {starts : List ℕ} (why : Refusal) → x .answer ≡ Refused why → r ≡ noPassing why → starts ≡ replicate mostFrames 0
+        → Passes r tasks deadlines starts (checkFiles plan table)
+    unfolding noLine
+    way-unlaid r why q e s =
         let n : fileLaid plan ≡ said why = laid-refused (numberOf why) (placeOf why) (fileLaid plan) (sym (lays-file .answered) ∙ ap heard q) in
-        passes-refused why r (checkFiles plan table) e (plan-refused plan table (numberOf why) (placeOf why) n)
+        let none = none-laid (numberOf why) (placeOf why) n in
+        passes-refused why r (checkFiles plan table) e (ap (λ (z : Drawing). z .tasks) none, ap (λ (z : Drawing). z .deadlines) none, s)
+        (plan-refused plan table (numberOf why) (placeOf why) n)
 
     module _ (fine : x .answer ≡ Fine) where
       -- the plan that was read is the one that is laid out
-      read-is : {C : Type 0} → ((q : rules.Plan) → fileLaid plan ≡ ok q → x .line ≡ lineOf q → reading .plan ≡ layOut q → seen (reading .plan) ≡ q → C) → C
+      read-is : {C : Type 0} → ((q : rules.Plan) → fileLaid plan ≡ ok q → drawing (x .line) tasks releases deadlines ≡ lineOf q → reading .plan ≡ layOut q → seen (reading .plan) ≡ q → C) → C
       read-is go =
           laid-sound (fileLaid plan) x lays-file fine λ q isLaid same.
           file-laid plan q isLaid λ isRead _.
           let held : reading .plan ≡ layOut q = rw isRead at (reads .left) in
           go q isLaid same held (rw held (read-seen plan q isRead))
 
-      pub way-ready : (reading .plan ≡ layOut (seen (reading .plan))) × (x .line ≡ lineOf (seen (reading .plan))) × Drawn (seen (reading .plan))
+      pub way-ready : (reading .plan ≡ layOut (seen (reading .plan))) × (drawing (x .line) tasks releases deadlines ≡ lineOf (seen (reading .plan))) × Drawn (seen (reading .plan))
       way-ready = read-is λ q isLaid same held is. rw is (held, same, file-drawn plan q isLaid)
 
-      pub way-on : {r : Passing} → Passes r (tablePassed (seen (reading .plan)) table) → Passes r (checkFiles plan table)
+      pub way-on : {r : Passing} {pairTasks pairDeadlines starts : List ℕ} → Passes r pairTasks pairDeadlines starts (tablePassed (seen (reading .plan)) table)
+          → Passes r pairTasks pairDeadlines starts (checkFiles plan table)
       unfolding checkFiles tablePassed
       way-on {r} h =
           read-is λ q isLaid same held is.

@@ -26,37 +26,36 @@ use Rattle.answers.specs.declared.Refusal.{Refusal}
 use Rattle.answers.specs.declared.Refusal.the-variants.{TooFewRows, BadTableRecords}
 use Rattle.answers.specs.Refusals.{numberOf, placeOf, said, heard}
 use Rattle.line.specs.declared.Laid.{Laid}
-use Rattle.line.specs.declared.Line.{Line}
-use Rattle.line.specs.Line.{lineOf, taskOf, releaseOf, deadlineOf}
+use Rattle.line.specs.Line.{Drawing, drawing, lineOf, taskOf, releaseOf, deadlineOf}
 use Rattle.line.specs.Laying as laying
 use Rattle.line.specs.Laying.{Lays, laid, fileLaid}
-use Rattle.table.specs.declared.read.Reading.{Reading}
 use Rattle.table.specs.declared.read.Outcome.the-variants.{Whole, Broken}
-use Rattle.judging.specs.declared.Judgement.{Judgement}
 use Rattle.naming.specs.Places.{Numbered}
-use Rattle.table.specs.Memory.{layOut, seen, readingOf}
-use Rattle.judging.specs.Judged.{framesOn, lineJudged, startIn, NoneEarly, Right}
+use Rattle.table.specs.Memory.{Table, ReadTable, layOut, seen, readingOf}
+use Rattle.judging.specs.Judged.{Judgement, judgement, framesOn, lineJudged, startIn, NoneEarly, Right}
 use Rattle.line.proofs.Drawn.{Drawn, drawn}
 use Rattle.judging.proofs.Layouts.{line-numbered, line-controls, line-right}
-use Rattle.rows.specs.declared.Rows.{Rows}
-use Rattle.rows.specs.Rows.{rowTask, rowRelease, rowDeadline, rowStart, rowsLaid}
+use Rattle.rows.specs.Frames.{rowsWith, NoRows}
+use Rattle.rows.specs.Rows.{Rows, rowTask, rowRelease, rowDeadline, rowStart, rowsLaid}
 use Rattle.answers.specs.declared.Verdict.{Verdict}
 use Rattle.answers.specs.declared.Verdict.the-variants.{Fine, Refused}
-use Rattle.checked.specs.declared.Checked.{Checked}
-use Rattle.checker.specs.Unscanned.{Judged, refuses, Settles}
+use Rattle.checker.specs.Unscanned.{Judged, checking, refuses, Settles}
+use Rattle.checker.specs.declared.CheckedRows.{CheckedRows}
 use Rattle.checker.specs.declared.Ruling.{Ruling}
-use Rattle.checked.specs.Checking.{Checks, verdict, lentPassed, rowsOn, PassesExactly, RefusesExactly}
+use Rattle.checked.specs.Checking.{Checked, Checks, verdict, lentPassed, PassesExactly, RefusesExactly}
 use Rattle.checked.proofs.Rules.{enough-is, short-is}
 use Rattle.checked.proofs.Exact.{passes-exactly, refuses-exactly}
 
 -- ---- the contracts
 
-abbrev refusedBy : Refusal → Checked
-refusedBy x = record { answer = Refused x; rows = rowsLaid [] }
+abbrev refusedBy : Refusal → CheckedRows
+refusedBy x = record { answer = Refused x; frames = 0 }
 
-judged-refused : (early : Bool) (lent : ℕ) (x : Refusal) (r : Checked) (rule : Res rules.Passed) → r ≡ refusedBy x → rule ≡ said x → Judged early lent r rule
-unfolding rowsLaid
-judged-refused early lent x r rule e q = record { answered = λ _. rw (e, q); left = λ c p. refuse≢ok (sym q ∙ p); few = rw e (lit≤ tt) }
+-- whatever the lent arrays hold
+judged-refused : (early : Bool) (lent : ℕ) (x : Refusal) (r : CheckedRows) (tasks releases deadlines starts : List ℕ) (rule : Res rules.Passed)
+    → r ≡ refusedBy x → rule ≡ said x → Judged early lent (checking r tasks releases deadlines starts) rule
+judged-refused early lent x r tasks releases deadlines starts rule e q =
+    record { answered = λ _. rw (e, q); left = λ c p. refuse≢ok (sym q ∙ p); few = rw e (lit≤ tt) }
 
 -- what `check` says of its result
 abbrev Says : Checked → List ℕ → List ℕ → ℕ → Type 0
@@ -69,9 +68,11 @@ says r plan table lent h =
     (h, (passes-exactly (r .answer) plan table lent (h .answered), refuses-exactly (r .answer) plan table lent (h .answered)))
 
 -- with every rule looked at: no rows where it refuses
-checks-refused : (x : Refusal) (r : Checked) (rule : Res rules.Passed) → r ≡ refusedBy x → said x ≡ verdict rule → Checks r rule
-checks-refused x r (ok c) e q = refuse≢ok q
-checks-refused x r (refuse n p) e q = record { answered = rw e q; left = rw e }
+checks-refused : (x : Refusal) (r : CheckedRows) {tasks releases deadlines starts : List ℕ} (rule : Res rules.Passed) → r ≡ refusedBy x
+    → NoRows tasks releases deadlines starts → said x ≡ verdict rule → Checks (checking r tasks releases deadlines starts) rule
+unfolding rowsLaid
+checks-refused x r (ok c) e z q = refuse≢ok q
+checks-refused x r (refuse n p) e z q = record { answered = rw e q; left = rw (e, z .0, z .1 .0, z .1 .1 .0, z .1 .1 .1) }
 
 checks-fine : (r : Checked) (rule : Res rules.Passed) {lent : ℕ} → Judged true lent r rule → r .answer ≡ Fine → Checks r rule
 checks-fine r (ok c) h e = record { answered = h .answered (inl refl); left = h .left c refl }
@@ -79,8 +80,11 @@ checks-fine r (refuse n p) h e =
     let z : ok tt ≡ refuse n p = sym (ap heard e) ∙ h .answered (inl refl) in refuse≢ok (sym z)
 
 module _ (plan table : List ℕ) (lent : ℕ) (all : Checked) (h : Judged true lent all (lentPassed plan table lent)) where
-  pub way-refused : (why : Refusal) (r : Checked) → all .answer ≡ Refused why → r ≡ refusedBy why → Says r plan table lent
-  way-refused why r q e = says r plan table lent (checks-refused why r (lentPassed plan table lent) e (sym (ap heard q) ∙ h .answered (inl refl)))
+  pub way-refused : (why : Refusal) (r : CheckedRows) {tasks releases deadlines starts : List ℕ} → all .answer ≡ Refused why → r ≡ refusedBy why
+      → NoRows tasks releases deadlines starts → Says (checking r tasks releases deadlines starts) plan table lent
+  way-refused why r {tasks} {releases} {deadlines} {starts} q e z =
+      says (checking r tasks releases deadlines starts) plan table lent
+      (checks-refused why r (lentPassed plan table lent) e z (sym (ap heard q) ∙ h .answered (inl refl)))
 
   pub way-fine : all .answer ≡ Fine → Says all plan table lent
   way-fine q = says all plan table lent (checks-fine all (lentPassed plan table lent) h q)
@@ -91,10 +95,15 @@ pub laid-refused : (n at : ℕ) (rule : Res Plan) → laying.verdict rule ≡ re
 laid-refused n at (ok p) e = refuse≢ok (sym e)
 laid-refused n at (refuse m q) e = rw (refuse-number e, refuse-place e)
 
-pub laid-sound : {C : Type 0} (rule : Res Plan) (x : Laid) → Lays x rule → x .answer ≡ Fine → ((p : Plan) → rule ≡ ok p → x .line ≡ lineOf p → C) → C
+pub laid-sound : {C : Type 0} (rule : Res Plan) (x : Laid) {tasks releases deadlines : List ℕ} → Lays x tasks releases deadlines rule → x .answer ≡ Fine
+    → ((p : Plan) → rule ≡ ok p → drawing (x .line) tasks releases deadlines ≡ lineOf p → C) → C
 laid-sound (ok p) x h e go = go p refl (h .left)
 laid-sound (refuse n at) x h e go =
     let z : ok tt ≡ refuse n at = sym (ap heard e) ∙ h .answered in refuse≢ok (sym z)
+
+-- what `judge` requires of a line and its frames
+pub drawn-ready : (p : Plan) → Drawn p → {l : Drawing} → l ≡ lineOf p → Numbered (l .tasks) (l .deadlines) (l .frames) × (l .controls ≤ 8)
+drawn-ready p d same = rw same (line-numbered p d, line-controls p d)
 
 -- a file that passes 1 to 11
 pub file-laid : {C : Type 0} (file : List ℕ) (p : Plan) → fileLaid file ≡ ok p → (readPlan file ≡ ok p → layout p ≡ ok (layoutOf p) → C) → C
@@ -108,12 +117,9 @@ file-laid {C} file p e go =
 pub file-drawn : (file : List ℕ) (p : Plan) → fileLaid file ≡ ok p → Drawn p
 file-drawn file p e = file-laid file p e λ isRead isLaid. drawn file p (layoutOf p) isRead isLaid
 
-module _ (plan : List ℕ) (x : Laid) (h : Lays x (fileLaid plan)) (e : x .answer ≡ Fine) where
-  pub judge-ready : Numbered (x .line .tasks) (x .line .deadlines) (x .line .frames) × (x .line .controls ≤ 8)
-  judge-ready =
-      laid-sound (fileLaid plan) x h e λ p q same.
-      let d = file-drawn plan p q in
-      rw same (line-numbered p d, line-controls p d)
+pub judge-ready : (plan : List ℕ) (x : Laid) {tasks releases deadlines : List ℕ} → Lays x tasks releases deadlines (fileLaid plan) → x .answer ≡ Fine
+    → Numbered tasks deadlines (x .line .frames) × (x .line .controls ≤ 8)
+judge-ready plan x h e = laid-sound (fileLaid plan) x h e λ p q same. drawn-ready p (file-drawn plan p q) same
 
 -- a plan that 1 to 11 refuse
 pub plan-refused : (plan table : List ℕ) (n at : ℕ) → fileLaid plan ≡ refuse n at → checkFiles plan table ≡ refuse n at
@@ -124,19 +130,19 @@ plan-refused plan table n at e =
 
 -- ---- a table that was read
 
-pub reading-broken : (m : Res (List Rec)) (r : Reading) (at : Offset) → r ≡ readingOf m → r .outcome ≡ Broken at → (n : ℕ) × (m ≡ refuse n (at .0))
+pub reading-broken : (m : Res (List Rec)) (r : ReadTable) (at : Offset) → r ≡ readingOf m → r .outcome ≡ Broken at → (n : ℕ) × (m ≡ refuse n (at .0))
 reading-broken (ok rs) r at e q =
-    let z : Whole ≡ Broken at = sym (ap (λ (x : Reading). x .outcome) e) ∙ q in
+    let z : Whole ≡ Broken at = sym (ap (λ (x : ReadTable). x .outcome) e) ∙ q in
     let y : _≡_ {A = ℕ} 0 1 = cc in absurd (omega arith)
 reading-broken (refuse n p) r at e q =
-    let z : Broken (record { 0 = p }) ≡ Broken at = sym (ap (λ (x : Reading). x .outcome) e) ∙ q in
+    let z : Broken (record { 0 = p }) ≡ Broken at = sym (ap (λ (x : ReadTable). x .outcome) e) ∙ q in
     let same : record { 0 = p } ≡ at = cc in (n, ap (λ (x : Offset). refuse n (x .0)) same)
 
-pub reading-whole : {C : Type 0} (m : Res (List Rec)) (r : Reading) → r ≡ readingOf m → r .outcome ≡ Whole
+pub reading-whole : {C : Type 0} (m : Res (List Rec)) (r : ReadTable) → r ≡ readingOf m → r .outcome ≡ Whole
     → ((rs : List Rec) → m ≡ ok rs → r .table ≡ layOut (tableOf rs) → C) → C
-reading-whole (ok rs) r e q go = go rs refl (ap (λ (x : Reading). x .table) e)
+reading-whole (ok rs) r e q go = go rs refl (ap (λ (x : ReadTable). x .table) e)
 reading-whole (refuse n p) r e q go =
-    let z : Broken (record { 0 = p }) ≡ Whole = sym (ap (λ (x : Reading). x .outcome) e) ∙ q in
+    let z : Broken (record { 0 = p }) ≡ Whole = sym (ap (λ (x : ReadTable). x .outcome) e) ∙ q in
     let y : _≡_ {A = ℕ} 0 1 = cc in absurd (omega arith)
 
 -- ---- the rows of a table that passes
@@ -145,9 +151,13 @@ map-twice : {A B : Type 0} (f : A → B) (g : B → ℕ) (h : A → ℕ) (l : Li
 map-twice f g h [] e = refl
 map-twice f g h (a ∷ l) e = rw (e a, map-twice f g h l e)
 
+-- the frames of a line in arrays, with a start for each
+abbrev rowsOn : Drawing → List ℕ → Rows
+rowsOn l starts = rowsWith (l .frames) (l .tasks) (l .releases) (l .deadlines) starts
+
 rows-laid : (p : Plan) (t : TableRead)
     → rowsOn (lineOf p) (padTo mostFrames 0 (map (startIn (t .rows)) (layoutOf p .pairs))) ≡ rowsLaid (map (checkedRow t) (layoutOf p .pairs))
-unfolding rowsOn lineOf rowsLaid checkedRow startIn
+unfolding lineOf rowsLaid checkedRow startIn
 rows-laid p t =
     let pairs = layoutOf p .pairs in
     sym (rw (
@@ -171,7 +181,6 @@ module _ (p : Plan) (d : Drawn p) (t : TableRead) (early : Bool) (j : Judgement)
 
   judged-by : (lent : ℕ) (r : Checked) (rule : Res rules.Passed) → mostFrames ≤ lent → rule ≡ _>>_ (judged (layoutOf p) t) (ok (passedOf p t))
       → r ≡ record { answer = j .verdict; rows = rowsOn (lineOf p) (j .starts) } → Judged early lent r rule
-  unfolding rowsOn
   judged-by lent r rule enough q e =
       record {
         answered = λ h. rw (e, q) (right .verdict (looked (rw e at h)) ∙ passing (judged (layoutOf p) t));
@@ -184,33 +193,45 @@ module _ (p : Plan) (d : Drawn p) (t : TableRead) (early : Bool) (j : Judgement)
       looked (inl h) = inl h
       looked (inr h) = inr (h enough)
 
+-- what is judged right by a line and a table in memory is judged right by the plan and the rows that they stand for
+pub right-by : (p : Plan) → Drawn p → (rs : List Rec) {l : Drawing} {t : Table} → l ≡ lineOf p → t ≡ layOut (tableOf rs) → {early : Bool} {j : Judgement}
+    → Right early (l .releases) (l .frames) (lineJudged l (seen t)) (framesOn l) (seen t) j
+    → Right early (lineOf p .releases) (lineOf p .frames) (judged (layoutOf p) (tableOf rs)) (layoutOf p .pairs) (tableOf rs) j
+right-by p d rs same held right = line-right p d (tableOf rs) (table-single rs) (rw (same, held) at right)
+
 -- ---- the ways out
 
-module _ (plan table : List ℕ) (lent : ℕ) (early : Bool) (r : Checked) where
-  -- 19
-  pub way-few : lent < mostFrames → r ≡ refusedBy TooFewRows → Judged early lent r (lentPassed plan table lent)
-  way-few h e = judged-refused early lent TooFewRows r (lentPassed plan table lent) e (short-is plan table lent h)
+module _ (plan table : List ℕ) (lent : ℕ) (early : Bool) (r : CheckedRows) (tasks releases deadlines starts : List ℕ) where
+  -- what is promised of the result and the lent arrays
+  abbrev Promised : Type 0
+  Promised = Judged early lent (checking r tasks releases deadlines starts) (lentPassed plan table lent)
 
-  module _ (enough : mostFrames ≤ lent) (x : Laid) (h : Lays x (fileLaid plan)) where
+  refused-as : (why : Refusal) → r ≡ refusedBy why → lentPassed plan table lent ≡ said why → Promised
+  refused-as why = judged-refused early lent why r tasks releases deadlines starts (lentPassed plan table lent)
+
+  -- 19
+  pub way-few : lent < mostFrames → r ≡ refusedBy TooFewRows → Promised
+  way-few h e = refused-as TooFewRows e (short-is plan table lent h)
+
+  module _ (enough : mostFrames ≤ lent) (x : Laid) (h : Lays x tasks releases deadlines (fileLaid plan)) where
     -- 1 to 11
-    pub way-plan : (why : Refusal) → x .answer ≡ Refused why → r ≡ refusedBy why → Judged early lent r (lentPassed plan table lent)
+    pub way-plan : (why : Refusal) → x .answer ≡ Refused why → r ≡ refusedBy why → Promised
     way-plan why q e =
         let n : fileLaid plan ≡ said why = laid-refused (numberOf why) (placeOf why) (fileLaid plan) (sym (h .answered) ∙ ap heard q) in
-        judged-refused early lent why r (lentPassed plan table lent) e (enough-is plan table lent enough ∙ plan-refused plan table (numberOf why) (placeOf why) n)
+        refused-as why e (enough-is plan table lent enough ∙ plan-refused plan table (numberOf why) (placeOf why) n)
 
-    module _ (sound : x .answer ≡ Fine) (reading : Reading) (is : reading ≡ readingOf (records tableFollows 20 table)) where
+    module _ (sound : x .answer ≡ Fine) (reading : ReadTable) (is : reading ≡ readingOf (records tableFollows 20 table)) where
       -- 20
       broken-refused : (p : Plan) → fileLaid plan ≡ ok p → (n at : ℕ) → records tableFollows 20 table ≡ refuse n at → checkFiles plan table ≡ refuse 20 at
       unfolding checkFiles
       broken-refused p laid n at e =
           file-laid plan p laid λ isRead isLaid. rw (isRead, isLaid, e, records-refused tableFollows 20 table n at .0 e .0)
 
-      pub way-records : (at : Offset) → reading .outcome ≡ Broken at → r ≡ refusedBy (BadTableRecords at) → Judged early lent r (lentPassed plan table lent)
+      pub way-records : (at : Offset) → reading .outcome ≡ Broken at → r ≡ refusedBy (BadTableRecords at) → Promised
       way-records at q e =
           laid-sound (fileLaid plan) x h sound λ p laid same.
           let b = reading-broken (records tableFollows 20 table) reading at is q in
-          judged-refused early lent (BadTableRecords at) r (lentPassed plan table lent) e
-          (enough-is plan table lent enough ∙ broken-refused p laid (b .0) (at .0) (b .1))
+          refused-as (BadTableRecords at) e (enough-is plan table lent enough ∙ broken-refused p laid (b .0) (at .0) (b .1))
 
       -- 21 to 28
       judged-is : (p : Plan) (rs : List Rec) → fileLaid plan ≡ ok p → records tableFollows 20 table ≡ ok rs
@@ -218,15 +239,20 @@ module _ (plan table : List ℕ) (lent : ℕ) (early : Bool) (r : Checked) where
       unfolding checkFiles
       judged-is p rs laid areRows = enough-is plan table lent enough ∙ file-laid plan p laid λ isRead isLaid. rw (isRead, isLaid, areRows)
 
-      pub way-judged : reading .outcome ≡ Whole → (j : Judgement)
-          → Right early (x .line .releases) (x .line .frames) (lineJudged (x .line) (seen (reading .table))) (framesOn (x .line)) (seen (reading .table)) j
-          → (rows : Rows) → rows ≡ rowsOn (x .line) (j .starts) → r ≡ record { answer = j .verdict; rows = rows } → Judged early lent r (lentPassed plan table lent)
-      way-judged whole j right rows e same-r =
+      -- the line and its frames
+      abbrev l : Drawing
+      l = drawing (x .line) tasks releases deadlines
+
+      pub way-judged : reading .outcome ≡ Whole → {v : Verdict}
+          → Right early releases (l .frames) (lineJudged l (seen (reading .table))) (framesOn l) (seen (reading .table)) (judgement v starts)
+          → r ≡ record { answer = v; frames = x .line .frames } → Promised
+      way-judged whole {v} right e =
           laid-sound (fileLaid plan) x h sound λ p laid same.
           reading-whole (records tableFollows 20 table) reading is whole λ rs areRows held.
           let d = file-drawn plan p laid in
-          let seenRight : Right early (lineOf p .releases) (lineOf p .frames) (judged (layoutOf p) (tableOf rs)) (layoutOf p .pairs) (tableOf rs) j = line-right p d (tableOf rs) (table-single rs) (rw (same, held) at right) in
-          judged-by p d (tableOf rs) early j seenRight lent r (lentPassed plan table lent) enough (judged-is p rs laid areRows) (same-r ∙ ap (λ (z : Rows). record { answer = j .verdict; rows = z }) (e ∙ ap (λ (z : Line). rowsOn z (j .starts)) same))
+          judged-by p d (tableOf rs) early (judgement v starts) (right-by p d rs same held right) lent (checking r tasks releases deadlines starts)
+          (lentPassed plan table lent) enough (judged-is p rs laid areRows)
+          (ap (λ (z : CheckedRows). checking z tasks releases deadlines starts) e ∙ ap {B = Checked} (λ (z : Drawing). record { answer = v; rows = rowsOn z starts }) same)
 
 -- ---- after the scan
 

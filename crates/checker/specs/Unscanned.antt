@@ -1,6 +1,7 @@
 -- A check that leaves rule 25 to a scan of the lent rows.
 use mathlib.Core.Path.{_≡_}
 use mathlib.Core.Bool.{Bool, true, false}
+use mathlib.Core.List.{List}
 use mathlib.Core.Logic.{_⊎_}
 use lib.ListN.{getD}
 use Prim.Native.Nat.{ℕ, _≤_, _<_}
@@ -10,11 +11,15 @@ use Rattle.rules.specs.Checker.{Passed}
 use Rattle.answers.specs.declared.Verdict.{Verdict}
 use Rattle.answers.specs.declared.Verdict.the-variants.{Fine, Refused}
 use Rattle.answers.specs.Refusals.{heard}
-use Rattle.rows.specs.declared.Rows.{Rows}
-use Rattle.rows.specs.Rows.{rowsLaid}
-use Rattle.checked.specs.declared.Checked.{Checked}
-use Rattle.checked.specs.Checking.{verdict, rowsOf}
+use Rattle.rows.specs.Rows.{Rows, rowsLaid}
+use Rattle.rows.specs.Frames.{rowsWith}
+use Rattle.checked.specs.Checking.{Checked, verdict, rowsOf}
+use Rattle.checker.specs.declared.CheckedRows.{CheckedRows}
 use Rattle.checker.specs.declared.Ruling.{Ruling}
+
+-- what a check comes to, with the frame rows in the lent arrays
+abbrev pub checking : CheckedRows → List ℕ → List ℕ → List ℕ → List ℕ → Checked
+checking r tasks releases deadlines starts = record { answer = r .answer; rows = rowsWith (r .frames) tasks releases deadlines starts }
 
 -- no frame row starts before its release
 abbrev pub NoRowEarly : Rows → Type 0

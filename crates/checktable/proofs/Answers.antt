@@ -15,8 +15,7 @@ use Rattle.rules.specs.Checker.{checkFiles}
 use Rattle.answers.specs.declared.Refusal.{Refusal}
 use Rattle.answers.specs.Refusals.{numberOf, placeOf}
 use Rattle.answers.specs.declared.Verdict.the-variants.{Fine, Refused}
-use Rattle.checked.specs.declared.Checked.{Checked}
-use Rattle.checked.specs.Checking.{Checks, verdict, lentPassed}
+use Rattle.checked.specs.Checking.{Checked, Checks, verdict, lentPassed}
 use Rattle.answers.specs.Refusals.{heard}
 use Rattle.checked.proofs.Rules.{enough-is}
 use Rattle.text.specs.Text.{passedLine, refusedLine, tooLongLine}

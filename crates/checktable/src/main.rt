@@ -24,7 +24,19 @@ fn respond(plan: &[u8], table: &[u8], out: &mut [u8]) -> usize
     if table.len() > 65536 {
         return text::put_too_long(&mut *out);
     }
-    let checked = checker::check(plan, table, Frame::MOST);
+    let mut tasks: [u8; Frame::MOST] = [0; Frame::MOST];
+    let mut releases: [u32; Frame::MOST] = [0; Frame::MOST];
+    let mut deadlines: [u32; Frame::MOST] = [0; Frame::MOST];
+    let mut starts: [u32; Frame::MOST] = [0; Frame::MOST];
+    let checked = checker::check(
+        plan,
+        table,
+        Frame::MOST,
+        &mut tasks,
+        &mut releases,
+        &mut deadlines,
+        &mut starts,
+    );
     let answer = checked.answer;
     match answer {
         Verdict::Fine => text::put_passed(&mut *out),

@@ -1,4 +1,4 @@
--- What the walk leaves in arrays of zeros is the struct; and the struct stands for the frames that were laid.
+-- What the walk leaves in arrays of zeros are the frames laid; and what was laid stands for the frames.
 use mathlib.Core.Path.{_≡_, refl, sym, ap, _∙_}
 use mathlib.Core.List.{List, [], _∷_, _++_, map}
 use mathlib.Core.Logic.{_⊎_, inl, inr}
@@ -17,9 +17,8 @@ use Rattle.rules.specs.Frames.{Pair, pairsOf}
 use Rattle.rules.specs.Direct.{Walk}
 use Rattle.rules.proofs.PairsOf.{before-case, pairs-of}
 use Rattle.rules.proofs.Grid.{pair}
-use Rattle.frames.specs.declared.laid.Frames.{Frames}
 use Rattle.frames.specs.Walk.{taskOf, releaseOf, deadlineOf, Derived}
-use Rattle.frames.specs.Laid.{column, framesLaid, frameIn, framesSeen}
+use Rattle.frames.specs.Laid.{column, framesWith, framesLaid, frameIn, framesSeen}
 
 -- ---- laid into zeros
 
@@ -44,16 +43,18 @@ column-is : (number : Pair → ℕ) (fs : List Pair) → sets (replicate mostFra
 unfolding column
 column-is number fs = ap (sets (replicate mostFrames 0) 0) (map-take number mostFrames fs) ∙ laid-in-zeros mostFrames (map number fs)
 
--- what a walk found of some frames, which has room for one more than there are places, is laid as all of them are
-pub laid-is : {tasks releases deadlines : List ℕ} {n k : ℕ} {w : Walk} (fs : List Pair) → Derived (replicate mostFrames 0) (replicate mostFrames 0) (replicate mostFrames 0) w tasks releases deadlines n k
-    → w .found ≡ take (suc mostFrames) fs → _≡_ {A = Frames} (record { count = n; tasks = tasks; releases = releases; deadlines = deadlines }) (framesLaid fs)
+-- what a walk found of some frames, which has room for one more than there are places, is laid into zeros as all of them are
+pub laid-is : {task₀ release₀ deadline₀ tasks releases deadlines : List ℕ} {n k : ℕ} {w : Walk} (fs : List Pair)
+    → task₀ ≡ replicate mostFrames 0 → release₀ ≡ replicate mostFrames 0 → deadline₀ ≡ replicate mostFrames 0
+    → Derived task₀ release₀ deadline₀ w tasks releases deadlines n k → w .found ≡ take (suc mostFrames) fs
+    → framesWith n tasks releases deadlines ≡ framesLaid fs
 unfolding framesLaid
-laid-is {w = w} fs d e =
+laid-is {w = w} fs z₁ z₂ z₃ d e =
     let a : take mostFrames (w .found) ≡ take mostFrames fs = rw e (take-take mostFrames (suc mostFrames) fs (omega arith)) in
     let c : length (w .found) ≡ min (suc mostFrames) (length fs) = rw e (length-take (suc mostFrames) fs) in
-    rw (d .count ∙ c, (rw a at (d .tasks)) ∙ column-is taskOf fs, (rw a at (d .releases)) ∙ column-is releaseOf fs, (rw a at (d .deadlines)) ∙ column-is deadlineOf fs)
+    rw (d .count ∙ c, (rw (z₁, a) at (d .tasks)) ∙ column-is taskOf fs, (rw (z₂, a) at (d .releases)) ∙ column-is releaseOf fs, (rw (z₃, a) at (d .deadlines)) ∙ column-is deadlineOf fs)
 
--- ---- the struct stands for what was laid
+-- ---- what was laid stands for the frames
 
 column-at : (number : Pair → ℕ) (fs : List Pair) (k : ℕ) → number (pair 0 0 0) ≡ 0 → length fs ≤ mostFrames → k < length fs → getD (column number fs) k 0 ≡ number (getD fs k (pair 0 0 0))
 unfolding column

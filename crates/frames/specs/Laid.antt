@@ -6,8 +6,18 @@ use Rattle.laws.specs.Lists.{tab}
 use Rattle.laws.specs.Loops.{padTo}
 use Rattle.rules.specs.Limits.{mostFrames}
 use Rattle.rules.specs.Frames.{Pair}
-use Rattle.frames.specs.declared.laid.Frames.{Frames}
 use Rattle.frames.specs.Walk.{taskOf, releaseOf, deadlineOf}
+
+-- the count, and an array for each number of a frame
+pub record Frames : Type 0 where
+  pub count : ℕ
+  pub tasks : List ℕ
+  pub releases : List ℕ
+  pub deadlines : List ℕ
+
+-- a count and three arrays as one
+abbrev pub framesWith : ℕ → List ℕ → List ℕ → List ℕ → Frames
+framesWith n tasks releases deadlines = record { count = n; tasks = tasks; releases = releases; deadlines = deadlines }
 
 unfoldable pub column : (Pair → ℕ) → List Pair → List ℕ
 column number fs = padTo mostFrames 0 (map number fs)
@@ -21,7 +31,7 @@ framesLaid fs =
       deadlines = column deadlineOf fs;
     }
 
--- the frames that a struct stands for
+-- the frames that the arrays stand for
 unfoldable pub frameIn : Frames → ℕ → Pair
 frameIn f k = record { task = getD (f .tasks) k 0; release = getD (f .releases) k 0; deadline = getD (f .deadlines) k 0 }
 

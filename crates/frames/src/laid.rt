@@ -1,53 +1,45 @@
-// The frames by number in memory.
+// The frames by number in memory, in arrays that are lent.
 ghost use mathlib.Core.Path.{_≡_};
 ghost use mathlib.Core.Bool.{true};
+ghost use lib.ListN.{replicate};
 ghost use Prim.Native.Nat.{_≤_};
 ghost use Rattle.laws.specs.Lists.{all};
-ghost use Rattle.rules.specs.Limits.{longestTime, mostInvocations};
+ghost use Rattle.rules.specs.Limits.{longestTime, mostFrames, mostInvocations};
 ghost use Rattle.rules.specs.Traffic.{messages};
 ghost use Rattle.rules.specs.Frames.{pairsOf};
 ghost use Rattle.bus.specs.Runs.{runsSeen};
 ghost use Rattle.frames.specs.Walk.{isFair};
-ghost use Rattle.frames.specs.Laid.{framesLaid};
+ghost use Rattle.frames.specs.Laid.{framesWith, framesLaid};
 use crate::derive;
 use bus::runs::Runs;
 use units::Frame;
 use units::Ticks;
 
-// An array for each number of a frame, zeros behind. The count is one more than there are places where there are too many frames.
-pub struct Frames {
-    pub count: usize,
-    pub tasks: [u8; Frame::MOST],
-    pub releases: [u32; Frame::MOST],
-    pub deadlines: [u32; Frame::MOST],
-}
-
-impl Frames {
-    pub fn of(runs: Runs, period: Ticks) -> Frames
-        requires { ⌜ runs .count ≤ mostInvocations ⌝ }
-        requires { ⌜ period .0 ≤ longestTime ⌝ }
-        requires { ⌜ all (isFair (period .0)) (runsSeen runs) ≡ true ⌝ }
-        ensures { λ r. ⌜ r ≡ framesLaid (pairsOf (messages (period .0) (runsSeen runs))) ⌝ }
-    {
-        let n = runs.count;
-        let mut tasks = [0; Frame::MOST];
-        let mut releases = [0; Frame::MOST];
-        let mut deadlines = [0; Frame::MOST];
-        let walked = derive(
-            &runs.tasks,
-            &runs.periods,
-            &runs.worsts,
-            n,
-            period,
-            &mut tasks,
-            &mut releases,
-            &mut deadlines,
-        );
-        Frames {
-            count: walked.count,
-            tasks: tasks,
-            releases: releases,
-            deadlines: deadlines,
-        }
-    }
+// Fills an array of zeros for each number of a frame; zeros stay behind. The count is one more than there are places where there are too
+// many frames.
+pub fn lay(
+    runs: Runs,
+    period: Ticks,
+    tasks: &mut [u8; Frame::MOST],
+    releases: &mut [u32; Frame::MOST],
+    deadlines: &mut [u32; Frame::MOST],
+) -> usize
+    requires { ⌜ runs .count ≤ mostInvocations ⌝ }
+    requires { ⌜ period .0 ≤ longestTime ⌝ }
+    requires { ⌜ all (isFair (period .0)) (runsSeen runs) ≡ true ⌝ }
+    requires { ⌜ (now tasks ≡ replicate mostFrames 0) × (now releases ≡ replicate mostFrames 0) × (now deadlines ≡ replicate mostFrames 0) ⌝ }
+    ensures { λ r. ⌜ framesWith r (now (tasks .exit)) (now (releases .exit)) (now (deadlines .exit)) ≡ framesLaid (pairsOf (messages (period .0) (runsSeen runs))) ⌝ }
+{
+    let n = runs.count;
+    let walked = derive(
+        &runs.tasks,
+        &runs.periods,
+        &runs.worsts,
+        n,
+        period,
+        tasks,
+        releases,
+        deadlines,
+    );
+    walked.count
 }

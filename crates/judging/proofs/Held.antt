@@ -16,10 +16,9 @@ use Rattle.laws.proofs.Lists.{length-tab}
 use Rattle.laws.proofs.Loops.{stores-at, firstBad-upTo-passes}
 use Rattle.rules.specs.Frames.{ControlRow, noControlRow}
 use Rattle.rules.specs.Checker.{Row, nameOf, rowOf, rowAt, stopBefore, firstRow, lastRow, rowsKeep}
-use Rattle.table.specs.declared.Table.{Table}
 use Rattle.judging.specs.declared.Bounds.{Bounds}
 use Rattle.naming.specs.Places.{Numbered, lookIn, beforeIn, numberOf, numberAt, isNew}
-use Rattle.table.specs.Memory.{rowSeen, seen}
+use Rattle.table.specs.Memory.{Table, rowSeen, seen}
 use Rattle.table.specs.Rows.{controlIn, dataIn}
 use Rattle.datarows.specs.Rows.{timeKept, releaseKept, dueKept, gapKept, lastKept}
 use Rattle.judging.specs.Judged.{timesInOrder, inOrder, namesNew, timeFits, releaseFits, dueFits, gapFits, endFits, timesJudged, rowsJudged, frameIn, framesIn, timeIn}

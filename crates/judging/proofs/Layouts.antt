@@ -21,13 +21,12 @@ use Rattle.rules.specs.Checker.{Row, nameOf, rowOf, TableRead, noRow, headerRig
 use Rattle.rules.proofs.PairsOf.{Before, before-case}
 use Rattle.rules.proofs.SingleRows.{OpensAlone, Single, opensSame, singleNew, singleTime, singleRelease, singleDeadline, singleJudged, judged-single}
 use Rattle.judging.specs.declared.Bounds.{Bounds}
-use Rattle.judging.specs.declared.Judgement.{Judgement}
 use Rattle.naming.specs.Places.{lookIn, keyAt, Numbered}
 use Rattle.table.specs.Memory.{controlNodeOf, controlStartOf, controlStopOf, taskOf, deadlineOf, startOf, stopOf, layOut, rowSeen, seen}
 use Rattle.table.specs.Rows.{controlIn, dataIn}
 use Rattle.line.specs.Line.{lineOf}
 use Rattle.line.proofs.Drawn.{Drawn, frameOf, controlOf, frame-drawn, frames-drawn, controls-drawn, time-drawn}
-use Rattle.judging.specs.Judged.{headerFits, controlFits, samePair, namesNew, timeFits, releaseFits, dueFits, gapFits, endFits, timesJudged, rowsJudged, judgedFor, frameIn, framesIn, timeIn, controlsOn, framesOn, boundsOn, lineJudged, Right}
+use Rattle.judging.specs.Judged.{Judgement, headerFits, controlFits, samePair, namesNew, timeFits, releaseFits, dueFits, gapFits, endFits, timesJudged, rowsJudged, judgedFor, frameIn, framesIn, timeIn, controlsOn, framesOn, boundsOn, lineJudged, Right}
 
 -- ---- the parts of a layout
 

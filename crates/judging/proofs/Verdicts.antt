@@ -19,17 +19,15 @@ use Rattle.laws.proofs.Lists.{length-tab, getD-tab, both-left, both-right, true
 use Rattle.laws.proofs.Loops.{firstBad-upTo-none, firstBad-upTo-passes, firstBad-upTo-within}
 use Rattle.rules.specs.Frames.{Pair, ControlRow, noControlRow}
 use Rattle.rules.specs.Checker.{nameOf, rowOf, TableRead, controlAt}
-use Rattle.table.specs.declared.Table.{Table}
 use Rattle.places.specs.declared.Found.{Found}
 use Rattle.places.specs.declared.Found.the-variants.{At, Nothing}
 use Rattle.judging.specs.declared.Bounds.{Bounds}
-use Rattle.judging.specs.declared.Judgement.{Judgement}
 use Rattle.naming.specs.Places.{lookIn, beforeIn, Numbered, numberAt, isNew, spread}
 use Rattle.places.specs.Found.{foundOf}
-use Rattle.table.specs.Memory.{rowSeen, seen}
+use Rattle.table.specs.Memory.{Table, rowSeen, seen}
 use Rattle.table.specs.Rows.{controlIn, dataIn}
 use Rattle.datarows.specs.Rows.{timeKept, releaseKept, dueKept, gapKept, lastKept}
-use Rattle.judging.specs.Judged.{headerFits, controlFits, rowsJudged, judgedFor, headerSame, controlsSame, frameIn, framesIn, timeIn, NoneEarly, Right, inOrder, onlyWhere, Among}
+use Rattle.judging.specs.Judged.{Judgement, headerFits, controlFits, rowsJudged, judgedFor, headerSame, controlsSame, frameIn, framesIn, timeIn, NoneEarly, Right, inOrder, onlyWhere, Among}
 use Rattle.answers.specs.Refusals.{heard}
 use Rattle.places.specs.Found.{placeIn}
 use Rattle.laws.proofs.Turns.{same-bad}

@@ -30,10 +30,10 @@ use Rattle.rules.specs.Checker.{
   rowHolding,
 }
 use Rattle.answers.specs.Refusals.{heard}
+use Rattle.answers.specs.declared.Verdict.{Verdict}
 use Rattle.table.specs.declared.Header.{Header}
 use Rattle.judging.specs.declared.Bounds.{Bounds}
-use Rattle.judging.specs.declared.Judgement.{Judgement}
-use Rattle.line.specs.declared.Line.{Line}
+use Rattle.line.specs.Line.{Drawing}
 use Rattle.places.specs.declared.Found.{Found}
 use Rattle.places.specs.declared.Found.the-variants.{At, Nothing}
 use Rattle.naming.specs.Places.{lookIn}
@@ -123,16 +123,16 @@ unfoldable pub timeIn : List ℕ → ℕ → ℕ
 timeIn times task = lookIn mostTasks times task
 
 -- the parts of a line: its control rows, its frames, the numbers of its bus; and a table judged by them
-unfoldable pub controlsOn : Line → List ControlRow
+unfoldable pub controlsOn : Drawing → List ControlRow
 controlsOn l = tab (controlIn (l .«control_nodes») (l .«control_starts») (l .«control_stops»)) 0 (l .controls)
 
-unfoldable pub framesOn : Line → List Pair
+unfoldable pub framesOn : Drawing → List Pair
 framesOn l = framesIn (l .tasks) (l .releases) (l .deadlines) (l .frames)
 
-unfoldable pub boundsOn : Line → Bounds
+unfoldable pub boundsOn : Drawing → Bounds
 boundsOn l = record { period = l .period; resolution = l .resolution; gap = l .gap }
 
-unfoldable pub lineJudged : Line → TableRead → Res (Unit {0})
+unfoldable pub lineJudged : Drawing → TableRead → Res (Unit {0})
 lineJudged l t = judgedFor (controlsOn l) (framesOn l) (timeIn (l .times)) (boundsOn l) t
 
 -- what a scan found lies among the first n places
@@ -166,6 +166,15 @@ NoneEarly releases starts frames = (k : ℕ) → k < frames → getD releases k 
 -- the start that the table gives to a frame
 unfoldable pub startIn : List Row → Pair → ℕ
 startIn rows f = rowHolding rows f .start
+
+-- The verdict, and the start that the table gives to each frame, by number.
+pub record Judgement : Type 0 where
+  pub verdict : Verdict
+  pub starts : List ℕ
+
+-- a verdict with the starts that are left beside it
+abbrev pub judgement : Verdict → List ℕ → Judgement
+judgement verdict starts = record { verdict = verdict; starts = starts }
 
 -- A judgement is what the rules say, where rule 25 was looked at or no frame is early; and where the rules pass the table, its starts are those that the table gives to the frames.
 pub record Right (early-too : Bool) (releases : List ℕ) (count : ℕ) (says : Res (Unit {0})) (frames : List Pair) (t : TableRead) (j : Judgement) : Type 0 where

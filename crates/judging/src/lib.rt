@@ -2,16 +2,18 @@
 ghost use mathlib.Core.Path.{_≡_};
 ghost use mathlib.Core.Bool.{_&&_};
 ghost use lib.Dec.{eqb};
+ghost use lib.ListN.{replicate};
 ghost use Prim.Native.Nat.{_+_, _≤_, _<_};
 ghost use Rattle.laws.specs.Lists.{firstBad, upTo};
 ghost use Rattle.laws.specs.Res.{unless};
 ghost use Rattle.rules.specs.Limits.{mostNodes, mostFrames};
 ghost use Rattle.naming.specs.Places.{Numbered, beforeIn};
 ghost use Rattle.places.specs.Found.{foundOf};
-ghost use Rattle.table.specs.Memory.{seen};
+ghost use Rattle.line.specs.Line.{drawing};
+ghost use Rattle.table.specs.Memory.{tableWith, seen};
 ghost use Rattle.table.specs.Rows.{controlIn};
-ghost use Rattle.judging.specs.Judged.{headerSame, controlsSame, rowsJudged, framesIn, framesOn, timeIn, lineJudged, Right, inOrder, onlyWhere, Among};
-ghost use Rattle.answers.specs.Refusals.{said, heard};
+ghost use Rattle.judging.specs.Judged.{headerSame, controlsSame, rowsJudged, framesIn, framesOn, timeIn, lineJudged, judgement, Right, inOrder, onlyWhere, Among};
+ghost use Rattle.answers.specs.Refusals.{heard};
 ghost use Rattle.datarows.specs.Rows.{releaseKept};
 ghost use Rattle.places.specs.Found.{placeIn};
 use answers::Refusal;
@@ -27,7 +29,7 @@ use naming::numbers;
 use naming::starts_by_frame;
 use places::Found;
 use table::Header;
-use table::Table;
+use table::Heading;
 use units::Frame;
 use units::NodeNo;
 use units::RecordNo;
@@ -39,21 +41,6 @@ pub struct Bounds {
     pub period: Ticks,
     pub resolution: Ticks,
     pub gap: Ticks,
-}
-
-// The verdict, and the start that the table gives to each frame, by number; what stands there is meant only where 21 to 23 are kept.
-pub struct Judgement {
-    pub verdict: Verdict,
-    pub starts: [u32; Frame::MOST],
-}
-
-fn refused(x: Refusal) -> Judgement
-    ensures { λ r. ⌜ heard (r .verdict) ≡ said x ⌝ }
-{
-    Judgement {
-        verdict: Verdict::Refused(x),
-        starts: [0; Frame::MOST],
-    }
 }
 
 fn header_right(
@@ -194,9 +181,13 @@ fn rows_judged(
     end
 }
 
-// Rules 23 to 28; 25 only where `early_too`.
+// Rules 23 to 28; 25 only where `early_too`. What is left in `starts` is as in `judge`.
 fn by_rows<'a>(
-    t: Table,
+    heading: Heading,
+    row_tasks: &'a [u8; Frame::MOST],
+    row_deadlines: &'a [u32; Frame::MOST],
+    row_starts: &'a [u32; Frame::MOST],
+    row_stops: &'a [u32; Frame::MOST],
     tasks: &'a [u8; Frame::MOST],
     releases: &'a [u32; Frame::MOST],
     deadlines: &'a [u32; Frame::MOST],
@@ -204,43 +195,74 @@ fn by_rows<'a>(
     times: &'a [u32; TaskNo::MOST],
     bounds: Bounds,
     early_too: bool,
-) -> Judgement
+    starts: &mut [u32; Frame::MOST],
+) -> Verdict
     requires { ⌜ Numbered (now tasks) (now deadlines) frames ⌝ }
-    requires { ⌜ t .controls ≤ mostNodes ⌝ }
-    requires { ⌜ t .rows ≡ frames ⌝ }
-    ensures { λ r. ⌜ Right «early_too» (now (releases .entry)) frames (rowsJudged (framesIn (now (tasks .entry)) (now (releases .entry)) (now (deadlines .entry)) frames) (timeIn (now (times .entry))) bounds (seen t)) (framesIn (now (tasks .entry)) (now (releases .entry)) (now (deadlines .entry)) frames) (seen t) r ⌝ }
+    requires { ⌜ heading .controls ≤ mostNodes ⌝ }
+    requires { ⌜ heading .rows ≡ frames ⌝ }
+    requires { ⌜ now starts ≡ replicate mostFrames 0 ⌝ }
+    ensures { λ r. ⌜ Right «early_too» (now (releases .entry)) frames (rowsJudged (framesIn (now (tasks .entry)) (now (releases .entry)) (now (deadlines .entry)) frames) (timeIn (now (times .entry))) bounds (seen (tableWith heading (now («row_tasks» .entry)) (now («row_deadlines» .entry)) (now («row_starts» .entry)) (now («row_stops» .entry))))) (framesIn (now (tasks .entry)) (now (releases .entry)) (now (deadlines .entry)) frames) (seen (tableWith heading (now («row_tasks» .entry)) (now («row_deadlines» .entry)) (now («row_starts» .entry)) (now («row_stops» .entry)))) (judgement r (now (starts .exit))) ⌝ }
 {
-    let rows = t.rows;
-    let named = numbers(tasks, deadlines, frames, &t.tasks, &t.deadlines, rows);
+    let rows = heading.rows;
+    let mut named: [usize; Frame::MOST] = [0; Frame::MOST];
+    numbers(
+        tasks,
+        deadlines,
+        frames,
+        row_tasks,
+        row_deadlines,
+        rows,
+        &mut named,
+    );
     let unnamed = first_unnamed(&named, frames, rows);
     let mistimed = first_mistimed(
-        &t.tasks,
-        &t.starts,
-        &t.stops,
+        row_tasks,
+        row_starts,
+        row_stops,
         times,
         bounds.resolution,
         rows,
     );
-    let early = early_in(early_too, &t.starts, releases, &named, rows);
-    let late = first_late(&t.stops, &t.deadlines, rows);
-    let last = last_stop(&t.control_stops, t.controls);
-    let crowded = first_crowded(&t.starts, &t.stops, last, bounds.gap, rows);
-    let ends = gap_at_end(&t.stops, last, bounds.gap, bounds.period, rows);
-    let end = end_judged(ends, RecordNo(t.controls + rows));
-    Judgement {
-        verdict: rows_judged(1 + t.controls, unnamed, mistimed, early, late, crowded, end),
-        starts: starts_by_frame(&named, &t.starts, rows),
-    }
+    let early = early_in(early_too, row_starts, releases, &named, rows);
+    let late = first_late(row_stops, row_deadlines, rows);
+    let last = last_stop(&heading.control_stops, heading.controls);
+    let crowded = first_crowded(row_starts, row_stops, last, bounds.gap, rows);
+    let ends = gap_at_end(row_stops, last, bounds.gap, bounds.period, rows);
+    let end = end_judged(ends, RecordNo(heading.controls + rows));
+    starts_by_frame(&named, row_starts, rows, starts);
+    rows_judged(
+        1 + heading.controls,
+        unnamed,
+        mistimed,
+        early,
+        late,
+        crowded,
+        end,
+    )
 }
 
 // A table judged by what a plan asks of the bus. Where `early_too` does not hold, rule 25 is left to the caller: the verdict is then right
-// if no frame's start lies before its release.
-pub fn judge(t: Table, line: Line, early_too: bool) -> Judgement
-    requires { ⌜ Numbered (line .tasks) (line .deadlines) (line .frames) ⌝ }
+// if no frame's start lies before its release. The start that the table gives to each frame is left in `starts`, by number; what stands
+// there is meant only where 21 to 23 are kept.
+pub fn judge<'a>(
+    heading: Heading,
+    row_tasks: &'a [u8; Frame::MOST],
+    row_deadlines: &'a [u32; Frame::MOST],
+    row_starts: &'a [u32; Frame::MOST],
+    row_stops: &'a [u32; Frame::MOST],
+    line: Line,
+    tasks: &'a [u8; Frame::MOST],
+    releases: &'a [u32; Frame::MOST],
+    deadlines: &'a [u32; Frame::MOST],
+    early_too: bool,
+    starts: &mut [u32; Frame::MOST],
+) -> Verdict
+    requires { ⌜ Numbered (now tasks) (now deadlines) (line .frames) ⌝ }
     requires { ⌜ line .controls ≤ mostNodes ⌝ }
-    ensures { λ r. ⌜ Right «early_too» (line .releases) (line .frames) (lineJudged line (seen t)) (framesOn line) (seen t) r ⌝ }
+    requires { ⌜ now starts ≡ replicate mostFrames 0 ⌝ }
+    ensures { λ r. ⌜ Right «early_too» (now (releases .entry)) (line .frames) (lineJudged (drawing line (now (tasks .entry)) (now (releases .entry)) (now (deadlines .entry))) (seen (tableWith heading (now («row_tasks» .entry)) (now («row_deadlines» .entry)) (now («row_starts» .entry)) (now («row_stops» .entry))))) (framesOn (drawing line (now (tasks .entry)) (now (releases .entry)) (now (deadlines .entry)))) (seen (tableWith heading (now («row_tasks» .entry)) (now («row_deadlines» .entry)) (now («row_starts» .entry)) (now («row_stops» .entry)))) (judgement r (now (starts .exit))) ⌝ }
 {
-    let head = t.header;
+    let head = heading.header;
     let period = line.period;
     let resolution = line.resolution;
     let gap = line.gap;
@@ -249,28 +271,40 @@ pub fn judge(t: Table, line: Line, early_too: bool) -> Judgement
         resolution,
         gap,
     };
-    if !header_right(head, t.controls, t.rows, bounds, line.controls, line.frames) {
-        return refused(Refusal::WrongHeader);
+    if !header_right(
+        head,
+        heading.controls,
+        heading.rows,
+        bounds,
+        line.controls,
+        line.frames,
+    ) {
+        return Verdict::Refused(Refusal::WrongHeader);
     }
     if let Found::At(k) = first_strange(
-        &t.control_nodes,
-        &t.control_starts,
-        &t.control_stops,
+        &heading.control_nodes,
+        &heading.control_starts,
+        &heading.control_stops,
         &line.control_nodes,
         &line.control_starts,
         &line.control_stops,
         line.controls,
     ) {
-        return refused(Refusal::WrongControlRow(RecordNo(1 + k)));
+        return Verdict::Refused(Refusal::WrongControlRow(RecordNo(1 + k)));
     }
     by_rows(
-        t,
-        &line.tasks,
-        &line.releases,
-        &line.deadlines,
+        heading,
+        row_tasks,
+        row_deadlines,
+        row_starts,
+        row_stops,
+        tasks,
+        releases,
+        deadlines,
         line.frames,
         &line.times,
         bounds,
         early_too,
+        starts,
     )
 }

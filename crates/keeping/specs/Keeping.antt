@@ -97,9 +97,9 @@ hasMessage runs t deadline μ =
 unfoldable pub modesAt : List ℕ → List ℕ → List ℕ → ℕ → ℕ
 modesAt runs tasks deadlines q = bitsOf (hasMessage runs (getD tasks q 0) (getD deadlines q 0)) mostModes
 
--- all that is kept, and nothing played
-unfoldable pub keptFrom : Plan → Line → List ℕ → Station
-keptFrom p l starts =
+-- all that is kept, and nothing played; the arrays are by pair
+unfoldable pub keptFrom : Plan → Line → List ℕ → List ℕ → List ℕ → Station
+keptFrom p l tasks deadlines starts =
     record {
       fixed =
           record {
@@ -111,11 +111,11 @@ keptFrom p l starts =
             pairs = l .frames;
           };
       runs = runsOf p;
-      «pair_tasks» = l .tasks;
-      «pair_deadlines» = l .deadlines;
+      «pair_tasks» = tasks;
+      «pair_deadlines» = deadlines;
       «pair_starts» = starts;
-      «pair_stops» = byPair (l .frames) (stopAt starts (l .tasks) (l .times));
-      «pair_modes» = byPair (l .frames) (modesAt (runsOf p) (l .tasks) (l .deadlines));
+      «pair_stops» = byPair (l .frames) (stopAt starts tasks (l .times));
+      «pair_modes» = byPair (l .frames) (modesAt (runsOf p) tasks deadlines);
       play = notBegun .play;
       nodes = notBegun .nodes;
     }

@@ -207,21 +207,27 @@ fn pair_modes<'a>(
     modes
 }
 
-// The station with all that it keeps, and nothing played; `starts` are by pair those of the table.
-pub fn kept(p: Plan, line: Line, starts: [u32; Frame::MOST]) -> Station
+// The station with all that it keeps, and nothing played; the arrays are by pair, and `starts` are those of the table.
+pub fn kept<'a>(
+    p: Plan,
+    line: Line,
+    pair_tasks: &'a [u8; Frame::MOST],
+    pair_deadlines: &'a [u32; Frame::MOST],
+    starts: &'a [u32; Frame::MOST],
+) -> Station
     requires { ⌜ PlanKept (seen p) ⌝ }
     requires { ⌜ (line .controls ≤ mostNodes) × (line .frames ≤ mostFrames) ⌝ }
-    requires { ⌜ StopsFit (line .frames) starts (line .tasks) (line .times) ⌝ }
-    ensures { λ r. ⌜ r ≡ keptFrom (seen p) line starts ⌝ }
+    requires { ⌜ StopsFit (line .frames) (now starts) (now «pair_tasks») (line .times) ⌝ }
+    ensures { λ r. ⌜ r ≡ keptFrom (seen p) line (now («pair_tasks» .entry)) (now («pair_deadlines» .entry)) (now (starts .entry)) ⌝ }
 {
     let senders = Senders::of(p);
     let sending = senders.modules;
     let runs = runs(p);
-    let pair_tasks = line.tasks;
-    let pair_deadlines = line.deadlines;
-    let times = line.times;
-    let pair_stops = stops(line.frames, &starts, &pair_tasks, &times);
-    let pair_modes = pair_modes(&runs, line.frames, &pair_tasks, &pair_deadlines);
+    let pair_stops = stops(line.frames, starts, pair_tasks, &line.times);
+    let pair_modes = pair_modes(&runs, line.frames, pair_tasks, pair_deadlines);
+    let pair_tasks = *pair_tasks;
+    let pair_deadlines = *pair_deadlines;
+    let pair_starts = *starts;
     let period = line.period;
     let zero = Station::not_begun();
     let play = zero.play;
@@ -238,7 +244,7 @@ pub fn kept(p: Plan, line: Line, starts: [u32; Frame::MOST]) -> Station
         runs,
         pair_tasks,
         pair_deadlines,
-        pair_starts: starts,
+        pair_starts,
         pair_stops,
         pair_modes,
         play,

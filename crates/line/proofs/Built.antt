@@ -1,10 +1,8 @@
--- The line that is built from its parts is the line of the layout.
-use mathlib.Core.Path.{_≡_}
+-- The line that is built from its parts is the line of the layout; with the frames that were laid it is the layout's drawing.
+use mathlib.Core.Path.{_≡_, ap, _∙_}
 use mathlib.Core.List.{List}
-use native.Mathlib.Omega.{arith}
 use lib.ListN.{length}
-use Prim.Native.Nat.{suc, ℕ, _≤_, min}
-use Rattle.rules.specs.Limits.{mostFrames}
+use Prim.Native.Nat.{ℕ}
 use Rattle.laws.specs.Lists.{tab}
 use Rattle.rules.specs.Plan.{Plan}
 use Rattle.rules.specs.Traffic.{busPeriod, basic}
@@ -12,16 +10,15 @@ use Rattle.rules.specs.Frames.{layoutOf, controlRows, controlEnd, gapTime}
 use Rattle.rules.specs.Frames as rules
 use Rattle.control.specs.declared.Control.{Control}
 use Rattle.control.specs.Control.{controlLaid, column}
-use Rattle.frames.specs.declared.laid.Frames.{Frames}
 use Rattle.frames.specs.Laid as frames
-use Rattle.frames.specs.Laid.{framesLaid}
+use Rattle.frames.specs.Laid.{Frames, framesWith, framesLaid}
 use Rattle.line.specs.declared.Line.{Line}
-use Rattle.line.specs.Line.{lineOf}
+use Rattle.line.specs.Line.{drawing, lineIn, lineOf}
 use Rattle.payloads.specs.Tests.{taskTime}
 
-pub line-is : (p : Plan) {period gap floor : ℕ} {time : List ℕ} {control : Control} {f : Frames}
+pub line-is : (p : Plan) {period gap floor : ℕ} {time : List ℕ} {control : Control} {n : ℕ}
     → period ≡ busPeriod p → gap ≡ gapTime (p .bus) → floor ≡ controlEnd p → time ≡ tab (taskTime p) 0 32
-    → control ≡ controlLaid (controlRows p) → f ≡ framesLaid (rules.pairs p) → length (rules.pairs p) ≤ mostFrames
+    → control ≡ controlLaid (controlRows p) → n ≡ length (rules.pairs p)
     → _≡_ {A = Line}
     (record {
       period = record { 0 = period };
@@ -33,13 +30,15 @@ pub line-is : (p : Plan) {period gap floor : ℕ} {time : List ℕ} {control : C
       «control_nodes» = control .nodes;
       «control_starts» = control .starts;
       «control_stops» = control .stops;
-      frames = f .count;
-      tasks = f .tasks;
-      releases = f .releases;
-      deadlines = f .deadlines;
+      frames = n;
     })
-    (lineOf p)
-unfolding lineOf layoutOf rules.pairs basic framesLaid frames.column controlLaid
-line-is p e₁ e₂ e₃ e₄ c q few =
-    let m : min (suc mostFrames) (length (rules.pairs p)) ≡ length (rules.pairs p) = omega arith in
-    rw (e₁, e₂, e₃, e₄, c, q, m)
+    (lineIn (lineOf p))
+unfolding lineOf layoutOf rules.pairs basic controlLaid
+line-is p e₁ e₂ e₃ e₄ c q = rw (e₁, e₂, e₃, e₄, c, q)
+
+pub drawing-is : (p : Plan) {line : Line} {n : ℕ} {tasks releases deadlines : List ℕ}
+    → line ≡ lineIn (lineOf p) → framesWith n tasks releases deadlines ≡ framesLaid (rules.pairs p) → drawing line tasks releases deadlines ≡ lineOf p
+unfolding lineOf layoutOf rules.pairs basic framesLaid frames.column
+drawing-is p {tasks = tasks} {releases} {deadlines} e f =
+    ap (λ (l : Line). drawing l tasks releases deadlines) e
+    ∙ ap (λ (x : Frames). drawing (lineIn (lineOf p)) (x .tasks) (x .releases) (x .deadlines)) f

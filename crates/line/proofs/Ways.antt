@@ -5,12 +5,14 @@ use mathlib.Core.List.{List}
 use native.Mathlib.Nat.{zero-add}
 use native.Mathlib.Omega.{arith}
 use lib.Dec.{leb, ltb}
-use lib.ListN.{length}
+use lib.ListN.{length, replicate}
 use borrow.Author.Tests.{le-leb, lt-leb, ltb-false}
 use Prim.Native.Nat.{ℕ, zero, suc, _+_, _≤_, _<_}
 use Rattle.laws.specs.Res.{Res, ok, refuse}
 use Rattle.laws.specs.Lists.{all, upTo}
+use Rattle.laws.proofs.Res.{refuse≢ok, refuse-number, refuse-place}
 use Rattle.laws.proofs.Lists.{all-keep, all-upTo-more, getD-tab}
+use Rattle.rules.specs.Limits.{mostFrames}
 use Rattle.rules.specs.Plan.{Plan}
 use Rattle.rules.specs.Traffic.{isBusTask, busTasks, controlPayload, isSendingNode, sendingNodes, busPeriod}
 use Rattle.rules.specs.Frames.{layout, layoutOf, messageFits, controlFits, payloadsFit, controlEnd}
@@ -19,20 +21,32 @@ use Rattle.answers.specs.Refusals.{said}
 use Rattle.bus.specs.Senders.{byNumber}
 use Rattle.answers.specs.declared.Verdict.the-variants.{Fine, Refused}
 use Rattle.line.specs.declared.Laid.{Laid}
-use Rattle.line.specs.Line.{noLine, lineOf}
+use Rattle.line.specs.Line.{noLine, lineOf, lineIn}
 use Rattle.payloads.specs.Tests.{flagAt, messageKeeps, payloadKeeps}
-use Rattle.line.specs.Laying.{Lays, laid, closing}
+use Rattle.line.specs.Laying.{Closes, Lays, verdict, laid, closing}
 
-pub lays-as : (x : Refusal) (r : Laid) (rule : Res Plan) → r ≡ record { answer = Refused x; line = noLine } → rule ≡ said x → Lays r rule
-lays-as x r rule e q = record { answered = rw (e, q); left = rw (e, q) }
+pub verdict-refused : (n k : ℕ) (rule : Res Plan) → verdict rule ≡ refuse n k → rule ≡ refuse n k
+verdict-refused n k (ok p) e = refuse≢ok (sym e)
+verdict-refused n k (refuse m j) e = rw (refuse-number e, refuse-place e)
 
-pub lays-refused : (x : Refusal) (r : Laid) (p : Plan) → r ≡ record { answer = Refused x; line = noLine } → layout p ≡ said x → Lays r (laid p)
+module _ (x : Refusal) (r : Laid) (e : r ≡ record { answer = Refused x; line = lineIn noLine }) where
+  pub closes-refused : (p : Plan) → layout p ≡ said x → Closes r (laid p)
+  unfolding laid
+  closes-refused p q = record { answered = rw (e, q); left = rw (e, q) }
+
+  -- where a plan is refused, the arrays of frames are zeros
+  module _ {tasks releases deadlines : List ℕ} (z : (tasks ≡ replicate mostFrames 0) × (releases ≡ replicate mostFrames 0) × (deadlines ≡ replicate mostFrames 0)) where
+    pub lays-as : (rule : Res Plan) → rule ≡ said x → Lays r tasks releases deadlines rule
+    unfolding noLine
+    lays-as rule q = record { answered = rw (e, q); left = rw (e, q, z .0, z .1, z .2) }
+
+    pub lays-refused : (p : Plan) → layout p ≡ said x → Lays r tasks releases deadlines (laid p)
+    unfolding laid
+    lays-refused p q = lays-as (laid p) (rw q)
+
+pub closes-sound : (p : Plan) (r : Laid) → r ≡ record { answer = Fine; line = lineIn (lineOf p) } → layout p ≡ ok (layoutOf p) → Closes r (laid p)
 unfolding laid
-lays-refused x r p e q = lays-as x r (laid p) e (rw q)
-
-pub lays-sound : (p : Plan) (r : Laid) → r ≡ record { answer = Fine; line = lineOf p } → layout p ≡ ok (layoutOf p) → Lays r (laid p)
-unfolding laid
-lays-sound p r e q = record { answered = rw (e, q); left = rw (e, q) }
+closes-sound p r e q = record { answered = rw (e, q); left = rw (e, q) }
 
 all-same : (p q : ℕ → Bool) (n : ℕ) → ((k : ℕ) → k < n → p k ≡ q k) → all p (upTo n) ≡ all q (upTo n)
 all-same p q zero h = refl

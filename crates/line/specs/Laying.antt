@@ -1,4 +1,4 @@
--- What laying a plan out answers, and the line that it leaves.
+-- What laying a plan out answers, and the line and the frames that it leaves.
 use mathlib.Core.Path.{_≡_}
 use lib.Dec.{leb}
 use lib.ListN.{length}
@@ -13,16 +13,21 @@ use Rattle.answers.specs.Refusals.{said, heard}
 use Rattle.answers.specs.declared.Verdict.{Verdict}
 use Rattle.answers.specs.declared.Verdict.the-variants.{Fine, Refused}
 use Rattle.line.specs.declared.Laid.{Laid}
-use Rattle.line.specs.Line.{lineFor}
+use Rattle.line.specs.Line.{lineIn, lineFor, drawing}
 
 abbrev pub verdict : Res Plan → Res (Unit {0})
 verdict (ok p) = ok tt
 verdict (refuse n p) = refuse n p
 
--- Laying out says what the rules say: the same number and place, or the line.
-pub record Lays (r : Laid) (rule : Res Plan) : Type 0 where
+-- Laying out says what the rules say: the same number and place, or the line, with its frames in three arrays.
+pub record Lays (r : Laid) (tasks releases deadlines : List ℕ) (rule : Res Plan) : Type 0 where
   pub answered : heard (r .answer) ≡ verdict rule
-  pub left : r .line ≡ lineFor rule
+  pub left : drawing (r .line) tasks releases deadlines ≡ lineFor rule
+
+-- the same of the answer and the line alone, where the frames were laid before
+pub record Closes (r : Laid) (rule : Res Plan) : Type 0 where
+  pub answered : heard (r .answer) ≡ verdict rule
+  pub left : r .line ≡ lineIn (lineFor rule)
 
 -- refusals 10 and 11, where 6 to 9 do not apply
 unfoldable pub closing : Plan → Res Layout

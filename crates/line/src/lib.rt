@@ -1,7 +1,8 @@
-// What a plan asks of the bus, in arrays that can be lent: the cycle, the sending times by task, the control rows, the frames by number.
+// What a plan asks of the bus: the cycle, the sending times by task and the control rows in a line, the frames by number in arrays that are
+// lent, zeros before. Of a plan that is refused there is no line, and the arrays are zeros again.
 ghost use mathlib.Core.Path.{_≡_};
 ghost use mathlib.Core.Bool.{true};
-ghost use lib.ListN.{length};
+ghost use lib.ListN.{length, replicate};
 ghost use Prim.Native.Nat.{_≤_, _<_, _^_};
 ghost use Rattle.rules.specs.Limits.{longestTime, mostFrames};
 ghost use Rattle.rules.proofs.PlanKept.{PlanKept};
@@ -13,9 +14,8 @@ ghost use Rattle.bus.specs.Runs.{runsLaid};
 ghost use Rattle.rules.specs.Frames as rules;
 ghost use Rattle.bus.specs.Senders.{sendersOf};
 ghost use Rattle.control.specs.Control.{controlLaid};
-ghost use Rattle.frames.specs.Laid.{framesLaid};
-ghost use Rattle.line.specs.Line.{noLine, lineOf};
-ghost use Rattle.line.specs.Laying.{Lays, laid, framing, closing, fileLaid};
+ghost use Rattle.line.specs.Line.{noLine, lineOf, lineIn};
+ghost use Rattle.line.specs.Laying.{Closes, Lays, laid, framing, closing, fileLaid};
 ghost use Rattle.answers.specs.declared.Verdict.the-variants.{Refused};
 use answers::Refusal;
 use answers::Verdict;
@@ -28,7 +28,7 @@ use control::Control;
 use control::control_end;
 use control::control_rows;
 use figures::divides;
-use frames::laid::Frames;
+use frames::laid::lay;
 use payloads::controls_fit;
 use payloads::message_times;
 use payloads::messages_fit;
@@ -42,8 +42,8 @@ use units::NodeNo;
 use units::TaskNo;
 use units::Ticks;
 
-// `floor` is C; `times` is by task; of the control rows there are `controls`, of the frames (`tasks`, `releases`, `deadlines`)
-// `frames`. Zeros stand behind.
+// `floor` is C; `times` is by task; of the control rows there are `controls`, zeros behind; of the frames, which stand in arrays apart,
+// `frames`.
 pub struct Line {
     pub period: Ticks,
     pub resolution: Ticks,
@@ -55,14 +55,11 @@ pub struct Line {
     pub control_starts: [u32; NodeNo::MOST],
     pub control_stops: [u32; NodeNo::MOST],
     pub frames: usize,
-    pub tasks: [u8; Frame::MOST],
-    pub releases: [u32; Frame::MOST],
-    pub deadlines: [u32; Frame::MOST],
 }
 
 impl Line {
     pub fn none() -> Line
-        ensures { λ r. ⌜ r ≡ noLine ⌝ }
+        ensures { λ r. ⌜ r ≡ lineIn noLine ⌝ }
     {
         Line {
             period: Ticks(0),
@@ -75,9 +72,6 @@ impl Line {
             control_starts: [0; NodeNo::MOST],
             control_stops: [0; NodeNo::MOST],
             frames: 0,
-            tasks: [0; Frame::MOST],
-            releases: [0; Frame::MOST],
-            deadlines: [0; Frame::MOST],
         }
     }
 }
@@ -89,7 +83,7 @@ pub struct Laid {
 }
 
 fn refused(why: Refusal) -> Laid
-    ensures { λ r. ⌜ r ≡ record { answer = Refused why; line = noLine } ⌝ }
+    ensures { λ r. ⌜ r ≡ record { answer = Refused why; line = lineIn noLine } ⌝ }
 {
     Laid {
         answer: Verdict::Refused(why),
@@ -97,22 +91,29 @@ fn refused(why: Refusal) -> Laid
     }
 }
 
+// Refuses a plan whose frames were laid: they are taken back.
+fn taken_back(
+    why: Refusal,
+    tasks: &mut [u8; Frame::MOST],
+    releases: &mut [u32; Frame::MOST],
+    deadlines: &mut [u32; Frame::MOST],
+) -> Laid
+    ensures { λ r. ⌜ r ≡ record { answer = Refused why; line = lineIn noLine } ⌝ }
+    ensures { λ r. ⌜ (now (tasks .exit) ≡ replicate mostFrames 0) × (now (releases .exit) ≡ replicate mostFrames 0) × (now (deadlines .exit) ≡ replicate mostFrames 0) ⌝ }
+{
+    *tasks = [0; Frame::MOST];
+    *releases = [0; Frame::MOST];
+    *deadlines = [0; Frame::MOST];
+    refused(why)
+}
+
 // The line of a plan that passed refusals 1 to 11.
-fn line_of<'a>(
-    p: Plan,
-    period: Ticks,
-    end: Span,
-    control: Control,
-    count: usize,
-    tasks: &'a [u8; Frame::MOST],
-    releases: &'a [u32; Frame::MOST],
-    deadlines: &'a [u32; Frame::MOST],
-) -> Line
+fn line_of(p: Plan, period: Ticks, end: Span, control: Control, count: usize) -> Line
     requires { ⌜ PlanKept (seen p) ⌝ }
     requires { ⌜ (period .0 ≡ busPeriod (seen p)) × (end .0 ≡ controlEnd (seen p)) × (end .0 < 2 ^ 32) ⌝ }
     requires { ⌜ control ≡ controlLaid (controlRows (seen p)) ⌝ }
-    requires { ⌜ (framesLaid (rules.pairs (seen p)) ≡ record { count = count; tasks = now tasks; releases = now releases; deadlines = now deadlines }) × (length (rules.pairs (seen p)) ≤ mostFrames) ⌝ }
-    ensures { λ r. ⌜ r ≡ lineOf (seen p) ⌝ }
+    requires { ⌜ count ≡ length (rules.pairs (seen p)) ⌝ }
+    ensures { λ r. ⌜ r ≡ lineIn (lineOf (seen p)) ⌝ }
 {
     let bus = p.bus;
     let resolution = bus.resolution;
@@ -121,9 +122,6 @@ fn line_of<'a>(
     let nodes = control.nodes;
     let starts = control.starts;
     let stops = control.stops;
-    let task = *tasks;
-    let release = *releases;
-    let deadline = *deadlines;
     Line {
         period,
         resolution,
@@ -135,28 +133,17 @@ fn line_of<'a>(
         control_starts: starts,
         control_stops: stops,
         frames: count,
-        tasks: task,
-        releases: release,
-        deadlines: deadline,
     }
 }
 
 // Refusals 10 and 11 of a plan to which 6 to 9 do not apply, and its line.
-fn closed<'a>(
-    p: Plan,
-    senders: Senders,
-    period: Ticks,
-    count: usize,
-    task: &'a [u8; Frame::MOST],
-    release: &'a [u32; Frame::MOST],
-    deadline: &'a [u32; Frame::MOST],
-) -> Laid
+fn closed(p: Plan, senders: Senders, period: Ticks, count: usize) -> Laid
     requires { ⌜ PlanKept (seen p) ⌝ }
     requires { ⌜ senders ≡ sendersOf (seen p) ⌝ }
     requires { ⌜ (period .0 ≡ busPeriod (seen p)) × (period .0 ≤ longestTime) ⌝ }
-    requires { ⌜ (framesLaid (rules.pairs (seen p)) ≡ record { count = count; tasks = now task; releases = now release; deadlines = now deadline }) × (length (rules.pairs (seen p)) ≤ mostFrames) ⌝ }
+    requires { ⌜ count ≡ length (rules.pairs (seen p)) ⌝ }
     requires { ⌜ layout (seen p) ≡ closing (seen p) ⌝ }
-    ensures { λ r. ⌜ Lays r (laid (seen p)) ⌝ }
+    ensures { λ r. ⌜ Closes r (laid (seen p)) ⌝ }
 {
     let tasks = senders.tasks;
     let payloads = senders.payloads;
@@ -172,48 +159,60 @@ fn closed<'a>(
         return refused(Refusal::ControlTooLong);
     }
     let control = control_rows(p, payloads);
-    let line = line_of(p, period, end, control, count, task, release, deadline);
+    let line = line_of(p, period, end, control, count);
     Laid {
         answer: Verdict::Fine,
         line: line,
     }
 }
 
-// Refusals 9 to 11 of a plan to which 6 to 8 do not apply, and its line.
-fn framed(p: Plan, senders: Senders, runs: Runs, period: Ticks) -> Laid
+// Refusals 9 to 11 of a plan to which 6 to 8 do not apply, its frames and its line.
+fn framed(
+    p: Plan,
+    senders: Senders,
+    runs: Runs,
+    period: Ticks,
+    tasks: &mut [u8; Frame::MOST],
+    releases: &mut [u32; Frame::MOST],
+    deadlines: &mut [u32; Frame::MOST],
+) -> Laid
     requires { ⌜ PlanKept (seen p) ⌝ }
     requires { ⌜ (someBusTask (seen p) ≡ true) × (busPeriod (seen p) ∣ switchGrid (seen p)) ⌝ }
     requires { ⌜ (senders ≡ sendersOf (seen p)) × (runs ≡ runsLaid (busRuns (seen p))) × (period .0 ≡ busPeriod (seen p)) ⌝ }
     requires { ⌜ layout (seen p) ≡ framing (seen p) ⌝ }
-    ensures { λ r. ⌜ Lays r (laid (seen p)) ⌝ }
+    requires { ⌜ (now tasks ≡ replicate mostFrames 0) × (now releases ≡ replicate mostFrames 0) × (now deadlines ≡ replicate mostFrames 0) ⌝ }
+    ensures { λ r. ⌜ Lays r (now (tasks .exit)) (now (releases .exit)) (now (deadlines .exit)) (laid (seen p)) ⌝ }
 {
-    let frames = Frames::of(runs, period);
-    if Frame::MOST < frames.count {
-        return refused(Refusal::TooManyFrames);
+    let count = lay(runs, period, tasks, releases, deadlines);
+    if Frame::MOST < count {
+        return taken_back(Refusal::TooManyFrames, tasks, releases, deadlines);
     }
-    closed(
-        p,
-        senders,
-        period,
-        frames.count,
-        &frames.tasks,
-        &frames.releases,
-        &frames.deadlines,
-    )
+    let laid = closed(p, senders, period, count);
+    let answer = laid.answer;
+    match answer {
+        Verdict::Fine => laid,
+        Verdict::Refused(why) => taken_back(why, tasks, releases, deadlines),
+    }
 }
 
-// Refusals 6 to 11 of a plan that was read, and its line. P is not computed before each period was tried against the grid.
-pub fn of_plan(p: Plan) -> Laid
+// Refusals 6 to 11 of a plan that was read, its frames and its line. P is not computed before each period was tried against the grid.
+pub fn of_plan(
+    p: Plan,
+    tasks: &mut [u8; Frame::MOST],
+    releases: &mut [u32; Frame::MOST],
+    deadlines: &mut [u32; Frame::MOST],
+) -> Laid
     requires { ⌜ PlanKept (seen p) ⌝ }
-    ensures { λ r. ⌜ Lays r (laid (seen p)) ⌝ }
+    requires { ⌜ (now tasks ≡ replicate mostFrames 0) × (now releases ≡ replicate mostFrames 0) × (now deadlines ≡ replicate mostFrames 0) ⌝ }
+    ensures { λ r. ⌜ Lays r (now (tasks .exit)) (now (releases .exit)) (now (deadlines .exit)) (laid (seen p)) ⌝ }
 {
     let senders = Senders::of(p);
-    let tasks = senders.tasks;
+    let bus_tasks = senders.tasks;
     let modules = senders.modules;
-    if !some_bus_task(tasks, task_count(p)) {
+    if !some_bus_task(bus_tasks, task_count(p)) {
         return refused(Refusal::NoBusTask);
     }
-    let runs = Runs::of(p, tasks);
+    let runs = Runs::of(p, bus_tasks);
     let grid = switch_grid(p, modules);
     if !period_divides(runs, grid) {
         return refused(Refusal::PeriodDoesNotDivide);
@@ -222,17 +221,23 @@ pub fn of_plan(p: Plan) -> Laid
     if !divides(p.bus.resolution.0, period.0) {
         return refused(Refusal::PeriodOffResolution);
     }
-    framed(p, senders, runs, period)
+    framed(p, senders, runs, period, tasks, releases, deadlines)
 }
 
-// The line of a plan file, or the first refusal of 1 to 11 that applies, at its lowest place.
-pub fn lay_out(s: &[u8]) -> Laid
-    ensures { λ r. ⌜ Lays r (fileLaid (now (s .entry))) ⌝ }
+// The frames and the line of a plan file, or the first refusal of 1 to 11 that applies, at its lowest place.
+pub fn lay_out(
+    s: &[u8],
+    tasks: &mut [u8; Frame::MOST],
+    releases: &mut [u32; Frame::MOST],
+    deadlines: &mut [u32; Frame::MOST],
+) -> Laid
+    requires { ⌜ (now tasks ≡ replicate mostFrames 0) × (now releases ≡ replicate mostFrames 0) × (now deadlines ≡ replicate mostFrames 0) ⌝ }
+    ensures { λ r. ⌜ Lays r (now (tasks .exit)) (now (releases .exit)) (now (deadlines .exit)) (fileLaid (now (s .entry))) ⌝ }
 {
     let reading = planrules::read(s);
     let answer = reading.answer;
     match answer {
-        Verdict::Fine => of_plan(reading.plan),
+        Verdict::Fine => of_plan(reading.plan, tasks, releases, deadlines),
         Verdict::Refused(why) => refused(why),
     }
 }

@@ -26,9 +26,7 @@ use Rattle.rules.proofs.MadePasses.{table-fits}
 use Rattle.line.specs.Line as line
 use Rattle.line.specs.Line.{taskOf, deadlineOf}
 use Rattle.placing.specs.Placing.{numberOf, startOf, timeOf}
-use Rattle.rows.specs.declared.Rows.{Rows}
-use Rattle.rows.specs.declared.TableRows.{TableRows}
-use Rattle.rows.specs.Rows.{rowsLaid, scattered, taskAt, stopAt, tableRows}
+use Rattle.rows.specs.Rows.{Rows, TableRows, rowsLaid, scattered, taskAt, stopAt, tableRows}
 use Rattle.table.specs.Rows.{controlIn, dataIn, tableIn, tableLength}
 use Rattle.table.proofs.Glued.{table-long}
 use Rattle.line.proofs.Drawn.{Drawn, drawn}

@@ -6,11 +6,10 @@ use Rattle.laws.specs.Res.{Res}
 use Rattle.laws.proofs.Res.{refuse≢ok, ok-injective}
 use Rattle.rules.specs.Table.{MadeTable}
 use Rattle.answers.proofs.Said.{said-once}
-use Rattle.rows.specs.declared.Rows.{Rows}
+use Rattle.rows.specs.Rows.{Rows}
 use Rattle.linetable.specs.declared.Answer.{Answer}
 use Rattle.linetable.specs.declared.Answer.the-variants.{Made, Refused}
-use Rattle.linetable.specs.declared.Making.{Making}
-use Rattle.linetable.specs.Making.{Makes, heardMade}
+use Rattle.linetable.specs.Making.{Making, Makes, heardMade}
 
 pub heard-once : (x y : Answer) → heardMade x ≡ heardMade y → x ≡ y
 heard-once (Made m) (Made n) e = ap Made (ok-injective e)

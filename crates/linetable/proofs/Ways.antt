@@ -17,23 +17,19 @@ use Rattle.rules.specs.LatestRelease.{Placed, numberedFrom, place, latestReleas
 use Rattle.rules.specs.Table.{alone, MadeTable, madeTable, tableBytes}
 use Rattle.rules.proofs.RuleSteps.{rule-twelve}
 use Rattle.answers.specs.declared.Refusal.{Refusal}
-use Rattle.answers.specs.declared.Refusal.the-variants.{BufferTooShort}
+use Rattle.answers.specs.declared.Refusal.the-variants.{BufferTooShort, NoRoom}
 use Rattle.answers.specs.Refusals.{said}
-use Rattle.line.specs.declared.Line.{Line}
-use Rattle.line.specs.Line.{lineOf, taskOf, deadlineOf}
+use Rattle.line.specs.Line.{Drawing, lineIn, lineOf, taskOf, deadlineOf}
 use Rattle.payloads.specs.Tests.{taskTime}
-use Rattle.placing.specs.declared.Placing.{Placing}
 use Rattle.placing.specs.declared.Outcome.the-variants.{All, Refused as NotPlaced}
-use Rattle.placing.specs.Placing.{frameAt, timeOf, laid}
+use Rattle.placing.specs.Placing.{Placing, frameAt, timeOf, laid}
 use Rattle.units.specs.declared.FrameNo.{FrameNo}
-use Rattle.rows.specs.declared.Rows.{Rows}
-use Rattle.rows.specs.declared.TableRows.{TableRows}
-use Rattle.rows.specs.Rows.{rowsLaid, scattered, tableRows}
-use Rattle.table.specs.Rows.{controlIn, dataIn, tableIn, tableLength}
+use Rattle.rows.specs.Rows.{Rows, TableRows, rowsLaid, scattered, tableRows}
+use Rattle.rows.specs.Frames.{rowsWith, NoRows}
+use Rattle.table.specs.Rows.{tableLength}
 use Rattle.linetable.specs.declared.Answer.the-variants.{Made, Refused}
-use Rattle.linetable.specs.declared.Making.{Making}
-use Rattle.linetable.specs.Making.{Makes}
-use Rattle.linetable.specs.Steps.{Stands, AllPlaced, laidTable}
+use Rattle.linetable.specs.Making.{Making, Makes, tabled}
+use Rattle.linetable.specs.Steps.{Stands, laidTable, bytesOf}
 use Rattle.line.proofs.Drawn.{Drawn, drawn}
 use Rattle.linetable.proofs.OverLine.{rule-is, deadlines-rise}
 use Rattle.linetable.proofs.Tabled.{Fair, fair, bytes-long, table-written, rows-are}
@@ -43,6 +39,17 @@ use Rattle.linetable.proofs.Tabled.{Fair, fair, bytes-long, table-writt
 pub makes-refused : (x : Refusal) (r : Making) (before after : List ℕ) (rule : Res MadeTable) → r ≡ record { answer = Refused x; rows = rowsLaid [] }
     → after ≡ before → rule ≡ said x → Makes r before after rule
 makes-refused x r before after rule e b q = record { answered = rw (e, q); left = rw (e, q); written = rw (b, q) }
+
+-- no frame rows in arrays: four arrays of zeros
+pub no-rows : {tasks releases deadlines starts : List ℕ} → NoRows tasks releases deadlines starts → rowsWith 0 tasks releases deadlines starts ≡ rowsLaid []
+unfolding rowsLaid
+no-rows z = rw (z .0, z .1 .0, z .1 .1 .0, z .1 .1 .1)
+
+-- a refusal with the starts as they came
+tabled-refused : (x : Refusal) (line : Drawing) (starts buffer : List ℕ) (rule : Res MadeTable) → starts ≡ replicate mostFrames 0 → rule ≡ said x
+    → Makes (tabled (Refused x) line starts) buffer buffer rule
+tabled-refused x line starts buffer rule z q =
+    makes-refused x _ buffer buffer rule (ap (λ (rows : Rows). record { answer = Refused x; rows = rows }) (no-rows (refl, (refl, (refl, z))))) refl q
 
 -- the table at the front is the table stored there
 pub table-stored : (table old : List ℕ) → length table ≤ length old → sets old 0 table ≡ table ++ drop (length table) old
@@ -75,24 +82,25 @@ module _ (l : Layout) where
       let number : n ≡ 12 = rule-twelve l n f e in
       e ∙ ap₂ refuse number (ap (λ (x : FrameNo). x .0) there)
 
-  pub record Placing-of (placing : Placing) : Type 0 where
+  -- the rule has placed every frame
+  pub record AllPlaced (placing : Placing) : Type 0 where
     pub placed : List Placed
     pub rule : latestRelease l ≡ ok placed
     pub is : placing ≡ laid (ok placed)
 
-  pub all-of : (rule : Res (List Placed)) (placing : Placing) → latestRelease l ≡ rule → placing ≡ laid rule → placing .outcome ≡ All → Placing-of placing
+  all-of : (rule : Res (List Placed)) (placing : Placing) → latestRelease l ≡ rule → placing ≡ laid rule → placing .outcome ≡ All → AllPlaced placing
   all-of (ok placed) placing e q o = record { placed = placed; rule = e; is = q }
   all-of (refuse n f) placing e q o =
       let z : NotPlaced (record { 0 = f }) ≡ All = sym (ap (λ (p : Placing). p .outcome) q) ∙ o in
       let y : _≡_ {A = ℕ} 0 1 = cc in absurd (omega arith)
 
 -- the latest-release rule over the arrays of a line, from an end on
-abbrev pub ruleOver : Line → ℕ → Res (List Placed)
+abbrev pub ruleOver : Drawing → ℕ → Res (List Placed)
 ruleOver line end =
     place (line .resolution .0) (line .gap .0) (line .floor .0) (timeOf (line .times)) (line .frames) end
     (numberedFrom 0 (tab (frameAt (line .tasks) (line .releases) (line .deadlines)) 0 (line .frames))) []
 
-module _ (line : Line) (s : Stands line) where
+module _ (line : Drawing) (s : Stands line) where
   drawn-of : Drawn (s .plan)
   drawn-of = drawn (s .file) (s .plan) (layoutOf (s .plan)) (s .isRead) (s .isLaid)
 
@@ -127,66 +135,56 @@ module _ (line : Line) (s : Stands line) where
         q ∙ ap laid e
 
     -- 12: a frame found no room
-    pub no-room : (k : FrameNo) (room : ℕ) → placing .outcome ≡ NotPlaced k → laidTable (layoutOf (s .plan)) room ≡ refuse 12 (k .0)
+    no-room : (k : FrameNo) (room : ℕ) → placing .outcome ≡ NotPlaced k → laidTable (layoutOf (s .plan)) room ≡ refuse 12 (k .0)
     unfolding laidTable
     no-room k room o =
         let t = twelve (layoutOf (s .plan)) k (latestRelease (layoutOf (s .plan))) refl (sym (ap (λ (p : Placing). p .outcome) placing-is) ∙ o) in
         rw t
 
-    unfoldable pub all-placed : placing .outcome ≡ All → AllPlaced line placing
-    all-placed o =
-        let a = all-of (layoutOf (s .plan)) (latestRelease (layoutOf (s .plan))) placing refl placing-is o in
-        record { stands = s; placed = a .placed; rule = a .rule; is = a .is }
+    pub all-placed : placing .outcome ≡ All → AllPlaced (layoutOf (s .plan)) placing
+    all-placed o = all-of (layoutOf (s .plan)) (latestRelease (layoutOf (s .plan))) placing refl placing-is o
 
-module _ (line : Line) (placing : Placing) (a : AllPlaced line placing) where
-  pub fair-of : Fair (a .stands .plan) (a .placed)
-  fair-of = fair (a .stands .file) (a .stands .plan) (a .placed) (a .stands .isRead) (a .stands .isLaid) (a .rule)
+    pub no-room-made : (k : FrameNo) (starts buffer : List ℕ) → placing .outcome ≡ NotPlaced k → starts ≡ replicate mostFrames 0
+        → Makes (tabled (Refused (NoRoom k)) line starts) buffer buffer (laidTable (layoutOf (s .plan)) (length buffer))
+    no-room-made k starts buffer o z = tabled-refused (NoRoom k) line starts buffer _ z (no-room k (length buffer) o)
 
-  -- the length of the table that is to be written
-  long : length (tableBytes (layoutOf (a .stands .plan)) (map alone (a .placed))) ≡ tableLength (line .controls) (line .frames)
-  unfolding lineOf
-  long = bytes-long (layoutOf (a .stands .plan)) (map alone (a .placed)) (length-map (a .placed) alone ∙ fair-of .settled .count) ∙ rw (a .stands .is)
+  module _ (placing : Placing) (a : AllPlaced (layoutOf (s .plan)) placing) where
+    fair-of : Fair (s .plan) (a .placed)
+    fair-of = fair (s .file) (s .plan) (a .placed) (s .isRead) (s .isLaid) (a .rule)
 
-  -- 13: the buffer is too short
-  pub too-short : (room : ℕ) → room < tableLength (line .controls) (line .frames) → laidTable (layoutOf (a .stands .plan)) room ≡ refuse 13 (tableLength (line .controls) (line .frames))
-  unfolding laidTable madeTable
-  too-short room h = rw (a .rule, long, lt-leb (tableLength (line .controls) (line .frames)) room h)
+    -- the length of the table that is to be written
+    long : length (tableBytes (layoutOf (s .plan)) (map alone (a .placed))) ≡ tableLength (line .controls) (line .frames)
+    unfolding lineOf
+    long = bytes-long (layoutOf (s .plan)) (map alone (a .placed)) (length-map (a .placed) alone ∙ fair-of .settled .count) ∙ rw (s .is)
 
-  pub fits-in : (room : ℕ) → tableLength (line .controls) (line .frames) ≤ room → laidTable (layoutOf (a .stands .plan)) room ≡ ok (madeTable (layoutOf (a .stands .plan)) (map alone (a .placed)))
-  unfolding laidTable madeTable
-  fits-in room h = rw (a .rule, long, le-leb (tableLength (line .controls) (line .frames)) room h)
+    -- 13: the buffer is too short
+    too-short : (room : ℕ) → room < tableLength (line .controls) (line .frames) → laidTable (layoutOf (s .plan)) room ≡ refuse 13 (tableLength (line .controls) (line .frames))
+    unfolding laidTable madeTable
+    too-short room h = rw (a .rule, long, lt-leb (tableLength (line .controls) (line .frames)) room h)
 
-  pub short-made : (r : Making) (buffer : List ℕ) {n : ℕ} → n ≡ tableLength (line .controls) (line .frames) → length buffer < n
-      → r ≡ record { answer = Refused (BufferTooShort (record { 0 = n })); rows = rowsLaid [] }
-      → Makes r buffer buffer (laidTable (layoutOf (a .stands .plan)) (length buffer))
-  short-made r buffer {n} e h q =
-      makes-refused (BufferTooShort (record { 0 = n })) r buffer buffer (laidTable (layoutOf (a .stands .plan)) (length buffer)) q refl
-      (too-short (length buffer) (omega arith) ∙ ap (refuse 13) (sym e))
+    fits-in : (room : ℕ) → tableLength (line .controls) (line .frames) ≤ room → laidTable (layoutOf (s .plan)) room ≡ ok (madeTable (layoutOf (s .plan)) (map alone (a .placed)))
+    unfolding laidTable madeTable
+    fits-in room h = rw (a .rule, long, le-leb (tableLength (line .controls) (line .frames)) room h)
 
-  pub written-made : (r : Making) (before after : List ℕ) (n : ℕ) → n ≡ tableLength (line .controls) (line .frames) → n ≤ length before
-      → ((s : AllPlaced line placing) → Makes r before after (ok (madeTable (layoutOf (s .stands .plan)) (map alone (s .placed)))))
-      → Makes r before after (laidTable (layoutOf (a .stands .plan)) (length before))
-  written-made r before after n e h m = rw (fits-in (length before) (omega arith)) (m a)
+    pub short-made : (starts buffer : List ℕ) {n : ℕ} → n ≡ tableLength (line .controls) (line .frames) → length buffer < n → starts ≡ replicate mostFrames 0
+        → Makes (tabled (Refused (BufferTooShort (record { 0 = n }))) line starts) buffer buffer (laidTable (layoutOf (s .plan)) (length buffer))
+    short-made starts buffer {n} e h z =
+        tabled-refused (BufferTooShort (record { 0 = n })) line starts buffer _ z
+        (too-short (length buffer) (omega arith) ∙ ap (refuse 13) (sym e))
 
-  -- the table's bytes from the arrays of a line and of its placed frames
-  abbrev bytesFrom : TableRows → List ℕ
-  bytesFrom rows =
-      tableIn (line .period .0) (tab (controlIn (line .«control_nodes») (line .«control_starts») (line .«control_stops»)) 0 (line .controls))
-      (tab (dataIn (rows .tasks) (rows .deadlines) (placing .starts) (rows .stops)) 0 (line .frames)) (line .controls) (line .frames)
+    -- the data rows of the placed frames, but for their starts
+    abbrev rows : TableRows
+    rows = tableRows (line .tasks) (line .deadlines) (line .times) (placing .numbers) (placing .starts) (line .frames)
 
-  pub written-table : (rows : TableRows) (start before after : List ℕ) (n : ℕ) → tableLength (line .controls) (line .frames) ≤ length before
-      → rows ≡ tableRows (line .tasks) (line .deadlines) (line .times) (placing .numbers) (placing .starts) (line .frames)
-      → after ≡ sets before 0 (bytesFrom rows) → start ≡ scattered (placing .numbers) (placing .starts) (line .frames) (replicate mostFrames 0)
-      → n ≡ tableLength (line .controls) (line .frames)
-      → Makes
-      (record {
-        answer = Made n;
-        rows = record { frames = line .frames; tasks = line .tasks; releases = line .releases; deadlines = line .deadlines; starts = start };
-      })
-      before after (ok (madeTable (layoutOf (a .stands .plan)) (map alone (a .placed))))
-  unfolding lineOf layoutOf pairs madeTable
-  written-table rows start before after n room e w t q =
-      let bytes : bytesFrom rows ≡ tableBytes (layoutOf (a .stands .plan)) (map alone (a .placed)) = rw (e, a .stands .is, a .is) (table-written (a .stands .plan) (a .placed) fair-of) in
-      makes-table (a .stands .plan) (a .placed) n _ before after fair-of (q ∙ rw (a .stands .is)) (omega arith)
-      (rows-are (a .stands .plan) (a .placed) fair-of _ (rw (a .stands .is)) (rw (a .stands .is)) (rw (a .stands .is)) (rw (a .stands .is)) (t ∙ rw (a .stands .is, a .is)))
-      (w ∙ ap (sets before 0) bytes)
+    pub written-made : (starts before after : List ℕ) {n : ℕ} → n ≡ tableLength (line .controls) (line .frames) → n ≤ length before
+        → after ≡ sets before 0 (bytesOf (lineIn line) (placing .starts) rows)
+        → starts ≡ scattered (placing .numbers) (placing .starts) (line .frames) (replicate mostFrames 0)
+        → Makes (tabled (Made n) line starts) before after (laidTable (layoutOf (s .plan)) (length before))
+    unfolding lineOf layoutOf pairs madeTable bytesOf
+    written-made starts before after {n} q room w t =
+        let bytes : bytesOf (lineIn line) (placing .starts) rows ≡ tableBytes (layoutOf (s .plan)) (map alone (a .placed)) =
+        rw (s .is, a .is) (table-written (s .plan) (a .placed) fair-of) in
+        rw (fits-in (length before) (omega arith))
+        (makes-table (s .plan) (a .placed) n _ before after fair-of (q ∙ rw (s .is)) (omega arith)
+        (rows-are (s .plan) (a .placed) fair-of _ (rw (s .is)) (rw (s .is)) (rw (s .is)) (rw (s .is)) (t ∙ rw (s .is, a .is)))
+        (w ∙ ap (sets before 0) bytes))

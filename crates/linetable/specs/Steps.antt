@@ -4,15 +4,16 @@ use mathlib.Core.List.{List, map}
 use lib.Dec.{leb}
 use lib.ListN.{length}
 use Prim.Native.Nat.{ℕ}
+use Rattle.laws.specs.Lists.{tab}
 use Rattle.laws.specs.Res.{Res, ok, _>>=_, _>>_, unless}
 use Rattle.rules.specs.Plan.{Plan, readPlan}
 use Rattle.rules.specs.Frames.{Layout, layout, layoutOf}
-use Rattle.rules.specs.LatestRelease.{Placed, latestRelease}
+use Rattle.rules.specs.LatestRelease.{latestRelease}
 use Rattle.rules.specs.Table.{alone, MadeTable, madeTable}
 use Rattle.line.specs.declared.Line.{Line}
-use Rattle.line.specs.Line.{lineOf}
-use Rattle.placing.specs.declared.Placing.{Placing}
-use Rattle.placing.specs.Placing.{laid}
+use Rattle.line.specs.Line.{Drawing, lineOf}
+use Rattle.rows.specs.Rows.{TableRows}
+use Rattle.table.specs.Rows.{controlIn, dataIn, tableIn}
 
 -- refusals 12 and 13 of a layout, and its table
 unfoldable pub laidTable : Layout → ℕ → Res MadeTable
@@ -22,17 +23,16 @@ laidTable l room = do
   unless 13 (length (t .table)) (leb (length (t .table)) room)
   ok t
 
--- The line is that of a plan file to which 1 to 11 do not apply.
-pub record Stands (line : Line) : Type 0 where
+-- The line and its frames are those of a plan file to which 1 to 11 do not apply.
+pub record Stands (line : Drawing) : Type 0 where
   pub file : List ℕ
   pub plan : Plan
   pub isRead : readPlan file ≡ ok plan
   pub isLaid : layout plan ≡ ok (layoutOf plan)
   pub is : line ≡ lineOf plan
 
--- The rule has placed every frame of the line.
-pub record AllPlaced (line : Line) (placing : Placing) : Type 0 where
-  pub stands : Stands line
-  pub placed : List Placed
-  pub rule : latestRelease (layoutOf (stands .plan)) ≡ ok placed
-  pub is : placing ≡ laid (ok placed)
+-- the bytes of a table, by the arrays of a line, the starts of its data rows and what else stands in them
+unfoldable pub bytesOf : Line → List ℕ → TableRows → List ℕ
+bytesOf line starts rows =
+    tableIn (line .period .0) (tab (controlIn (line .«control_nodes») (line .«control_starts») (line .«control_stops»)) 0 (line .controls))
+    (tab (dataIn (rows .tasks) (rows .deadlines) starts (rows .stops)) 0 (line .frames)) (line .controls) (line .frames)

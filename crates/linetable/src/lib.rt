@@ -1,24 +1,21 @@
-// The table of a line, by value: refusals 12 and 13, the table in a lent buffer, and the frame rows beside the answer.
+// The table of a line: refusals 12 and 13, the table in a lent buffer, and the starts of its frames in a lent array.
 ghost use mathlib.Core.Path.{_≡_};
-ghost use mathlib.Core.List.{[], map};
-ghost use lib.ListN.{length};
+ghost use lib.ListN.{length, replicate};
+ghost use lib.Seq.{sets};
 ghost use Prim.Native.Nat.{_≤_};
-ghost use Rattle.laws.specs.Res.{ok};
+ghost use Rattle.rules.specs.Limits.{mostFrames, mostNodes};
 ghost use Rattle.rules.specs.Frames.{layoutOf};
-ghost use Rattle.rules.specs.Table.{alone, madeTable};
-ghost use Rattle.rows.specs.Rows.{rowsLaid};
-ghost use Rattle.linetable.specs.Making.{Makes};
-ghost use Rattle.table.specs.Rows.{tableLength};
-ghost use Rattle.linetable.specs.Steps.{Stands, AllPlaced, laidTable};
-ghost use Rattle.linetable.specs.declared.Answer.the-variants.{Refused};
+ghost use Rattle.line.specs.Line.{drawing};
+ghost use Rattle.rows.specs.Rows.{tableRows};
+ghost use Rattle.linetable.specs.Making.{Makes, tabled};
+ghost use Rattle.linetable.specs.Steps.{Stands, laidTable, bytesOf};
 use answers::Refusal;
 use line::Line;
 use placing::Outcome;
-use placing::Placing;
 use placing::Rule;
-use rows::Rows;
 use table::write::table_length;
 use units::ByteCount;
+use units::Frame;
 
 pub enum Answer {
     // The length of the table at the front of the buffer.
@@ -26,34 +23,32 @@ pub enum Answer {
     Refused(Refusal),
 }
 
-// What making a table comes to, and the frame rows beside it: none where the plan is refused.
-pub struct Making {
-    pub answer: Answer,
-    pub rows: Rows,
-}
-
-pub fn refused(why: Refusal) -> Making
-    ensures { λ r. ⌜ r ≡ record { answer = Refused why; rows = rowsLaid [] } ⌝ }
+// Writes the table of frames that are placed to the front of the buffer. The numbers of the frames and their starts stand by start.
+fn write_placed<'a>(
+    buf: &mut [u8],
+    line: Line,
+    tasks: &'a [u8; Frame::MOST],
+    deadlines: &'a [u32; Frame::MOST],
+    numbers: &'a [u32; Frame::MOST],
+    by_start: &'a [u32; Frame::MOST],
+)
+    requires { ⌜ (line .controls ≤ mostNodes) × (line .frames ≤ mostFrames) ⌝ }
+    requires { ⌜ (length (now tasks) ≡ mostFrames) × (length (now deadlines) ≡ mostFrames) ⌝ }
+    ensures { λ _. ⌜ now (buf .exit) ≡ sets (now (buf .entry)) 0 (bytesOf line (now («by_start» .entry)) (tableRows (now (tasks .entry)) (now (deadlines .entry)) (line .times) (now (numbers .entry)) (now («by_start» .entry)) (line .frames))) ⌝ }
 {
-    Making {
-        answer: Answer::Refused(why),
-        rows: Rows::none(),
-    }
-}
-
-// The table of frames that are placed, at the front of the buffer, and the frame rows with its starts.
-fn written(line: Line, placing: Placing, buf: &mut [u8]) -> Making
-    requires { ⌜ AllPlaced line placing ⌝ }
-    requires { ⌜ tableLength (line .controls) (line .frames) ≤ length (now buf) ⌝ }
-    ensures { λ r. ⌜ ((s : AllPlaced line placing) → Makes r (now (buf .entry)) (now (buf .exit)) (ok (madeTable (layoutOf (s .stands .plan)) (map alone (s .placed))))) ⌝ }
-{
-    let data = rows::table_rows(
-        &line.tasks,
-        &line.deadlines,
+    let mut row_tasks = [0u8; Frame::MOST];
+    let mut row_deadlines = [0u32; Frame::MOST];
+    let mut row_stops = [0u32; Frame::MOST];
+    rows::table_rows(
+        tasks,
+        deadlines,
         &line.times,
-        &placing.numbers,
-        &placing.starts,
+        numbers,
+        by_start,
         line.frames,
+        &mut row_tasks,
+        &mut row_deadlines,
+        &mut row_stops,
     );
     table::write::write_table(
         &mut *buf,
@@ -62,56 +57,55 @@ fn written(line: Line, placing: Placing, buf: &mut [u8]) -> Making
         &line.control_starts,
         &line.control_stops,
         line.controls,
-        &data.tasks,
-        &data.deadlines,
-        &placing.starts,
-        &data.stops,
+        &row_tasks,
+        &row_deadlines,
+        by_start,
+        &row_stops,
         line.frames,
     );
-    let starts = rows::starts_by_number(&placing.numbers, &placing.starts, line.frames);
-    let tasks = line.tasks;
-    let releases = line.releases;
-    let deadlines = line.deadlines;
-    Making {
-        answer: Answer::Made(table_length(line.controls, line.frames)),
-        rows: Rows {
-            frames: line.frames,
-            tasks,
-            releases,
-            deadlines,
-            starts,
-        },
-    }
 }
 
-// Refusals 12 and 13 of a line, and its table.
-pub fn placed_table(line: Line, buf: &mut [u8]) -> Making
-    requires { ⌜ Stands line ⌝ }
-    ensures { λ r. ⌜ ((s : Stands line) → Makes r (now (buf .entry)) (now (buf .exit)) (laidTable (layoutOf (s .plan)) (length (now (buf .entry))))) ⌝ }
+// Refusals 12 and 13 of a line, and its table. The starts by frame number go into `starts`, zeros before, which stay where it refuses.
+pub fn placed_table<'a>(
+    line: Line,
+    tasks: &'a [u8; Frame::MOST],
+    releases: &'a [u32; Frame::MOST],
+    deadlines: &'a [u32; Frame::MOST],
+    starts: &mut [u32; Frame::MOST],
+    buf: &mut [u8],
+) -> Answer
+    requires { ⌜ Stands (drawing line (now tasks) (now releases) (now deadlines)) ⌝ }
+    requires { ⌜ now starts ≡ replicate mostFrames 0 ⌝ }
+    ensures { λ r. ⌜ ((s : Stands (drawing line (now (tasks .entry)) (now (releases .entry)) (now (deadlines .entry)))) → Makes (tabled r (drawing line (now (tasks .entry)) (now (releases .entry)) (now (deadlines .entry))) (now (starts .exit))) (now (buf .entry)) (now (buf .exit)) (laidTable (layoutOf (s .plan)) (length (now (buf .entry))))) ⌝ }
 {
     let rule = Rule {
         resolution: line.resolution,
         gap: line.gap,
         floor: line.floor,
     };
-    let placing = placing::place_all(
-        &line.tasks,
-        &line.releases,
-        &line.deadlines,
+    let mut numbers = [0u32; Frame::MOST];
+    let mut by_start = [0u32; Frame::MOST];
+    let outcome = placing::place_all(
+        tasks,
+        releases,
+        deadlines,
         &line.times,
         line.frames,
         rule,
         placing::before(line.period, line.gap),
+        &mut numbers,
+        &mut by_start,
     );
-    let outcome = placing.outcome;
     match outcome {
         Outcome::All => {
             let needed = table_length(line.controls, line.frames);
             if buf.len() < needed {
-                return refused(Refusal::BufferTooShort(ByteCount(needed as u32)));
+                return Answer::Refused(Refusal::BufferTooShort(ByteCount(needed as u32)));
             }
-            written(line, placing, &mut *buf)
+            write_placed(&mut *buf, line, tasks, deadlines, &numbers, &by_start);
+            rows::starts_by_number(&numbers, &by_start, line.frames, starts);
+            Answer::Made(needed)
         }
-        Outcome::Refused(number) => refused(Refusal::NoRoom(number)),
+        Outcome::Refused(number) => Answer::Refused(Refusal::NoRoom(number)),
     }
 }

@@ -1,4 +1,4 @@
--- The rules' `make` over lent rows, put together from what `made` answers by value.
+-- The rules' `make` over lent rows, put together from the ruling that `made` is held to.
 use mathlib.Core.Path.{_≡_, refl, sym, ap}
 use mathlib.Core.Bool.{Bool, true, false, cond}
 use mathlib.Core.List.{List}

@@ -3,7 +3,7 @@ use mathlib.Core.Path.{_≡_, refl, sym, ap, ap₂, _∙_}
 use mathlib.Core.List.{List}
 use borrow.Author.Tests.{le-leb, lt-leb}
 use lib.Dec.{leb}
-use lib.ListN.{length, take, drop}
+use lib.ListN.{length, take, drop, replicate}
 use lib.Seq.{take-at}
 use Prim.Native.Nat.{ℕ, _≤_, _<_}
 use Rattle.laws.specs.Res.{Res, ok, refuse, unless}
@@ -19,12 +19,16 @@ use Rattle.answers.specs.declared.Refusal.{Refusal}
 use Rattle.answers.specs.Refusals.{said, heard}
 use Rattle.line.specs.declared.Laid.{Laid}
 use Rattle.answers.specs.declared.Verdict.the-variants.{Fine, Refused as LineRefused}
-use Rattle.line.specs.Line.{lineOf, lineFor}
+use Rattle.line.specs.Line.{Drawing, drawing, noLine, lineOf, lineFor}
 use Rattle.line.specs.Laying.{Lays, laid, fileLaid, verdict}
-use Rattle.linetable.specs.declared.Making.{Making}
-use Rattle.maker.specs.Making.{PassesCheck, lentFor}
-use Rattle.linetable.specs.Making.{heardMade, lengthOf, bufferLeft, Makes}
+use Rattle.rows.specs.Rows.{Rows}
+use Rattle.rows.specs.Frames.{NoRows}
+use Rattle.linetable.specs.declared.Answer.the-variants.{Refused}
+use Rattle.linetable.specs.Making.{Making, Makes, heardMade, lengthOf, bufferLeft}
 use Rattle.linetable.specs.Steps.{Stands, laidTable}
+use Rattle.linetable.proofs.Ways.{makes-refused, no-rows}
+use Rattle.maker.specs.declared.MadeRows.{MadeRows}
+use Rattle.maker.specs.Making.{PassesCheck, lentFor, making}
 
 -- ---- 19, and refusals 1 to 11
 
@@ -48,23 +52,32 @@ module _ (plan : List ℕ) (lent room : ℕ) where
   unfolding tableFor laidTable
   file-laid p l q r = rw (q, r)
 
-  module _ (enough : mostFrames ≤ lent) (r : Laid) (h : Lays r (fileLaid plan)) where
-    pub plan-refused : (why : Refusal) → r .answer ≡ LineRefused why → lentFor plan lent room ≡ said why
-    plan-refused why e = rows-enough enough ∙ go (fileLaid plan) refl (sym (ap heard e) ∙ h .answered)
+  module _ (enough : mostFrames ≤ lent) (r : Laid) {tasks releases deadlines : List ℕ} (h : Lays r tasks releases deadlines (fileLaid plan)) where
+    -- the rules refuse the plan for the same reason, and no frames were left
+    pub record RefusedFor (why : Refusal) : Type 0 where
+      pub rule : lentFor plan lent room ≡ said why
+      pub frames : drawing (r .line) tasks releases deadlines ≡ noLine
+
+    pub plan-refused : (why : Refusal) → r .answer ≡ LineRefused why → RefusedFor why
+    plan-refused why e = go (fileLaid plan) refl (sym (ap heard e) ∙ h .answered) (h .left)
       where
-        go : (rule : Res Plan) → fileLaid plan ≡ rule → said why ≡ verdict rule → tableFor plan room ≡ said why
-        go (ok a) q v = refuse≢ok v
-        go (refuse n p) q v = file-refused n p q ∙ ap₂ refuse (sym (refuse-number v)) (sym (refuse-place v))
+        go : (rule : Res Plan) → fileLaid plan ≡ rule → said why ≡ verdict rule → drawing (r .line) tasks releases deadlines ≡ lineFor rule → RefusedFor why
+        go (ok a) q v w = refuse≢ok v
+        go (refuse n p) q v w =
+            record {
+              rule = rows-enough enough ∙ file-refused n p q ∙ ap₂ refuse (sym (refuse-number v)) (sym (refuse-place v));
+              frames = w;
+            }
 
     pub record StandsFor : Type 0 where
-      pub stands : Stands (r .line)
+      pub stands : Stands (drawing (r .line) tasks releases deadlines)
       pub rule : lentFor plan lent room ≡ laidTable (layoutOf (stands .plan)) room
 
     pub plan-sound : r .answer ≡ Fine → StandsFor
     unfolding fileLaid laid
     plan-sound e = go (fileLaid plan) refl (sym (ap heard e) ∙ h .answered) (h .left)
       where
-        go : (rule : Res Plan) → fileLaid plan ≡ rule → ok tt ≡ verdict rule → r .line ≡ lineFor rule → StandsFor
+        go : (rule : Res Plan) → fileLaid plan ≡ rule → ok tt ≡ verdict rule → drawing (r .line) tasks releases deadlines ≡ lineFor rule → StandsFor
         go (ok a) q v w =
             bind-case (readPlan plan) laid q λ p isRead x.
             then-case (layout p) (ok p) x λ l y same.
@@ -91,13 +104,30 @@ made-table-passes plan lent r before after m n e rows w =
         let long : length (t .table) ≡ n = sym (ok-injective v) in
         rw (u, take-at (t .table) (drop (length (t .table)) before) n long, made-checked (table-made plan (length before) t made) rows w)
 
--- what `made` says of its result
-pub made-says : (plan : List ℕ) (lent : ℕ) (r : Making) (before after : List ℕ) → Makes r before after (lentFor plan lent (length before))
-    → Makes r before after (lentFor plan lent (length before)) × PassesCheck plan (r .answer) after
-made-says plan lent r before after m = (m, made-table-passes plan lent r before after m)
+-- ---- what `made` says of its result
 
-pub placed-made : (plan : List ℕ) (lent : ℕ) (laid : Laid) (r : Making) (before after : List ℕ) {enough : mostFrames ≤ lent} {h : Lays laid (fileLaid plan)}
-    → (f : StandsFor plan lent (length before) enough laid h)
-    → ((s : Stands (laid .line)) → Makes r before after (laidTable (layoutOf (s .plan)) (length before)))
-    → Makes r before after (lentFor plan lent (length before)) × PassesCheck plan (r .answer) after
-placed-made plan lent laid r before after f m = made-says plan lent r before after (rw (f .rule) (m (f .stands)))
+module _ (plan : List ℕ) (lent : ℕ) where
+  made-says : (r : Making) (before after : List ℕ) → Makes r before after (lentFor plan lent (length before))
+      → Makes r before after (lentFor plan lent (length before)) × PassesCheck plan (r .answer) after
+  made-says r before after m = (m, made-table-passes plan lent r before after m)
+
+  -- a refusal leaves zeros in the arrays
+  pub refused-made : (why : Refusal) (r : MadeRows) (buffer : List ℕ) {tasks releases deadlines starts : List ℕ} → r ≡ record { answer = Refused why; frames = 0 }
+      → NoRows tasks releases deadlines starts → lentFor plan lent (length buffer) ≡ said why
+      → Makes (making r tasks releases deadlines starts) buffer buffer (lentFor plan lent (length buffer)) × PassesCheck plan (r .answer) buffer
+  refused-made why r buffer e z q =
+      made-says _ buffer buffer
+      (makes-refused why _ buffer buffer _ (rw e (ap (λ (rows : Rows). record { answer = Refused why; rows = rows }) (no-rows z))) refl q)
+
+  module _ {enough : mostFrames ≤ lent} (laid : Laid) {tasks releases deadlines : List ℕ} {h : Lays laid tasks releases deadlines (fileLaid plan)} where
+    -- where the plan is refused, the frames are none, so that the arrays are zeros as the starts are
+    pub none-left : {room : ℕ} {why : Refusal} {starts : List ℕ} → RefusedFor plan lent room enough laid h why → starts ≡ replicate mostFrames 0
+        → NoRows tasks releases deadlines starts
+    unfolding noLine
+    none-left f z =
+        (ap (λ (d : Drawing). d .tasks) (f .frames), (ap (λ (d : Drawing). d .releases) (f .frames), (ap (λ (d : Drawing). d .deadlines) (f .frames), z)))
+
+    pub placed-made : (r : Making) (before after : List ℕ) (f : StandsFor plan lent (length before) enough laid h)
+        → ((s : Stands (drawing (laid .line) tasks releases deadlines)) → Makes r before after (laidTable (layoutOf (s .plan)) (length before)))
+        → Makes r before after (lentFor plan lent (length before)) × PassesCheck plan (r .answer) after
+    placed-made r before after f m = made-says r before after (rw (f .rule) (m (f .stands)))

@@ -8,8 +8,15 @@ use Rattle.laws.specs.Res.{Res, ok, _>>_, unless}
 use Rattle.rules.specs.Limits.{mostFrames}
 use Rattle.rules.specs.Table.{FrameRow, MadeTable, tableFor}
 use Rattle.rules.specs.Checker.{check}
+use Rattle.rows.specs.Frames.{rowsWith}
 use Rattle.linetable.specs.declared.Answer.{Answer}
 use Rattle.linetable.specs.declared.Answer.the-variants.{Made}
+use Rattle.linetable.specs.Making.{Making}
+use Rattle.maker.specs.declared.MadeRows.{MadeRows}
+
+-- the answer with the frame rows that stand in the lent arrays
+abbrev pub making : MadeRows → List ℕ → List ℕ → List ℕ → List ℕ → Making
+making r tasks releases deadlines starts = record { answer = r .answer; rows = rowsWith (r .frames) tasks releases deadlines starts }
 
 -- 19, too few frame rows lent, before all others.
 unfoldable pub lentFor : List ℕ → ℕ → ℕ → Res MadeTable

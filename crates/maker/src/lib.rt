@@ -1,26 +1,86 @@
-// The whole of making a table, by value: from a plan file to the table in a lent buffer, with the frame rows beside the answer.
-ghost use lib.ListN.{length};
-ghost use Rattle.maker.specs.Making.{PassesCheck, lentFor};
+// The whole of making a table: from a plan file to the table in a lent buffer, with the frame rows in arrays that are lent, zeros before.
+ghost use mathlib.Core.Path.{_≡_};
+ghost use lib.ListN.{length, replicate};
+ghost use Rattle.rules.specs.Limits.{mostFrames};
+ghost use Rattle.rules.specs.Frames.{layoutOf};
+ghost use Rattle.line.specs.Line.{drawing};
+ghost use Rattle.rows.specs.Frames.{NoRows};
+ghost use Rattle.linetable.specs.declared.Answer.the-variants.{Refused};
 ghost use Rattle.linetable.specs.Making.{Makes};
+ghost use Rattle.linetable.specs.Steps.{Stands, laidTable};
+ghost use Rattle.maker.specs.Making.{PassesCheck, lentFor, making};
 use answers::Refusal;
 use answers::Verdict;
-use linetable::Making;
+use line::Line;
+use linetable::Answer;
 use linetable::placed_table;
-use linetable::refused;
 use units::Frame;
 
-// A table from a plan file, with `lent` frame rows lent; or the first refusal of 19 and 1 to 13 that applies, at its lowest place.
-pub fn made(plan: &[u8], lent: usize, buf: &mut [u8]) -> Making
-    ensures { λ r. ⌜ Makes r (now (buf .entry)) (now (buf .exit)) (lentFor (now (plan .entry)) lent (length (now (buf .entry)))) ⌝ }
+// What making a table comes to, and how many frames stand in the lent arrays: none where the plan is refused.
+pub struct MadeRows {
+    pub answer: Answer,
+    pub frames: usize,
+}
+
+fn refused(why: Refusal) -> MadeRows
+    ensures { λ r. ⌜ r ≡ record { answer = Refused why; frames = 0 } ⌝ }
+{
+    MadeRows {
+        answer: Answer::Refused(why),
+        frames: 0,
+    }
+}
+
+// The table of a line, or refusal 12 or 13: then its frames are taken back.
+fn made_of(
+    line: Line,
+    buf: &mut [u8],
+    tasks: &mut [u8; Frame::MOST],
+    releases: &mut [u32; Frame::MOST],
+    deadlines: &mut [u32; Frame::MOST],
+    starts: &mut [u32; Frame::MOST],
+) -> MadeRows
+    requires { ⌜ Stands (drawing line (now tasks) (now releases) (now deadlines)) ⌝ }
+    requires { ⌜ now starts ≡ replicate mostFrames 0 ⌝ }
+    ensures { λ r. ⌜ ((s : Stands (drawing line (now (tasks .entry)) (now (releases .entry)) (now (deadlines .entry)))) → Makes (making r (now (tasks .exit)) (now (releases .exit)) (now (deadlines .exit)) (now (starts .exit))) (now (buf .entry)) (now (buf .exit)) (laidTable (layoutOf (s .plan)) (length (now (buf .entry))))) ⌝ }
+{
+    let answer = placed_table(line, tasks, releases, deadlines, starts, &mut *buf);
+    match answer {
+        Answer::Made(length) => MadeRows {
+            answer: Answer::Made(length),
+            frames: line.frames,
+        },
+        Answer::Refused(why) => {
+            *tasks = [0; Frame::MOST];
+            *releases = [0; Frame::MOST];
+            *deadlines = [0; Frame::MOST];
+            refused(why)
+        }
+    }
+}
+
+// A table from a plan file, with `lent` frame rows lent; or the first refusal of 19 and 1 to 13 that applies, at its lowest place. The
+// frames by number and their starts go into the arrays, which are zeros again where it refuses.
+pub fn made(
+    plan: &[u8],
+    lent: usize,
+    buf: &mut [u8],
+    tasks: &mut [u8; Frame::MOST],
+    releases: &mut [u32; Frame::MOST],
+    deadlines: &mut [u32; Frame::MOST],
+    starts: &mut [u32; Frame::MOST],
+) -> MadeRows
+    requires { ⌜ NoRows (now tasks) (now releases) (now deadlines) (now starts) ⌝ }
+    ensures { λ r. ⌜ Makes (making r (now (tasks .exit)) (now (releases .exit)) (now (deadlines .exit)) (now (starts .exit))) (now (buf .entry)) (now (buf .exit)) (lentFor (now (plan .entry)) lent (length (now (buf .entry)))) ⌝ }
     ensures { λ r. ⌜ PassesCheck (now (plan .entry)) (r .answer) (now (buf .exit)) ⌝ }
 {
     if lent < Frame::MOST {
         return refused(Refusal::TooFewRows);
     }
-    let laid = line::lay_out(plan);
+    let laid = line::lay_out(plan, tasks, releases, deadlines);
     let answer = laid.answer;
     match answer {
-        Verdict::Fine => placed_table(laid.line, &mut *buf),
+        Verdict::Fine => made_of(laid.line, &mut *buf, tasks, releases, deadlines, starts),
         Verdict::Refused(why) => refused(why),
     }
 }

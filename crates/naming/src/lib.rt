@@ -93,12 +93,13 @@ pub fn numbers<'a>(
     row_tasks: &'a [u8; Frame::MOST],
     row_deadlines: &'a [u32; Frame::MOST],
     rows: usize,
-) -> [usize; Frame::MOST]
+    found: &mut [usize; Frame::MOST],
+)
     requires { ⌜ Numbered (now tasks) (now deadlines) frames ⌝ }
     requires { ⌜ rows ≤ mostFrames ⌝ }
-    ensures { λ r. ⌜ r ≡ stores (replicate mostFrames 0) (numberAt (now (tasks .entry)) (now (deadlines .entry)) frames (now («row_tasks» .entry)) (now («row_deadlines» .entry))) rows ⌝ }
+    requires { ⌜ now found ≡ replicate mostFrames 0 ⌝ }
+    ensures { λ _. ⌜ now (found .exit) ≡ stores (replicate mostFrames 0) (numberAt (now (tasks .entry)) (now (deadlines .entry)) frames (now («row_tasks» .entry)) (now («row_deadlines» .entry))) rows ⌝ }
 {
-    let mut found = [0; Frame::MOST];
     let mut k = 0;
     while k < rows {
         found[k] = number_of(
@@ -111,7 +112,6 @@ pub fn numbers<'a>(
         );
         k += 1;
     }
-    found
 }
 
 // The first row that names no frame, or one that a row before it names.
@@ -141,11 +141,12 @@ pub fn starts_by_frame(
     numbers: &[usize; Frame::MOST],
     starts: &[u32; Frame::MOST],
     rows: usize,
-) -> [u32; Frame::MOST]
+    out: &mut [u32; Frame::MOST],
+)
     requires { ⌜ rows ≤ mostFrames ⌝ }
-    ensures { λ r. ⌜ r ≡ spread (now (numbers .entry)) (now (starts .entry)) rows ⌝ }
+    requires { ⌜ now out ≡ replicate mostFrames 0 ⌝ }
+    ensures { λ _. ⌜ now (out .exit) ≡ spread (now (numbers .entry)) (now (starts .entry)) rows ⌝ }
 {
-    let mut out = [0; Frame::MOST];
     let mut k = 0;
     while k < rows {
         let f = numbers[k];
@@ -155,5 +156,4 @@ pub fn starts_by_frame(
             out[f] = start;
         }
     }
-    out
 }

@@ -14,9 +14,8 @@ use Rattle.rules.proofs.MadePasses.{table-made}
 use Rattle.units.specs.declared.Frame.{Frame}
 use Rattle.rows.specs.Frames.{rowOf, filled}
 use Rattle.rows.proofs.Laid.{filled-is}
-use Rattle.linetable.specs.declared.Making.{Making}
 use Rattle.maker.specs.Making.{lentFor}
-use Rattle.linetable.specs.Making.{Makes, heardMade, rowsOf}
+use Rattle.linetable.specs.Making.{Making, Makes, heardMade, rowsOf}
 use Rattle.maker.proofs.Lent.{ruling, make-answer, make-buffer, make-rows}
 use Rattle.outward.specs.declared.Answer.{Answer}
 use Rattle.outward.specs.Answers.{madeOf}

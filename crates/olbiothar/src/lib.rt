@@ -4,9 +4,11 @@
 // reference to a struct, so these are thin: covered functions answer by value, and the passes of `rows` bring it into the lent rows.
 ghost use mathlib.Core.Path.{_≡_};
 ghost use Rattle.olbiothar.specs.Lent.{ChecksRows, MakesRows};
+ghost use Rattle.olbiothar.specs.Scanned.{Scans};
 ghost use Rattle.rules.specs.Station.{begin};
 ghost use Rattle.stationruns.specs.Inputs.{startingAt};
 ghost use Rattle.olbiothar.specs.Playing.{Ticks, begunBy};
+use checker::CheckedRows;
 use outward::Answer;
 use outward::TickAnswer;
 use outward::answer_before_nodes;
@@ -15,6 +17,8 @@ use outward::made;
 use rows::passes::clear;
 use rows::passes::fill;
 use rows::passes::some_early;
+use rows::passes::zero_bytes;
+use rows::passes::zero_words;
 use station::Station;
 use station::nodes_after_tick;
 use stationruns::Input;
@@ -26,8 +30,20 @@ use units::Frame;
 pub extern "C" fn olbiothar_make(plan: &[u8], rows: &mut [Frame], table: &mut [u8]) -> Answer
     ensures { λ r. ⌜ MakesRows r (now (plan .entry)) (now (rows .entry)) (now (rows .exit)) (now (table .entry)) (now (table .exit)) ⌝ }
 {
-    let making = maker::made(plan, rows.len(), table);
-    fill(rows, making.rows);
+    let mut tasks = zero_bytes();
+    let mut releases = zero_words();
+    let mut deadlines = zero_words();
+    let mut starts = zero_words();
+    let making = maker::made(
+        plan,
+        rows.len(),
+        table,
+        &mut tasks,
+        &mut releases,
+        &mut deadlines,
+        &mut starts,
+    );
+    fill(rows, making.frames, &tasks, &releases, &deadlines, &starts);
     made(making.answer)
 }
 
@@ -37,11 +53,38 @@ pub extern "C" fn olbiothar_make(plan: &[u8], rows: &mut [Frame], table: &mut [u
 pub extern "C" fn olbiothar_check(plan: &[u8], table: &[u8], rows: &mut [Frame]) -> Answer
     ensures { λ r. ⌜ ChecksRows r (now (plan .entry)) (now (table .entry)) (now (rows .entry)) (now (rows .exit)) ⌝ }
 {
-    let unscanned = checker::judged(plan, table, rows.len(), false);
-    fill(rows, unscanned.rows);
-    let early = some_early(rows, false);
+    let mut tasks = zero_bytes();
+    let mut releases = zero_words();
+    let mut deadlines = zero_words();
+    let mut starts = zero_words();
+    let unscanned = checker::judged(
+        plan,
+        table,
+        rows.len(),
+        false,
+        &mut tasks,
+        &mut releases,
+        &mut deadlines,
+        &mut starts,
+    );
+    fill(
+        rows,
+        unscanned.frames,
+        &tasks,
+        &releases,
+        &deadlines,
+        &starts,
+    );
+    scanned(plan, table, rows, unscanned)
+}
+
+// The rows of a table that was judged by all rules but 25, looked through for an early one.
+fn scanned(plan: &[u8], table: &[u8], rows: &mut [Frame], unscanned: CheckedRows) -> Answer
+    ensures { λ r. ⌜ Scans r (now (plan .entry)) (now (table .entry)) unscanned (now (rows .entry)) (now (rows .exit)) ⌝ }
+{
+    let early = some_early(rows, unscanned.frames, false);
     let settled = checker::settled(plan, table, rows.len(), unscanned.answer, early);
-    clear(rows, settled.refused);
+    clear(rows, unscanned.frames, settled.refused);
     judged(settled.answer)
 }
 

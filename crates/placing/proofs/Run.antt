@@ -23,7 +23,7 @@ use Rattle.rules.specs.LatestRelease.{Numbered, Placed, numberedFrom, place, fi
 use Rattle.rules.specs.LatestRelease as rule
 use Rattle.laws.proofs.Laid.{tab-same}
 use Rattle.placing.specs.declared.Outcome.the-variants.{All as AllPlaced}
-use Rattle.placing.specs.Placing.{frameAt, timeOf, inserted, outsideAt, admitted, lowEndAt, laid, numberOf, startOf}
+use Rattle.placing.specs.Placing.{frameAt, timeOf, inserted, outsideAt, admitted, lowEndAt, placed, laid, numberOf, startOf}
 use Rattle.placing.proofs.Pool.{numbered, keyOf, entered, poolAt, lowEnd, topOf, restOf, placedAt, machine, machine-is, Falling}
 use Rattle.placing.proofs.Pool as pool
 use Rattle.placing.proofs.Keys.{topDown, put, topDown-inserted, length-inserted, some-enter}
@@ -388,7 +388,7 @@ module _ (task release deadline : List ℕ) where
     -- ---- the loop's end, and its beginning
 
     pub going-end : {keys number start : List ℕ} {left outside low : ℕ} → Going keys number start left outside low → left ≤ 0
-        → record { outcome = AllPlaced; numbers = number; starts = start } ≡ laid (runFrom count e₀ count [] [])
+        → placed AllPlaced number start ≡ laid (runFrom count e₀ count [] [])
     unfolding machine
     going-end {keys} {number} {start} {left = zero} {outside} {low} g h =
         rw (g .whole)

@@ -1,4 +1,4 @@
--- A call, out of a walk, of a covered function with one plain parameter, or with two, and no `requires`: `Says x r` is what its contract says of the result r at x.
+-- A call, out of a walk, of a covered function with one plain parameter, with two or with none, and no `requires`: `Says x r` is what its contract says of the result r at x.
 -- `os` reads the operands with any entry in front of the rest of the context; the result's machine value is written as its type's laws spell it. Assumes `Given`, and that the callee meets its contract.
 use mathlib.Core.Path.{_≡_, sym, ap, subst}
 use mathlib.Core.List.{List, [], _∷_}
@@ -90,3 +90,35 @@ module _ (P Q R : RattleType) (Says : P .Denot → Q .Denot → R .Denot → Typ
           facts t R (Is R) (shows 𝓤 H A R) r (u ∷ []) (λ isR.
           let spelled : u ≡ only (vals r) = ap only (tells r (u ∷ []) isR) in
           subst (λ (z : Val). Seq K W Γ (lands C Λ E d z rest q)) (sym spelled) (after r e (subst (λ (z : Val). Is R r (z ∷ [])) spelled isR))))))
+
+-- ---- a call without parameters: `Says r` is what the contract says of the result
+module _ (R : RattleType) (Says : R .Denot → Type 0) where
+  abbrev noneEnded : Ended
+  noneEnded = record { signature = record { lifetimes = 0; outlives = []; params = []; result = plain (λ κs. R) }; kept = tt }
+
+  module _ {M : Type 1} (𝓤 : URA M) (H : Heap 𝓤) (A : Atoms 𝓤) where
+    abbrev noneClauses : Clauses 𝓤 noneEnded
+    noneClauses κs a = record { ghost = Unit {0}; requires = λ _. emp 𝓤; ensures = λ _ r _. fact 𝓤 (Says r) }
+
+    abbrev pub Gives : Contract 𝓤
+    Gives = tripleOf 𝓤 H A (noneEnded .signature) (closing 𝓤 H A noneEnded noneClauses)
+
+    said-so : (r : R .Denot) → ent 𝓤 (ensured 𝓤 H A noneEnded noneClauses tt tt tt r) (fact 𝓤 (Says r))
+    said-so r = exE 𝓤 _ (λ ws. snd∗ 𝓤 (sem 𝓤 H A (lasts noneEnded tt tt ws)) (fact 𝓤 (Says r)))
+
+    abbrev to-none : Gives .Ghost
+    to-none = ((tt, tt, tt, tt, tt), tt)
+
+    module _ (W : Given 𝓤 H A) where
+      goes-none : ent 𝓤 (emp 𝓤) (Gives .pre to-none)
+      goes-none = qed W [] ∵ nothing ! $ nothing ! $ join ! $ frame ! $ done !
+
+      pub calls-none : {K : Type 0} {Γ : List (Item 𝓤)} {E : Env 𝓤 H} {C : Calls 𝓤 H} {Λ : Loops 𝓤 H} {q : Post 𝓤 H} {k : Name} {xs : List Operand} {d : Place} {rest : Body}
+          → K → FmC 𝓤 H (W .laws) C → Triple 𝓤 (C k) Gives → ((I : Item 𝓤) → Opds K W (I ∷ Γ) E xs [])
+          → ((r : R .Denot) (v : Val) → Says r → Is R r (v ∷ []) → Seq K W Γ (lands C Λ E d v rest q)) → Seq K W Γ (runs C Λ E (seq (call k xs d) rest) q)
+      calls-none {K} {Γ} {E} {C} {Λ} {q} {k} {xs} {d} {rest} t fm known os after =
+          use0 W (raw (Gives .pre to-none)) goes-none $
+          calls-at t fm Gives known to-none (os _) (λ w.
+          use1 W (later (some (λ (r : R .Denot). (‵ ftrue ⊛ ‵ (R .own r (w ∷ []))) ⊛ raw (ensured 𝓤 H A noneEnded noneClauses tt tt tt r)))) (id⊢ 𝓤 _) $ await t tt $ pick t (λ r.
+          split t $ move t (1 ∷ []) $ use1 W (raw (fact 𝓤 (Says r))) (said-so r) $ heard t (Says r) (λ e. split t $ drop t $
+          facts t R (Is R) (shows 𝓤 H A R) r (w ∷ []) (λ isR. after r w e isR))))

@@ -1,23 +1,21 @@
--- The numbers of `fill`: the frame table read at a row's place, and the rows after its two passes.
-use mathlib.Core.Path.{_≡_, sym, ap, ap₂, _∙_}
+-- The numbers of `fill`: a row, and the rows after its two loops.
+use mathlib.Core.Path.{_≡_, sym, ap, _∙_}
 use mathlib.Core.List.{List}
 use mathlib.Core.Logic.{_⊎_, inl, inr}
-use native.Mathlib.Nat.{zero-add, eq-or-lt-of-le}
+use native.Mathlib.Nat.{le-refl, eq-or-lt-of-le}
 use native.Mathlib.Omega.{arith}
-use lib.ListN.{length, getD, replicate, length-replicate, getD-replicate}
+use lib.ListN.{length, getD}
 use borrow.Author.Tests.{lt-ltb, le-ltb, le-leb, lt-leb}
-use Prim.Native.Nat.{suc, ℕ, _≤_, _<_}
+use Prim.Native.Nat.{ℕ, _≤_, _<_}
 use Rattle.rules.specs.Limits.{mostFrames}
 use Rattle.laws.specs.Lists.{tab}
 use Rattle.laws.specs.Loops.{stores}
 use Rattle.laws.proofs.Orders.{le-or-lt}
-use Rattle.laws.proofs.Lists.{length-tab, getD-tab}
-use Rattle.laws.proofs.Laid.{tab-same}
-use Rattle.laws.proofs.Loops.{stores-all, stores-at, stores-beyond, stores-next, length-stores}
-use Rattle.rows.specs.declared.Rows.{Rows}
+use Rattle.laws.proofs.Arrays.{tab-list}
+use Rattle.laws.proofs.Loops.{stores-at, stores-beyond, length-stores}
+use Rattle.rows.specs.Rows.{Rows}
 use Rattle.units.specs.declared.Frame.{Frame}
-use Rattle.rows.specs.Frames.{zeroFrame, withinPlaces, frameAt, frameIn, frameTable, endIn, filled}
-use Rattle.rows.specs.Passes.{derivedRow, startedRow, tabledRow, tabled}
+use Rattle.rows.specs.Frames.{zeroFrame, withinPlaces, frameAt, frameIn, endIn, endOf, filled}
 
 -- ---- at most 1,024
 
@@ -53,11 +51,19 @@ pub end-all : (n : ℕ) → mostFrames ≤ n → n ≡ endIn n
 unfolding endIn
 end-all n h = rw (le-ltb n mostFrames h)
 
--- ---- the frame table
+-- those that have a frame
+pub end-short : (frames n : ℕ) → n < mostFrames → 0 ≡ endOf frames n
+unfolding endOf
+end-short frames n h = rw (lt-ltb n mostFrames h)
 
-pub length-table : (r : Rows) → length (frameTable r) ≡ (suc mostFrames)
-unfolding frameTable
-length-table r = length-stores (replicate (suc mostFrames) zeroFrame) (frameAt r) (withinPlaces (r .frames)) ∙ length-replicate (suc mostFrames) zeroFrame
+pub end-within : (frames n : ℕ) → mostFrames ≤ n → withinPlaces frames ≡ endOf frames n
+unfolding endOf
+end-within frames n h = rw (le-ltb n mostFrames h)
+
+pub end-frames : (frames n : ℕ) → frames ≤ mostFrames → mostFrames ≤ n → frames ≡ endOf frames n
+end-frames frames n few h = within-all frames few ∙ end-within frames n h
+
+-- ---- a row
 
 pub frame-there : (r : Rows) (k : ℕ) → k < withinPlaces (r .frames) → frameIn r k ≡ frameAt r k
 unfolding frameIn
@@ -66,29 +72,6 @@ frame-there r k h = rw (lt-ltb k (withinPlaces (r .frames)) h)
 pub frame-behind : (r : Rows) (k : ℕ) → withinPlaces (r .frames) ≤ k → frameIn r k ≡ zeroFrame
 unfolding frameIn
 frame-behind r k h = rw (le-ltb k (withinPlaces (r .frames)) h)
-
-table-there : (r : Rows) (k : ℕ) → k < withinPlaces (r .frames) → getD (frameTable r) k zeroFrame ≡ frameAt r k
-unfolding frameTable
-table-there r k h =
-    let w : withinPlaces (r .frames) ≤ length (replicate (suc mostFrames) zeroFrame) = rw (length-replicate (suc mostFrames) zeroFrame) (omega (arith, within-most (r .frames))) in
-    stores-at (replicate (suc mostFrames) zeroFrame) (frameAt r) (withinPlaces (r .frames)) k zeroFrame h w
-
-table-behind : (r : Rows) (k : ℕ) → withinPlaces (r .frames) ≤ k → k < (suc mostFrames) → getD (frameTable r) k zeroFrame ≡ zeroFrame
-unfolding frameTable
-table-behind r k h l =
-    stores-beyond (replicate (suc mostFrames) zeroFrame) (frameAt r) (withinPlaces (r .frames)) k zeroFrame h ∙ getD-replicate (suc mostFrames) k zeroFrame zeroFrame l
-
--- what stands at the place of row k is row k
-pub table-read : (r : Rows) (k : ℕ) → getD (frameTable r) (withinPlaces k) zeroFrame ≡ frameIn r k
-table-read r k = by-places (le-or-lt (withinPlaces (r .frames)) k) (le-or-lt mostFrames k)
-  where
-    most : withinPlaces (r .frames) ≤ mostFrames
-    most = within-most (r .frames)
-
-    by-places : (withinPlaces (r .frames) ≤ k) ⊎ (k < withinPlaces (r .frames)) → (mostFrames ≤ k) ⊎ (k < mostFrames) → getD (frameTable r) (withinPlaces k) zeroFrame ≡ frameIn r k
-    by-places (inr h) f = rw (← within-below k (omega (arith, h, most))) (table-there r k h ∙ sym (frame-there r k h))
-    by-places (inl h) (inr l) = rw (← within-below k l) (table-behind r k h (omega (arith, l)) ∙ sym (frame-behind r k h))
-    by-places (inl h) (inl l) = rw (← within-past k l) (table-behind r mostFrames most (omega arith) ∙ sym (frame-behind r k h))
 
 -- ---- the rows
 
@@ -100,49 +83,37 @@ pub filled-all : (r : Rows) (ys : List Frame) → mostFrames ≤ length ys → f
 unfolding filled
 filled-all r ys h = rw (le-leb mostFrames (length ys) h)
 
--- ---- a pass beside a frame table
+-- ---- the two loops: all rows are cleared, then the frames are stored
 
-module _ (g : Frame → Frame → Frame) (ts ys : List Frame) where
-  -- what a turn stores
-  pub as-tabled : (k : ℕ) (ws : List Frame) (p : ℕ) (u : Frame) → ws ≡ stores ys (tabledRow g ts ys) k → p ≡ withinPlaces k → u ≡ g (getD ws k zeroFrame) (getD ts p zeroFrame)
-      → u ≡ tabledRow g ts ys k
-  unfolding tabledRow
-  as-tabled k ws p u e f h = h ∙ ap₂ g (ap (λ (l : List Frame). getD l k zeroFrame) e ∙ stores-next ys (tabledRow g ts ys) k zeroFrame) (ap (λ (i : ℕ). getD ts i zeroFrame) f)
+module _ (r : Rows) (ys us : List Frame) (cleared : us ≡ stores ys (λ k. zeroFrame) (endIn (length ys))) where
+  pub filled-end : (ws : List Frame) → ws ≡ stores us (frameIn r) (endOf (r .frames) (length ys)) → ws ≡ filled r ys
+  filled-end ws e = e ∙ by-length (le-or-lt mostFrames (length ys))
+    where
+      n : ℕ
+      n = length ys
 
-  pub tabled-end : (k : ℕ) (ws : List Frame) → ws ≡ stores ys (tabledRow g ts ys) k → k ≡ endIn (length ys) → ws ≡ tabled g ts ys
-  unfolding tabled
-  tabled-end k ws e h = e ∙ ap (stores ys (tabledRow g ts ys)) h
+      places : ℕ
+      places = withinPlaces (r .frames)
 
-  tabled-few : length ys < mostFrames → tabled g ts ys ≡ ys
-  unfolding tabled
-  tabled-few h = ap (stores ys (tabledRow g ts ys)) (sym (end-none (length ys) h))
+      long : length us ≡ n
+      long = ap length cleared ∙ length-stores ys (λ k. zeroFrame) (endIn n)
 
-  tabled-all : mostFrames ≤ length ys → tabled g ts ys ≡ tab (tabledRow g ts ys) 0 (length ys)
-  unfolding tabled
-  tabled-all h = ap (stores ys (tabledRow g ts ys)) (sym (end-all (length ys) h)) ∙ stores-all ys (tabledRow g ts ys)
+      zero-row : mostFrames ≤ n → (k : ℕ) → k < n → getD us k zeroFrame ≡ zeroFrame
+      zero-row enough k h =
+          ap (λ (l : List Frame). getD l k zeroFrame) cleared
+          ∙ stores-at ys (λ k. zeroFrame) (endIn n) k zeroFrame (rw (sym (end-all n enough)) h) (rw (sym (end-all n enough)) (le-refl n))
 
--- frames derived and then started are the rows
-pub derived-started : (r : Rows) (ys : List Frame) → tabled startedRow (frameTable r) (tabled derivedRow (frameTable r) ys) ≡ filled r ys
-unfolding tabledRow
-derived-started r ys = by-length (le-or-lt mostFrames (length ys))
-  where
-    ts : List Frame
-    ts = frameTable r
+      row-at : mostFrames ≤ n → (k : ℕ) → k < n → getD (stores us (frameIn r) places) k zeroFrame ≡ frameIn r k
+      row-at enough k h = by-place (le-or-lt places k)
+        where
+          by-place : (places ≤ k) ⊎ (k < places) → getD (stores us (frameIn r) places) k zeroFrame ≡ frameIn r k
+          by-place (inl l) = stores-beyond us (frameIn r) places k zeroFrame l ∙ zero-row enough k h ∙ sym (frame-behind r k l)
+          by-place (inr l) = stores-at us (frameIn r) places k zeroFrame l (rw long (omega (arith, within-most (r .frames), enough)))
 
-    n : ℕ
-    n = length ys
-
-    ds : List Frame
-    ds = tab (tabledRow derivedRow ts ys) 0 n
-
-    long : length ds ≡ n
-    long = length-tab (tabledRow derivedRow ts ys) 0 n
-
-    row-both : (k : ℕ) → k < n → tabledRow startedRow ts ds k ≡ frameIn r k
-    row-both k h = rw (getD-tab (tabledRow derivedRow ts ys) 0 n k zeroFrame h, zero-add k, table-read r k)
-
-    by-length : (mostFrames ≤ n) ⊎ (n < mostFrames) → tabled startedRow ts (tabled derivedRow ts ys) ≡ filled r ys
-    by-length (inl h) =
-        ap (tabled startedRow ts) (tabled-all derivedRow ts ys h) ∙ tabled-all startedRow ts ds (rw long h) ∙ ap (tab (tabledRow startedRow ts ds) 0) long
-        ∙ tab-same (tabledRow startedRow ts ds) (frameIn r) 0 n (λ u _ l. row-both u (rw (zero-add n) at l)) ∙ sym (filled-all r ys h)
-    by-length (inr h) = ap (tabled startedRow ts) (tabled-few derivedRow ts ys h) ∙ tabled-few startedRow ts ys h ∙ sym (filled-few r ys h)
+      by-length : (mostFrames ≤ n) ⊎ (n < mostFrames) → stores us (frameIn r) (endOf (r .frames) n) ≡ filled r ys
+      by-length (inl h) =
+          ap (stores us (frameIn r)) (sym (end-within (r .frames) n h))
+          ∙ sym (tab-list (frameIn r) (stores us (frameIn r) places) zeroFrame n (sym (length-stores us (frameIn r) places ∙ long)) (λ k w. sym (row-at h k w)))
+          ∙ sym (filled-all r ys h)
+      by-length (inr h) =
+          ap (stores us (frameIn r)) (sym (end-short (r .frames) n h)) ∙ cleared ∙ ap (stores ys (λ k. zeroFrame)) (sym (end-none n h)) ∙ sym (filled-few r ys h)

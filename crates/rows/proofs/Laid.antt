@@ -10,7 +10,7 @@ use Rattle.laws.proofs.Lists.{map-tab}
 use Rattle.laws.proofs.Arrays.{tab-list, getD-laid}
 use Rattle.laws.proofs.Orders.{le-or-lt}
 use Rattle.rules.specs.Table.{FrameRow, zeroRow, rowsThenZero}
-use Rattle.rows.specs.declared.Rows.{Rows}
+use Rattle.rows.specs.Rows.{Rows}
 use Rattle.rows.specs.Rows.{rowTask, rowRelease, rowDeadline, rowStart, rowsLaid}
 use Rattle.units.specs.declared.Frame.{Frame}
 use Rattle.rows.specs.Frames.{rowOf, frameOf, withinPlaces, frameAt, frameIn, filled}

@@ -5,4 +5,5 @@ pub mod Laid
 pub mod Lent
 pub mod Two
 pub mod Calls
+pub mod Leaving
 pub mod Lending

@@ -1,14 +1,14 @@
 -- Frame rows as structs, and what a lent list of them holds on return.
+use mathlib.Core.Path.{_≡_}
 use mathlib.Core.Bool.{cond}
 use mathlib.Core.List.{List}
 use lib.Dec.{leb, ltb}
 use lib.ListN.{length, getD, replicate}
-use Prim.Native.Nat.{ℕ, _+_}
+use Prim.Native.Nat.{ℕ}
 use Rattle.laws.specs.Lists.{tab}
-use Rattle.laws.specs.Loops.{stores}
 use Rattle.rules.specs.Limits.{mostFrames}
 use Rattle.rules.specs.Table.{FrameRow}
-use Rattle.rows.specs.declared.Rows.{Rows}
+use Rattle.rows.specs.Rows.{Rows}
 use Rattle.units.specs.declared.Frame.{Frame}
 
 -- a frame row of these numbers
@@ -23,9 +23,19 @@ zeroFrame = frameOf 0 0 0 0
 abbrev pub rowOf : Frame → FrameRow
 rowOf f = record { task = f .task .0; release = f .release .0; deadline = f .deadline .0; start = f .start .0 }
 
--- at most as many as have places: the frames in the arrays, and the place of a row in the table below
+-- at most as many frames as have places in the arrays
 unfoldable pub withinPlaces : ℕ → ℕ
 withinPlaces k = cond (ltb k mostFrames) k mostFrames
+
+-- the frames of these numbers, in arrays
+abbrev pub rowsWith : ℕ → List ℕ → List ℕ → List ℕ → List ℕ → Rows
+rowsWith frames tasks releases deadlines starts =
+    record { frames = frames; tasks = tasks; releases = releases; deadlines = deadlines; starts = starts }
+
+-- the lent arrays as they come: zeros
+abbrev pub NoRows : List ℕ → List ℕ → List ℕ → List ℕ → Type 0
+NoRows tasks releases deadlines starts =
+    (tasks ≡ replicate mostFrames 0) × ((releases ≡ replicate mostFrames 0) × ((deadlines ≡ replicate mostFrames 0) × (starts ≡ replicate mostFrames 0)))
 
 unfoldable pub frameAt : Rows → ℕ → Frame
 frameAt r k = frameOf (getD (r .tasks) k 0) (getD (r .releases) k 0) (getD (r .deadlines) k 0) (getD (r .starts) k 0)
@@ -34,13 +44,13 @@ frameAt r k = frameOf (getD (r .tasks) k 0) (getD (r .releases) k 0) (getD (r .d
 unfoldable pub frameIn : Rows → ℕ → Frame
 frameIn r k = cond (ltb k (withinPlaces (r .frames))) (frameAt r k) zeroFrame
 
--- the frames in one place more, of which the last is zero
-unfoldable pub frameTable : Rows → List Frame
-frameTable r = stores (replicate (mostFrames + 1) zeroFrame) (frameAt r) (withinPlaces (r .frames))
-
 -- how many of the lent rows are written
 unfoldable pub endIn : ℕ → ℕ
 endIn lent = cond (ltb lent mostFrames) 0 lent
+
+-- and how many of them have a frame
+unfoldable pub endOf : ℕ → ℕ → ℕ
+endOf frames lent = cond (ltb lent mostFrames) 0 (withinPlaces frames)
 
 -- Refusal 19 leaves the rows unchanged; else every lent row is written.
 unfoldable pub filled : Rows → List Frame → List Frame

@@ -7,23 +7,9 @@ use Prim.Native.Nat.{ℕ, zero, suc}
 use Rattle.laws.specs.Loops.{stores}
 use Rattle.units.specs.declared.Frame.{Frame}
 use Rattle.rows.specs.declared.passes.Step.{Step}
-use Rattle.rows.specs.Frames.{zeroFrame, frameOf, withinPlaces, endIn}
+use Rattle.rows.specs.Frames.{zeroFrame, endOf}
 
--- a frame without a start, and a row with its frame's start
-abbrev pub derivedRow : Frame → Frame → Frame
-derivedRow row f = frameOf (f .task .0) (f .release .0) (f .deadline .0) 0
-
-abbrev pub startedRow : Frame → Frame → Frame
-startedRow row f = frameOf (row .task .0) (row .release .0) (row .deadline .0) (f .start .0)
-
--- row k after a pass beside a frame table, and all rows after it
-unfoldable pub tabledRow : (Frame → Frame → Frame) → List Frame → List Frame → ℕ → Frame
-tabledRow g table rows k = g (getD rows k zeroFrame) (getD table (withinPlaces k) zeroFrame)
-
-unfoldable pub tabled : (Frame → Frame → Frame) → List Frame → List Frame → List Frame
-tabled g table rows = stores rows (tabledRow g table rows) (endIn (length rows))
-
--- what a pass that carries a Bool has found after n rows; row k after it, and all rows
+-- what a pass that carries a Bool over the rows of so many frames has found after n rows; row k after it, and all rows
 unfoldable pub foundIn : (Bool → Frame → Step) → Bool → List Frame → ℕ → Bool
 foundIn g b rows zero = b
 foundIn g b rows (suc n) = g (foundIn g b rows n) (getD rows n zeroFrame) .found
@@ -31,11 +17,11 @@ foundIn g b rows (suc n) = g (foundIn g b rows n) (getD rows n zeroFrame) .found
 unfoldable pub passedRow : (Bool → Frame → Step) → Bool → List Frame → ℕ → Frame
 passedRow g b rows k = g (foundIn g b rows k) (getD rows k zeroFrame) .row
 
-unfoldable pub foundAfter : (Bool → Frame → Step) → Bool → List Frame → Bool
-foundAfter g b rows = foundIn g b rows (endIn (length rows))
+unfoldable pub foundAfter : (Bool → Frame → Step) → ℕ → Bool → List Frame → Bool
+foundAfter g frames b rows = foundIn g b rows (endOf frames (length rows))
 
-unfoldable pub rowsAfter : (Bool → Frame → Step) → Bool → List Frame → List Frame
-rowsAfter g b rows = stores rows (passedRow g b rows) (endIn (length rows))
+unfoldable pub rowsAfter : (Bool → Frame → Step) → ℕ → Bool → List Frame → List Frame
+rowsAfter g frames b rows = stores rows (passedRow g b rows) (endOf frames (length rows))
 
 -- rule 25 on a row; a row cleared
 unfoldable pub lookedRow : Bool → Frame → Step

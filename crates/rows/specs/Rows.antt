@@ -5,8 +5,14 @@ use Prim.Native.Nat.{ℕ, zero, suc, _+_, _%_}
 use Rattle.laws.specs.Loops.{stores, padTo}
 use Rattle.rules.specs.Limits.{mostFrames}
 use Rattle.rules.specs.Table.{FrameRow}
-use Rattle.rows.specs.declared.TableRows.{TableRows}
-use Rattle.rows.specs.declared.Rows.{Rows}
+
+-- The frame rows of an answer, in arrays: `frames` of them, zeros behind.
+pub record Rows : Type 0 where
+  pub frames : ℕ
+  pub tasks : List ℕ
+  pub releases : List ℕ
+  pub deadlines : List ℕ
+  pub starts : List ℕ
 
 -- the numbers of a frame row
 abbrev pub rowTask : FrameRow → ℕ
@@ -44,6 +50,17 @@ taskAt task number j = getD task (getD number j 0) 0
 unfoldable pub stopAt : List ℕ → List ℕ → List ℕ → List ℕ → ℕ → ℕ
 stopAt task time number start j = (getD start j 0 + getD time (taskAt task number j) 0) % 4294967296
 
+-- What stands in the table's data rows besides the starts, by row.
+pub record TableRows : Type 0 where
+  pub tasks : List ℕ
+  pub deadlines : List ℕ
+  pub stops : List ℕ
+
+-- three arrays as what stands there
+abbrev pub rowsIn : List ℕ → List ℕ → List ℕ → TableRows
+rowsIn tasks deadlines stops = record { tasks = tasks; deadlines = deadlines; stops = stops }
+
+-- the data rows of the placed frames, zeros behind them
 unfoldable pub tableRows : List ℕ → List ℕ → List ℕ → List ℕ → List ℕ → ℕ → TableRows
 tableRows task deadline time number start count =
     record {

@@ -1,40 +1,15 @@
-// The frame rows of an answer by value, and what the arrays of placed frames give for them and for the table; and the passes that bring
-// them into a lent list of rows.
+// What the arrays of placed frames give for the frame rows and for the table; and the passes that bring the rows into a lent list.
 ghost use mathlib.Core.Path.{_≡_};
 ghost use Prim.Native.Nat.{_+_, _%_, _≤_, _<_};
 ghost use lib.ListN.{length, getD, replicate};
-ghost use mathlib.Core.List.{[]};
 ghost use Rattle.rules.specs.Limits.{mostFrames, mostTasks};
-ghost use Rattle.rows.specs.Rows.{scattered, tableRows, rowsLaid};
+ghost use Rattle.rows.specs.Rows.{scattered, rowsIn, tableRows};
 use units::Frame;
 use units::FrameNo;
 use units::TaskNo;
 use units::Ticks;
 
 pub mod passes;
-
-// The frame rows of an answer by value: `frames` of them, zeros behind.
-pub struct Rows {
-    pub frames: usize,
-    pub tasks: [u8; Frame::MOST],
-    pub releases: [u32; Frame::MOST],
-    pub deadlines: [u32; Frame::MOST],
-    pub starts: [u32; Frame::MOST],
-}
-
-impl Rows {
-    pub fn none() -> Rows
-        ensures { λ r. ⌜ r ≡ rowsLaid [] ⌝ }
-    {
-        Rows {
-            frames: 0,
-            tasks: [0; Frame::MOST],
-            releases: [0; Frame::MOST],
-            deadlines: [0; Frame::MOST],
-            starts: [0; Frame::MOST],
-        }
-    }
-}
 
 // The number of a frame, as it stands in the array of placed frames.
 fn frame(number: u32) -> FrameNo
@@ -49,16 +24,17 @@ fn long(x: u32) -> u64
     x as u64
 }
 
-// The starts by frame number, from the placed frames by start. A number that stands twice would keep its first start.
+// Stores the starts by frame number, from the placed frames by start. A number that stands twice would keep its first start.
 pub fn starts_by_number<'a>(
     numbers: &'a [u32; Frame::MOST],
     starts: &'a [u32; Frame::MOST],
     count: usize,
-) -> [u32; Frame::MOST]
+    by: &mut [u32; Frame::MOST],
+)
     requires { ⌜ count ≤ mostFrames ⌝ }
-    ensures { λ r. ⌜ r ≡ scattered (now (numbers .entry)) (now (starts .entry)) count (replicate mostFrames 0) ⌝ }
+    requires { ⌜ length (now by) ≡ mostFrames ⌝ }
+    ensures { λ _. ⌜ now (by .exit) ≡ scattered (now (numbers .entry)) (now (starts .entry)) count (now (by .entry)) ⌝ }
 {
-    let mut by = [0u32; Frame::MOST];
     let mut j = count;
     while 0 < j {
         j -= 1;
@@ -67,14 +43,6 @@ pub fn starts_by_number<'a>(
             by[k] = starts[j];
         }
     }
-    by
-}
-
-// What stands in the table's data rows besides the starts, by row.
-pub struct TableRows {
-    pub tasks: [u8; Frame::MOST],
-    pub deadlines: [u32; Frame::MOST],
-    pub stops: [u32; Frame::MOST],
 }
 
 fn task_of(tasks: &[u8; Frame::MOST], number: FrameNo) -> TaskNo
@@ -112,6 +80,7 @@ fn stop_of(times: &[u32; TaskNo::MOST], task: TaskNo, start: Ticks) -> Ticks
     start
 }
 
+// Stores what stands in the table's data rows besides the starts, by row; zeros behind them.
 pub fn table_rows<'a>(
     tasks: &'a [u8; Frame::MOST],
     deadlines: &'a [u32; Frame::MOST],
@@ -119,14 +88,15 @@ pub fn table_rows<'a>(
     numbers: &'a [u32; Frame::MOST],
     starts: &'a [u32; Frame::MOST],
     count: usize,
-) -> TableRows
+    row_tasks: &mut [u8; Frame::MOST],
+    row_deadlines: &mut [u32; Frame::MOST],
+    row_stops: &mut [u32; Frame::MOST],
+)
     requires { ⌜ count ≤ mostFrames ⌝ }
     requires { ⌜ (length (now tasks) ≡ mostFrames) × (length (now deadlines) ≡ mostFrames) × (length (now times) ≡ mostTasks) ⌝ }
-    ensures { λ r. ⌜ r ≡ tableRows (now (tasks .entry)) (now (deadlines .entry)) (now (times .entry)) (now (numbers .entry)) (now (starts .entry)) count ⌝ }
+    requires { ⌜ (now «row_tasks» ≡ replicate mostFrames 0) × (now «row_deadlines» ≡ replicate mostFrames 0) × (now «row_stops» ≡ replicate mostFrames 0) ⌝ }
+    ensures { λ _. ⌜ rowsIn (now («row_tasks» .exit)) (now («row_deadlines» .exit)) (now («row_stops» .exit)) ≡ tableRows (now (tasks .entry)) (now (deadlines .entry)) (now (times .entry)) (now (numbers .entry)) (now (starts .entry)) count ⌝ }
 {
-    let mut row_tasks = [0u8; Frame::MOST];
-    let mut row_deadlines = [0u32; Frame::MOST];
-    let mut row_stops = [0u32; Frame::MOST];
     let mut j = 0;
     while j < count {
         let f = frame(numbers[j]);
@@ -135,10 +105,5 @@ pub fn table_rows<'a>(
         row_deadlines[j] = deadline_of(deadlines, f).0;
         row_stops[j] = stop_of(times, t, Ticks(starts[j])).0;
         j += 1;
-    }
-    TableRows {
-        tasks: row_tasks,
-        deadlines: row_deadlines,
-        stops: row_stops,
     }
 }

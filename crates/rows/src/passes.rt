@@ -1,27 +1,41 @@
 // The lent list of frame rows: a slice of frame structs. The prover's walk covers no function over such a slice, so each one here is thin:
 // a pass hands every row to a covered step and stores what the step gives, and every choice is a covered function's.
 ghost use mathlib.Core.Path.{_≡_};
+ghost use lib.ListN.{replicate};
 ghost use Prim.Native.Nat.{_≤_};
 ghost use Rattle.rules.specs.Limits.{mostFrames};
-ghost use Rattle.rows.specs.Frames.{frameOf, withinPlaces, frameTable, endIn, filled};
-ghost use Rattle.rows.specs.Passes.{derivedRow, startedRow, tabled, lookedRow, clearedRow, foundAfter, rowsAfter};
-use crate::Rows;
+ghost use Rattle.rows.specs.Frames.{frameOf, withinPlaces, rowsWith, frameIn, endIn, endOf, filled};
+ghost use Rattle.rows.specs.Passes.{lookedRow, clearedRow, foundAfter, rowsAfter};
 use units::Frame;
 use units::TaskNo;
+use units::TaskWord;
 use units::Ticks;
+
+// Arrays of zeros, to be lent.
+pub fn zero_bytes() -> [u8; Frame::MOST]
+    ensures { λ r. ⌜ r ≡ replicate mostFrames 0 ⌝ }
+{
+    [0; Frame::MOST]
+}
+
+pub fn zero_words() -> [u32; Frame::MOST]
+    ensures { λ r. ⌜ r ≡ replicate mostFrames 0 ⌝ }
+{
+    [0; Frame::MOST]
+}
 
 fn framed(task: TaskNo, release: Ticks, deadline: Ticks, start: Ticks) -> Frame
     ensures { λ r. ⌜ r ≡ frameOf (task .0) (release .0) (deadline .0) (start .0) ⌝ }
 {
     Frame {
-        task,
+        task: TaskWord(task.0 as u32),
         release,
         deadline,
         start,
     }
 }
 
-// The frames that have places, and the place of row k in the frame table: behind the frames its zero row.
+// The frames that have places.
 fn within(k: usize) -> usize
     ensures { λ r. ⌜ (r ≡ withinPlaces k) × (r ≤ mostFrames) ⌝ }
 {
@@ -29,25 +43,6 @@ fn within(k: usize) -> usize
         return k;
     }
     Frame::MOST
-}
-
-// The frames as structs, zero rows behind them; the last place holds a zero row whatever the arrays hold.
-fn frame_table(r: Rows) -> [Frame; Frame::MOST + 1]
-    ensures { λ t. ⌜ t ≡ frameTable r ⌝ }
-{
-    let mut table = [Frame::zero(); Frame::MOST + 1];
-    let end = within(r.frames);
-    let mut k = 0;
-    while k < end {
-        table[k] = framed(
-            TaskNo(r.tasks[k]),
-            Ticks(r.releases[k]),
-            Ticks(r.deadlines[k]),
-            Ticks(r.starts[k]),
-        );
-        k += 1;
-    }
-    table
 }
 
 // How many of the lent rows are written: none where too few are lent (refusal 19), else all.
@@ -60,51 +55,61 @@ fn end_in(lent: usize) -> usize
     lent
 }
 
-// A frame that has no start yet, whatever its row held.
-fn derived(row: Frame, frame: Frame) -> Frame
-    ensures { λ r. ⌜ r ≡ derivedRow row frame ⌝ }
+// How many of the lent rows have a frame: none where too few are lent.
+fn end_of(frames: usize, lent: usize) -> usize
+    ensures { λ r. ⌜ (r ≡ endOf frames lent) × (r ≤ lent) ⌝ }
 {
-    framed(frame.task, frame.release, frame.deadline, Ticks(0))
-}
-
-// The frames by number into the rows, then zero rows.
-fn derive(rows: &mut [Frame], table: [Frame; Frame::MOST + 1])
-    ensures { λ _. ⌜ now (rows .exit) ≡ tabled derivedRow table (now (rows .entry)) ⌝ }
-{
-    let end = end_in(rows.len());
-    let mut k = 0;
-    while k < end {
-        rows[k] = derived(rows[k], table[within(k)]);
-        k += 1;
+    if lent < Frame::MOST {
+        return 0;
     }
+    within(frames)
 }
 
-// The frame that stands in a row, with its start.
-fn started(row: Frame, frame: Frame) -> Frame
-    ensures { λ r. ⌜ r ≡ startedRow row frame ⌝ }
+// Row k: the frames by number, each with its start, and zero rows behind them.
+fn row_at<'a>(
+    k: usize,
+    frames: usize,
+    tasks: &'a [u8; Frame::MOST],
+    releases: &'a [u32; Frame::MOST],
+    deadlines: &'a [u32; Frame::MOST],
+    starts: &'a [u32; Frame::MOST],
+) -> Frame
+    ensures { λ r. ⌜ r ≡ frameIn (rowsWith frames (now (tasks .entry)) (now (releases .entry)) (now (deadlines .entry)) (now (starts .entry))) k ⌝ }
 {
-    framed(row.task, row.release, row.deadline, frame.start)
-}
-
-// Each row's start beside its frame.
-fn start(rows: &mut [Frame], table: [Frame; Frame::MOST + 1])
-    ensures { λ _. ⌜ now (rows .exit) ≡ tabled startedRow table (now (rows .entry)) ⌝ }
-{
-    let end = end_in(rows.len());
-    let mut k = 0;
-    while k < end {
-        rows[k] = started(rows[k], table[within(k)]);
-        k += 1;
+    if k < within(frames) {
+        return framed(
+            TaskNo(tasks[k]),
+            Ticks(releases[k]),
+            Ticks(deadlines[k]),
+            Ticks(starts[k]),
+        );
     }
+    Frame::zero()
 }
 
 // The frames by number with their starts, then zero rows; too few rows stay as they were.
-pub fn fill(rows: &mut [Frame], r: Rows)
-    ensures { λ _. ⌜ now (rows .exit) ≡ filled r (now (rows .entry)) ⌝ }
+pub fn fill<'a>(
+    rows: &mut [Frame],
+    frames: usize,
+    tasks: &'a [u8; Frame::MOST],
+    releases: &'a [u32; Frame::MOST],
+    deadlines: &'a [u32; Frame::MOST],
+    starts: &'a [u32; Frame::MOST],
+)
+    ensures { λ _. ⌜ now (rows .exit) ≡ filled (rowsWith frames (now (tasks .entry)) (now (releases .entry)) (now (deadlines .entry)) (now (starts .entry))) (now (rows .entry)) ⌝ }
 {
-    let table = frame_table(r);
-    derive(rows, table);
-    start(rows, table);
+    let end = end_in(rows.len());
+    let mut k = 0;
+    while k < end {
+        rows[k] = Frame::zero();
+        k += 1;
+    }
+    let last = end_of(frames, rows.len());
+    let mut j = 0;
+    while j < last {
+        rows[j] = row_at(j, frames, tasks, releases, deadlines, starts);
+        j += 1;
+    }
 }
 
 // What a step leaves of a row: whether something was found so far, and the row.
@@ -123,11 +128,11 @@ fn looked(found: bool, row: Frame) -> Step
     Step { found, row }
 }
 
-// Rule 25 on the rows: whether one starts before its release, or `found` holds already.
-pub fn some_early(rows: &mut [Frame], found: bool) -> bool
-    ensures { λ r. ⌜ (r ≡ foundAfter lookedRow found (now (rows .entry))) × (now (rows .exit) ≡ rowsAfter lookedRow found (now (rows .entry))) ⌝ }
+// Rule 25 on the rows of so many frames: whether one starts before its release, or `found` holds already.
+pub fn some_early(rows: &mut [Frame], frames: usize, found: bool) -> bool
+    ensures { λ r. ⌜ (r ≡ foundAfter lookedRow frames found (now (rows .entry))) × (now (rows .exit) ≡ rowsAfter lookedRow frames found (now (rows .entry))) ⌝ }
 {
-    let end = end_in(rows.len());
+    let end = end_of(frames, rows.len());
     let mut so_far = found;
     let mut k = 0;
     while k < end {
@@ -154,11 +159,11 @@ fn cleared(refused: bool, row: Frame) -> Step
     }
 }
 
-// Zero rows where a check refuses; too few rows stay as they were.
-pub fn clear(rows: &mut [Frame], refused: bool) -> bool
-    ensures { λ r. ⌜ (r ≡ foundAfter clearedRow refused (now (rows .entry))) × (now (rows .exit) ≡ rowsAfter clearedRow refused (now (rows .entry))) ⌝ }
+// Zero rows for the frames where a check refuses; too few rows stay as they were.
+pub fn clear(rows: &mut [Frame], frames: usize, refused: bool) -> bool
+    ensures { λ r. ⌜ (r ≡ foundAfter clearedRow frames refused (now (rows .entry))) × (now (rows .exit) ≡ rowsAfter clearedRow frames refused (now (rows .entry))) ⌝ }
 {
-    let end = end_in(rows.len());
+    let end = end_of(frames, rows.len());
     let mut so_far = refused;
     let mut k = 0;
     while k < end {

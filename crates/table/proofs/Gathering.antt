@@ -21,14 +21,14 @@ use Rattle.records.specs.declared.Sort.the-variants.{Table}
 use Rattle.records.specs.declared.Step.{Step}
 use Rattle.records.specs.declared.Step.the-variants.{Record, End, Wrong}
 use Rattle.records.proofs.Steps.{from, onward, one-step, Found, found}
-use Rattle.table.specs.declared.Table as memory
+use Rattle.table.specs.Memory as memory
 use Rattle.table.specs.declared.Header.{Header}
-use Rattle.table.specs.declared.read.Reading.{Reading}
+use Rattle.table.specs.declared.Heading.{Heading}
 use Rattle.table.specs.declared.read.Gathered.{Gathered}
 use Rattle.units.specs.declared.Offset.{Offset}
 use Rattle.table.specs.declared.read.Outcome.the-variants.{Whole, Broken}
 use Rattle.laws.specs.Loops.{placed}
-use Rattle.table.specs.Memory.{controlNodeOf, controlStartOf, controlStopOf, taskOf, deadlineOf, startOf, stopOf, layOut, noTable, emptyTable, tableFrom, headerOf, headerRead, controlRead, rowRead, withHeader, withControl, withRow, withRecord, withRecords, reading, gatheredFrom, readingOf, reported}
+use Rattle.table.specs.Memory.{ReadTable, headingOf, readWith, controlNodeOf, controlStartOf, controlStopOf, taskOf, deadlineOf, startOf, stopOf, layOut, noTable, emptyTable, tableFrom, headerOf, headerRead, controlRead, rowRead, withHeader, withControl, withRow, withRecord, withRecords, reading, gatheredFrom, readingOf, reported}
 use Rattle.laws.proofs.Arrays.{placed-snoc}
 
 -- ---- over lists
@@ -196,14 +196,14 @@ gathered-before m r (ok rs) = refl
 gathered-before m r (refuse n p) = refl
 
 -- what is held so far: with the rest of the file gathered in, it is the whole
-pub record SoFar (s : List ℕ) (whole : Reading) (previous at : ℕ) (head : Header) (controls rows : ℕ)
+pub record SoFar (s : List ℕ) (whole : ReadTable) (previous at : ℕ) (head : Header) (controls rows : ℕ)
     (controlNodes controlStarts controlStops tasks deadlines starts stops : List ℕ) : Type 0 where
   pub inside : at ≤ length s
   pub counted : controls + rows ≤ at
   pub gathered : whole ≡ gatheredFrom (tableFrom head controls rows controlNodes controlStarts controlStops tasks deadlines starts stops) (from Table 20 s previous at)
 
 -- the step that the reader takes from here is given as a value, with what it is
-module _ {s : List ℕ} {whole : Reading} {previous at : ℕ} {head : Header} {controls rows : ℕ}
+module _ {s : List ℕ} {whole : ReadTable} {previous at : ℕ} {head : Header} {controls rows : ℕ}
     {controlNodes controlStarts controlStops tasks deadlines starts stops : List ℕ}
     (h : SoFar s whole previous at head controls rows controlNodes controlStarts controlStops tasks deadlines starts stops) {step : Step}
     (next-is : step ≡ nextAt Table s previous at) where
@@ -298,18 +298,22 @@ module _ {s : List ℕ} {whole : Reading} {previous at : ℕ} {head : Header} {c
 
 -- ---- the end of reading
 
-module _ (s : List ℕ) (g : Gathered) (controlNodes controlStarts controlStops tasks deadlines starts stops : List ℕ)
+module _ (s : List ℕ) (g : Gathered) {tasks₀ deadlines₀ starts₀ stops₀ : List ℕ}
+    (controlNodes controlStarts controlStops tasks deadlines starts stops : List ℕ)
+    (zeros : (tasks₀ ≡ replicate mostFrames 0) × ((deadlines₀ ≡ replicate mostFrames 0) × ((starts₀ ≡ replicate mostFrames 0) × (stops₀ ≡ replicate mostFrames 0))))
     (gathered : reported g controlNodes controlStarts controlStops tasks deadlines starts stops
-    ≡ gatheredFrom (tableFrom (emptyTable .header) 0 0 (replicate mostNodes 0) (replicate mostNodes 0) (replicate mostNodes 0) (replicate mostFrames 0) (replicate mostFrames 0) (replicate mostFrames 0) (replicate mostFrames 0)) (records tableFollows 20 s)) where
+    ≡ gatheredFrom (tableFrom (emptyTable .header) 0 0 (replicate mostNodes 0) (replicate mostNodes 0) (replicate mostNodes 0) tasks₀ deadlines₀ starts₀ stops₀) (records tableFollows 20 s)) where
   told : reported g controlNodes controlStarts controlStops tasks deadlines starts stops ≡ readingOf (records tableFollows 20 s)
   unfolding tableFrom emptyTable layOut noTable
-  told = gathered ∙ file-gathered s
+  told = rw (zeros .0, zeros .1 .0, zeros .1 .1 .0, zeros .1 .1 .1) at gathered ∙ file-gathered s
 
   pub read-whole : g .outcome ≡ Whole
       → reading Whole (tableFrom (g .header) (g .controls) (g .rows) controlNodes controlStarts controlStops tasks deadlines starts stops) ≡ readingOf (records tableFollows 20 s)
   unfolding reported
   read-whole e = rw e at told
 
-  pub read-broken : {p : Offset} → g .outcome ≡ Broken p → reading (Broken p) emptyTable ≡ readingOf (records tableFollows 20 s)
-  unfolding reported
-  read-broken e = rw e at told
+  pub read-broken : {p : Offset} {h : Heading} → g .outcome ≡ Broken p → h ≡ headingOf emptyTable
+      → readWith (record { outcome = Broken p; heading = h }) (replicate mostFrames 0) (replicate mostFrames 0) (replicate mostFrames 0) (replicate mostFrames 0)
+      ≡ readingOf (records tableFollows 20 s)
+  unfolding reported emptyTable layOut noTable
+  read-broken e q = rw q (rw e at told)

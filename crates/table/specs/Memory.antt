@@ -1,4 +1,4 @@
--- How a table stands in memory: from the rules' table to the struct (`layOut`), from the struct to the rules' table (`seen`), and
+-- How a table stands in memory: from the rules' table to its numbers there (`layOut`), from these to the rules' table (`seen`), and
 -- what each record of a file adds.
 use mathlib.Core.Bool.{cond}
 use mathlib.Core.List.{List, [], _∷_, map}
@@ -15,12 +15,62 @@ use Rattle.rules.specs.Frames.{ControlRow}
 use Rattle.rules.specs.Table.{DataRow}
 use Rattle.rules.specs.Checker.{Row, rowOf, TableRead, tableOf, controlRowOf, dataRowOf}
 use Rattle.table.specs.declared.Header.{Header}
-use Rattle.table.specs.declared.Table.{Table}
+use Rattle.table.specs.declared.Heading.{Heading}
 use Rattle.table.specs.declared.read.Outcome.{Outcome}
 use Rattle.table.specs.declared.read.Outcome.the-variants.{Whole, Broken}
 use Rattle.table.specs.declared.read.Reading.{Reading}
 use Rattle.table.specs.declared.read.Gathered.{Gathered}
 use Rattle.table.specs.Rows.{controlIn, dataIn}
+
+-- A table in memory: the heading, and an array for each number of a data row, which the caller lends.
+pub record Table : Type 0 where
+  pub header : Header
+  pub controls : ℕ
+  pub «control_nodes» : List ℕ
+  pub «control_starts» : List ℕ
+  pub «control_stops» : List ℕ
+  pub rows : ℕ
+  pub tasks : List ℕ
+  pub deadlines : List ℕ
+  pub starts : List ℕ
+  pub stops : List ℕ
+
+-- a table without the numbers of its data rows
+abbrev pub headingOf : Table → Heading
+headingOf t =
+    record {
+      header = t .header;
+      controls = t .controls;
+      «control_nodes» = t .«control_nodes»;
+      «control_starts» = t .«control_starts»;
+      «control_stops» = t .«control_stops»;
+      rows = t .rows;
+    }
+
+-- a heading with the numbers of its data rows
+abbrev pub tableWith : Heading → List ℕ → List ℕ → List ℕ → List ℕ → Table
+tableWith h tasks deadlines starts stops =
+    record {
+      header = h .header;
+      controls = h .controls;
+      «control_nodes» = h .«control_nodes»;
+      «control_starts» = h .«control_starts»;
+      «control_stops» = h .«control_stops»;
+      rows = h .rows;
+      tasks = tasks;
+      deadlines = deadlines;
+      starts = starts;
+      stops = stops;
+    }
+
+-- How reading a file ended, and its table.
+pub record ReadTable : Type 0 where
+  pub outcome : Outcome
+  pub table : Table
+
+-- what was read, with the arrays of the data rows beside it
+abbrev pub readWith : Reading → List ℕ → List ℕ → List ℕ → List ℕ → ReadTable
+readWith r tasks deadlines starts stops = record { outcome = r .outcome; table = tableWith (r .heading) tasks deadlines starts stops }
 
 -- the numbers of a control row and of a data row that holds one pair
 abbrev pub controlNodeOf : ControlRow → ℕ
@@ -71,7 +121,7 @@ emptyTable = layOut noTable
 unfoldable pub rowSeen : Table → ℕ → Row
 rowSeen t k = rowOf (dataIn (t .tasks) (t .deadlines) (t .starts) (t .stops) k)
 
--- The table that a struct stands for: as many rows as are counted.
+-- The table that a table in memory stands for: as many rows as are counted.
 unfoldable pub seen : Table → TableRead
 seen t =
     record {
@@ -141,22 +191,22 @@ withRecords t [] = t
 withRecords t (r ∷ rs) = withRecords (withRecord t r) rs
 
 -- a table where the file is whole, no table where it is broken
-abbrev pub reading : Outcome → Table → Reading
+abbrev pub reading : Outcome → Table → ReadTable
 reading Whole t = record { outcome = Whole; table = t }
 reading (Broken place) t = record { outcome = Broken place; table = emptyTable }
 
 -- What gathering comes to from a table on, by what the record rules say of the rest of the file.
-abbrev pub gatheredFrom : Table → Res (List Rec) → Reading
+abbrev pub gatheredFrom : Table → Res (List Rec) → ReadTable
 gatheredFrom t (ok rs) = reading Whole (withRecords t rs)
 gatheredFrom t (refuse n place) = reading (Broken (record { 0 = place })) t
 
 -- What reading a file comes to: the table of its records, or refusal 20's place.
-abbrev pub readingOf : Res (List Rec) → Reading
+abbrev pub readingOf : Res (List Rec) → ReadTable
 readingOf (ok rs) = reading Whole (layOut (tableOf rs))
 readingOf (refuse n place) = reading (Broken (record { 0 = place })) emptyTable
 
 -- what was gathered, with the arrays beside it
-unfoldable pub reported : Gathered → List ℕ → List ℕ → List ℕ → List ℕ → List ℕ → List ℕ → List ℕ → Reading
+unfoldable pub reported : Gathered → List ℕ → List ℕ → List ℕ → List ℕ → List ℕ → List ℕ → List ℕ → ReadTable
 reported g controlNodes controlStarts controlStops tasks deadlines starts stops =
     reading (g .outcome)
     (tableFrom (g .header) (g .controls) (g .rows) controlNodes controlStarts controlStops tasks deadlines starts stops)

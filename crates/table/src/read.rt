@@ -1,13 +1,14 @@
 // A table gathered from the records of a file as they are met: refusal 20.
 ghost use mathlib.Core.Path.{_≡_};
+ghost use lib.ListN.{replicate};
 ghost use Prim.Native.Nat.{_+_, _≤_};
 ghost use Rattle.laws.specs.Loops.{placed};
 ghost use Rattle.rules.specs.Limits.{mostNodes, mostFrames};
 ghost use Rattle.rules.specs.Records as rules;
 ghost use Rattle.rules.specs.Records.{tableFollows};
-ghost use Rattle.table.specs.Memory.{headerRead, controlRead, rowRead, emptyTable, tableFrom, gatheredFrom, readingOf, reported};
+ghost use Rattle.table.specs.Memory.{headerRead, controlRead, rowRead, emptyTable, tableFrom, gatheredFrom, readingOf, readWith, reported};
 use crate::Header;
-use crate::Table;
+use crate::Heading;
 use little::read8;
 use little::read16;
 use little::read32;
@@ -26,7 +27,7 @@ pub enum Outcome {
 
 pub struct Reading {
     pub outcome: Outcome,
-    pub table: Table,
+    pub heading: Heading,
 }
 
 // In each of these the body is cut out by its kind's length: then it is plain that each of its numbers stands within it.
@@ -157,47 +158,57 @@ fn gather(
     }
 }
 
-pub fn read_table(s: &[u8]) -> Reading
-    ensures { λ r. ⌜ r ≡ readingOf (rules.records tableFollows 20 (now (s .entry))) ⌝ }
+// The numbers of the data rows go to the lent arrays. A broken file leaves nothing there: they are zeros again.
+pub fn read_table(
+    s: &[u8],
+    tasks: &mut [u8; Frame::MOST],
+    deadlines: &mut [u32; Frame::MOST],
+    starts: &mut [u32; Frame::MOST],
+    stops: &mut [u32; Frame::MOST],
+) -> Reading
+    requires { ⌜ now tasks ≡ replicate mostFrames 0 ⌝ }
+    requires { ⌜ now deadlines ≡ replicate mostFrames 0 ⌝ }
+    requires { ⌜ now starts ≡ replicate mostFrames 0 ⌝ }
+    requires { ⌜ now stops ≡ replicate mostFrames 0 ⌝ }
+    ensures { λ r. ⌜ readWith r (now (tasks .exit)) (now (deadlines .exit)) (now (starts .exit)) (now (stops .exit))
+        ≡ readingOf (rules.records tableFollows 20 (now (s .entry))) ⌝ }
 {
     let mut control_nodes = [0; NodeNo::MOST];
     let mut control_starts = [0; NodeNo::MOST];
     let mut control_stops = [0; NodeNo::MOST];
-    let mut tasks = [0; Frame::MOST];
-    let mut deadlines = [0; Frame::MOST];
-    let mut starts = [0; Frame::MOST];
-    let mut stops = [0; Frame::MOST];
     let g = gather(
         s,
         &mut control_nodes,
         &mut control_starts,
         &mut control_stops,
-        &mut tasks,
-        &mut deadlines,
-        &mut starts,
-        &mut stops,
+        tasks,
+        deadlines,
+        starts,
+        stops,
     );
     let outcome = g.outcome;
     let head = g.header;
     match outcome {
         Outcome::Whole => Reading {
             outcome: Outcome::Whole,
-            table: Table {
+            heading: Heading {
                 header: head,
                 controls: g.controls,
                 control_nodes,
                 control_starts,
                 control_stops,
                 rows: g.rows,
-                tasks,
-                deadlines,
-                starts,
-                stops,
             },
         },
-        Outcome::Broken(place) => Reading {
-            outcome: Outcome::Broken(place),
-            table: Table::empty(),
-        },
+        Outcome::Broken(place) => {
+            *tasks = [0; Frame::MOST];
+            *deadlines = [0; Frame::MOST];
+            *starts = [0; Frame::MOST];
+            *stops = [0; Frame::MOST];
+            Reading {
+                outcome: Outcome::Broken(place),
+                heading: Heading::empty(),
+            }
+        }
     }
 }

@@ -118,10 +118,14 @@ pub struct FrameNo(pub usize);
 // A place in a file, in bytes from its front.
 pub struct Offset(pub usize);
 
+// The number of a task as it stands in a row: a word, so that a row has no gaps and many rows are cleared at once.
+#[repr(C)]
+pub struct TaskWord(pub u32);
+
 // A frame as the caller lends it a row: its task, release and deadline, and the start that a table gives it.
 #[repr(C)]
 pub struct Frame {
-    pub task: TaskNo,
+    pub task: TaskWord,
     pub release: Ticks,
     pub deadline: Ticks,
     pub start: Ticks,
@@ -135,7 +139,7 @@ impl Frame {
         ensures { λ r. ⌜ r ≡ record { task = record { 0 = 0 }; release = record { 0 = 0 }; deadline = record { 0 = 0 }; start = record { 0 = 0 } } ⌝ }
     {
         Frame {
-            task: TaskNo(0),
+            task: TaskWord(0),
             release: Ticks(0),
             deadline: Ticks(0),
             start: Ticks(0),

@@ -2,7 +2,6 @@
 ghost use Prim.Native.Nat.{_≤_};
 use answers::Refusal;
 use libc::STDOUT_FILENO;
-use rows::Rows;
 use units::Frame;
 
 pub fn say(text: &[u8]) {
@@ -40,21 +39,21 @@ fn say_row(task: u8, release: u32, deadline: u32, start: u32) {
     say_number(b",", start as u64);
 }
 
-pub fn say_rows(rows: Rows) {
-    let n = rows.frames;
+pub fn say_rows<'a>(
+    frames: usize,
+    tasks: &'a [u8; Frame::MOST],
+    releases: &'a [u32; Frame::MOST],
+    deadlines: &'a [u32; Frame::MOST],
+    starts: &'a [u32; Frame::MOST],
+) {
     let mut k = 0;
-    while k < n && k < Frame::MOST {
-        say_row(
-            rows.tasks[k],
-            rows.releases[k],
-            rows.deadlines[k],
-            rows.starts[k],
-        );
+    while k < frames && k < Frame::MOST {
+        say_row(tasks[k], releases[k], deadlines[k], starts[k]);
         k += 1;
     }
 }
 
-// How many bytes of the buffer are as they were, and how many of the rows by value are zero.
+// How many bytes of the buffer are as they were, and how many places of the lent arrays are zero.
 pub fn say_left(bytes: u64, rows: u64) {
     say_number(b" kept ", bytes);
     say_number(b" zero ", rows);

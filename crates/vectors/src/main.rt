@@ -13,7 +13,6 @@ use lines::say_refusal;
 use lines::say_rows;
 use lines::say_table;
 use little::read32;
-use rows::Rows;
 use units::Frame;
 
 mod lines;
@@ -42,16 +41,16 @@ fn is_zero(task: u8, release: u32, deadline: u32, start: u32) -> bool {
     task == 0 && release == 0 && deadline == 0 && start == 0
 }
 
-fn zeros(rows: Rows) -> u64 {
+fn zeros<'a>(
+    tasks: &'a [u8; Frame::MOST],
+    releases: &'a [u32; Frame::MOST],
+    deadlines: &'a [u32; Frame::MOST],
+    starts: &'a [u32; Frame::MOST],
+) -> u64 {
     let mut n: u64 = 0;
     let mut k = 0;
     while k < Frame::MOST {
-        n += one_if(is_zero(
-            rows.tasks[k],
-            rows.releases[k],
-            rows.deadlines[k],
-            rows.starts[k],
-        ));
+        n += one_if(is_zero(tasks[k], releases[k], deadlines[k], starts[k]));
         k += 1;
     }
     n
@@ -67,21 +66,34 @@ fn read(plan: &[u8]) {
 }
 
 fn make_in(plan: &[u8], lent: usize, buf: &mut [u8]) {
-    let making = maker::made(plan, lent, &mut *buf);
-    let answer = making.answer;
-    let rows = making.rows;
+    let mut tasks = [0; Frame::MOST];
+    let mut releases = [0; Frame::MOST];
+    let mut deadlines = [0; Frame::MOST];
+    let mut starts = [0; Frame::MOST];
+    let made = maker::made(
+        plan,
+        lent,
+        &mut *buf,
+        &mut tasks,
+        &mut releases,
+        &mut deadlines,
+        &mut starts,
+    );
+    let answer = made.answer;
+    let mut end = 0;
     match answer {
         linetable::Answer::Made(length) => {
             say_table(buf, length);
             say(b" rows");
-            say_rows(rows);
-            say_left(kept(buf, length), zeros(rows));
+            say_rows(made.frames, &tasks, &releases, &deadlines, &starts);
+            end = length;
         }
-        linetable::Answer::Refused(why) => {
-            say_refusal(why);
-            say_left(kept(buf, 0), zeros(rows));
-        }
+        linetable::Answer::Refused(why) => say_refusal(why),
     }
+    say_left(
+        kept(buf, end),
+        zeros(&tasks, &releases, &deadlines, &starts),
+    );
 }
 
 // No table is longer than the buffer.
@@ -94,14 +106,25 @@ fn make(plan: &[u8], lent: usize, room: usize) {
 
 // Rows that a refusal left would be said too.
 fn check(plan: &[u8], table: &[u8], lent: usize) {
-    let checked = checker::check(plan, table, lent);
+    let mut tasks = [0; Frame::MOST];
+    let mut releases = [0; Frame::MOST];
+    let mut deadlines = [0; Frame::MOST];
+    let mut starts = [0; Frame::MOST];
+    let checked = checker::check(
+        plan,
+        table,
+        lent,
+        &mut tasks,
+        &mut releases,
+        &mut deadlines,
+        &mut starts,
+    );
     let answer = checked.answer;
     match answer {
         Verdict::Fine => say(b"passed rows"),
         Verdict::Refused(why) => say_refusal(why),
     }
-    let rows = checked.rows;
-    say_rows(rows);
+    say_rows(checked.frames, &tasks, &releases, &deadlines, &starts);
 }
 
 fn run(what: u32, plan: &[u8], table: &[u8], lent: usize, room: usize) {

@@ -14,8 +14,9 @@ returns c =
 returns-2 : tie.Need-returns-2
 returns-2 c =
     let c1 = c .before .before .before .before .before in
-    let a = c1 .before .before .before .before .before .args in
-    made-response (a .plan .now) (a .out .now) _ (c1 .made .result) (c1 .before .before .if1 .left) (c1 .made .ensures .0) _
+    let c2 = c1 .before .before .before .before .before .before in
+    let a = c2 .before .before .before .args in
+    made-response (a .plan .now) (a .out .now) _ _ (c2 .if1 .left) (c1 .made .ensures .0) _
     (c .before .answer .given .1)
 
 returns-3 : tie.Need-returns-3
@@ -23,8 +24,9 @@ returns-3 c =
     let c1 = c .before .before .before in
     let c2 = c1 .before .before .before .before in
     let c3 = c2 .before .before .before .before in
-    let a = c3 .before .before .before .before .before .args in
-    refused-response (a .plan .now) (a .out .now) _ (c3 .made .result) (c3 .before .before .if1 .left) (c3 .made .ensures .0) _ _
+    let c4 = c3 .before .before .before .before .before .before in
+    let a = c4 .before .before .before .args in
+    refused-response (a .plan .now) (a .out .now) _ _ (c4 .if1 .left) (c3 .made .ensures .0) _ _
     _ _ _ (c2 .answer2 .given .1) (c1 .before .number .ensures) (c1 .place .ensures) (omega arith) (omega arith)
     (c .before .before .put-refused .ensures)
 

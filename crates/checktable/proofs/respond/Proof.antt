@@ -23,9 +23,10 @@ returns-3 : tie.Need-returns-3
 returns-3 c =
     let c1 = c .before .before in
     let c2 = c1 .before .before .before .before in
-    let a = c2 .before .before .before .before .before .before .args in
+    let c3 = c2 .before .before .before .before in
+    let a = c3 .before .before .before .before .before .before .args in
     passed-response (a .plan .now) (a .table .now) (a .out .now) (c1 .put-passed .last .0) (c1 .put-passed .result)
-    (c2 .before .before .if1 .left) (c2 .before .if2 .left) (c2 .check .result) (c2 .check .ensures .0)
+    (c3 .before .before .if1 .left) (c3 .before .if2 .left) _ (c2 .check .ensures .0)
     (c1 .before .before .enum-told .given .1) (c1 .put-passed .ensures)
 
 returns-4 : tie.Need-returns-4
@@ -35,9 +36,10 @@ returns-4 c =
     let c3 = c2 .before in
     let c4 = c3 .before .before .before in
     let c5 = c4 .before .before in
-    let a = c5 .before .before .before .before .before .before .args in
+    let c6 = c5 .before .before .before .before in
+    let a = c6 .before .before .before .before .before .before .args in
     refused-response (a .plan .now) (a .table .now) (a .out .now) (c1 .put-refused .last .0) (c1 .put-refused .result)
-    (c5 .before .before .if1 .left) (c5 .before .if2 .left) (c5 .check .result) (c5 .check .ensures .0)
+    (c6 .before .before .if1 .left) (c6 .before .if2 .left) _ (c5 .check .ensures .0)
     (c4 .answer .given .0 .0) (c3 .number .result) (c2 .place .result) (c4 .answer .given .1) (c3 .number .ensures)
     (c2 .place .ensures) (omega arith) (omega arith) (c1 .put-refused .ensures)
 

@@ -7,36 +7,36 @@ use Rattle.keeping.proofs.kept.Statement.{statement}
 use Rattle.keeping.proofs.kept.Tie as tie
 
 stops-requires : tie.Need-stops-requires
-stops-requires c κs = let start = c .before .before .before .before .before .before .before .before .before in (start .pre .1 .0 .1, start .pre .1 .1)
+stops-requires c κs = let start = c .before .before .before .before .before in (start .pre .1 .0 .1, start .pre .1 .1)
 
 pair-modes-requires : tie.Need-pair-modes-requires
-pair-modes-requires c κs = let start = c .before .before .before .before .before .before .before .before .before .before .before .before .before in start .pre .1 .0 .1
+pair-modes-requires c κs = let start = c .before .before .before .before .before .before .before in start .pre .1 .0 .1
 
 modules-requires : tie.Need-modules-requires
 unfolding sendersOf
-modules-requires c κs = rw (c .before .before .before .before .before .before .before .before .before .before .before .before .before .before .before .before .before .of .ensures)
+modules-requires c κs = rw (c .before .before .before .before .before .before .before .before .before .before .before .before .before .before .of .ensures)
 
 tasks-requires : tie.Need-tasks-requires
-tasks-requires c κs = let start = c .before .before .before .before .before .before .before .before .before .before .before .before .before .before .before .before .before .before .before .before in start .pre .0
+tasks-requires c κs = let start = c .before .before .before .before .before .before .before .before .before .before .before .before .before .before .before .before .before in start .pre .0
 
 controls-requires : tie.Need-controls-requires
-controls-requires c κs = let start = c .before .before .before .before .before .before .before .before .before .before .before .before .before .before .before .before .before .before .before .before .before in start .pre .1 .0 .0
+controls-requires c κs = let start = c .before .before .before .before .before .before .before .before .before .before .before .before .before .before .before .before .before .before in start .pre .1 .0 .0
 
 cast-t28 : tie.Need-cast-t28
-cast-t28 c = let start = c .before .before .before .before .before .before .before .before .before .before .before .before .before .before .before .before .before .before .before .before .before .before .before in omega (arith, start .pre .1 .0 .1)
+cast-t28 c = let start = c .before .before .before .before .before .before .before .before .before .before .before .before .before .before .before .before .before .before .before in omega (arith, start .pre .1 .0 .1)
 
 returns : tie.Need-returns
 unfolding keptFrom
 returns c =
     rw (
-      c .before .before .before .before .modules .ensures,
-      c .before .before .before .modes .ensures,
-      c .before .before .tasks .ensures,
-      c .before .controls .ensures,
+      c .before .before .before .modules .ensures,
+      c .before .before .modes .ensures,
+      c .before .tasks .ensures,
+      c .controls .ensures,
       c .before .before .before .before .before .before .before .before .before .before .before .before .before .stops .ensures,
-      c .before .before .before .before .before .before .before .before .before .pair-modes .ensures,
-      c .before .before .before .before .before .before .before .before .before .before .before .before .before .before .before .before .before .before .before .before .runs .ensures,
-      c .before .before .before .before .before .before .before .not-begun .ensures,
+      c .before .before .before .before .before .before .before .before .before .before .before .pair-modes .ensures,
+      c .before .before .before .before .before .before .before .before .before .before .before .before .before .before .before .before .runs .ensures,
+      c .before .before .before .before .before .before .not-begun .ensures,
     )
 
 pub kept-spec : {M : Type 1} → statement M

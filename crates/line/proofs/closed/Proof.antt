@@ -8,7 +8,7 @@ use Rattle.bus.specs.declared.senders.Senders.{Senders}
 use Rattle.bus.specs.Senders.{sendersOf}
 use Rattle.line.specs.declared.Line.{Line}
 use Rattle.answers.specs.declared.Verdict.the-variants.{Fine}
-use Rattle.line.proofs.Ways.{lays-refused, lays-sound, ten-message, ten-control, eleven, sound}
+use Rattle.line.proofs.Ways.{closes-refused, closes-sound, ten-message, ten-control, eleven, sound}
 use borrow.Author.Needs.{needs}
 use Rattle.line.proofs.closed.Statement.{statement}
 use Rattle.line.proofs.closed.Tie as tie
@@ -17,7 +17,7 @@ returns : tie.Need-returns
 unfolding seen sendersOf countSeen busSeen
 returns c =
     let start = c .before .before .before .before .before in
-    lays-refused PayloadTooLarge _ _ (c .refused .ensures)
+    closes-refused PayloadTooLarge _ (c .refused .ensures) _
     (ten-message (seen (start .args .t1)) _ _ (omega (arith, start .pre .0 .taskCount .most))
     (omega (arith, start .pre .0 .nodeCount .most)) (ap (λ (x : Senders). x .tasks) (start .pre .1 .0))
     (ap (λ (x : Senders). x .payloads) (start .pre .1 .0)) (start .pre .1 .1 .1 .1)
@@ -34,7 +34,7 @@ unfolding seen sendersOf countSeen busSeen
 returns-2 c =
     let c1 = c .before .before .before .before .before in
     let c2 = c1 .before .before .before .before in
-    lays-refused PayloadTooLarge _ _ (c .refused2 .ensures)
+    closes-refused PayloadTooLarge _ (c .refused2 .ensures) _
     (ten-control (seen (c2 .args .t1)) _ _ (omega (arith, c2 .pre .0 .taskCount .most))
     (omega (arith, c2 .pre .0 .nodeCount .most)) (ap (λ (x : Senders). x .tasks) (c2 .pre .1 .0))
     (ap (λ (x : Senders). x .payloads) (c2 .pre .1 .0)) (c2 .pre .1 .1 .1 .1)
@@ -53,7 +53,7 @@ returns-3 c =
     let c1 = c .before .before .before .before in
     let c2 = c1 .before .before .before .before .before in
     let c3 = c2 .before .before .before .before in
-    lays-refused ControlTooLong _ _ (c .refused3 .ensures)
+    closes-refused ControlTooLong _ (c .refused3 .ensures) _
     (eleven (seen (c3 .args .t1)) _ _ (omega (arith, c3 .pre .0 .taskCount .most))
     (omega (arith, c3 .pre .0 .nodeCount .most)) (ap (λ (x : Senders). x .tasks) (c3 .pre .1 .0))
     (ap (λ (x : Senders). x .payloads) (c3 .pre .1 .0)) (c3 .pre .1 .1 .1 .1)
@@ -96,7 +96,7 @@ returns-4 c =
     let c2 = c1 .before .before .before .before .before in
     let c3 = c2 .before .before .before .before in
     let a = c3 .args in
-    lays-sound (seen (a .t1)) _ (ap (λ (x : Line). record { answer = Fine; line = x }) (c .line-of .ensures))
+    closes-sound (seen (a .t1)) _ (ap (λ (x : Line). record { answer = Fine; line = x }) (c .line-of .ensures))
     (sound (seen (a .t1)) _ _ (omega (arith, c3 .pre .0 .taskCount .most)) (omega (arith, c3 .pre .0 .nodeCount .most))
     (ap (λ (x : Senders). x .tasks) (c3 .pre .1 .0)) (ap (λ (x : Senders). x .payloads) (c3 .pre .1 .0))
     (c3 .pre .1 .1 .1 .1) (sym (c2 .before .messages-fit .ensures) ∙ not-false _ (c2 .if1 .left))

@@ -2,7 +2,6 @@
 use Rattle.plan.specs.Memory.{seen, busSeen}
 use Rattle.payloads.proofs.Small.{gap-small}
 use Rattle.line.proofs.Built.{line-is}
-use mathlib.Core.Path.{sym}
 use borrow.Author.Needs.{needs}
 use Rattle.line.proofs.line_of.Statement.{statement}
 use Rattle.line.proofs.line_of.Tie as tie
@@ -16,11 +15,10 @@ cast-gap c =
 returns : tie.Need-returns
 unfolding seen busSeen
 returns c =
-    let c1 = c .before .before .before .before .before .before .before in
+    let c1 = c .before .before .before .before in
     let c2 = c1 .before .before .before .before .before in
     line-is (seen (c2 .args .p)) (c2 .pre .1 .0 .0) (c1 .before .before .gap-time .ensures .0) (c2 .pre .1 .0 .1) (c1 .message-times .ensures)
-    (c2 .pre .1 .1 .0)
-    (sym (c2 .pre .1 .1 .1 .0)) (c2 .pre .1 .1 .1 .1)
+    (c2 .pre .1 .1 .0) (c2 .pre .1 .1 .1)
 
 pub line-of-spec : {M : Type 1} → statement M
 line-of-spec = tie.close (tie.spec (λ c κs. search needs) cast-gap (λ c κs. search needs) (λ c. search needs) returns)

@@ -19,8 +19,8 @@ returns c =
     let c2 = c1 .before .before .before in
     let start = c2 .before in
     let a = start .args in
-    lays-refused NoBusTask _ _ (c .refused .ensures)
-    (six (seen (a .p)) (sym (some-is (seen (a .p)) (start .pre) _ _ (ap (λ (x : Senders). x .tasks) (c2 .of .ensures))
+    lays-refused NoBusTask _ (c .refused .ensures) (start .pre .1) _
+    (six (seen (a .p)) (sym (some-is (seen (a .p)) (start .pre .0) _ _ (ap (λ (x : Senders). x .tasks) (c2 .of .ensures))
     (c1 .task-count .ensures .0)) ∙ sym (c .before .before .some-bus-task .ensures) ∙ not-true _ (c .before .if1 .taken)))
 
 of-requires-2 : tie.Need-of-requires-2
@@ -39,10 +39,10 @@ returns-2 c =
     let c3 = c2 .before .before .before .before in
     let start = c3 .before in
     let a = start .args in
-    lays-refused PeriodDoesNotDivide _ _ (c .refused2 .ensures)
-    (seven (seen (a .p)) (sym (some-is (seen (a .p)) (start .pre) _ _ (ap (λ (x : Senders). x .tasks) (c3 .of .ensures))
+    lays-refused PeriodDoesNotDivide _ (c .refused2 .ensures) (start .pre .1) _
+    (seven (seen (a .p)) (sym (some-is (seen (a .p)) (start .pre .0) _ _ (ap (λ (x : Senders). x .tasks) (c3 .of .ensures))
     (c2 .before .task-count .ensures .0)) ∙ sym (c2 .some-bus-task .ensures) ∙ not-false _ (c1 .before .before .if1 .left))
-    (divides-seven (seen (a .p)) (start .pre) _ (c1 .before .of2 .ensures .0) _ _ (c1 .switch-grid .ensures)
+    (divides-seven (seen (a .p)) (start .pre .0) _ (c1 .before .of2 .ensures .0) _ _ (c1 .switch-grid .ensures)
     (c .before .before .period-divides .ensures) ∙ not-true _ (c .before .if2 .taken)))
 
 bus-period-requires : tie.Need-bus-period-requires
@@ -56,8 +56,8 @@ bus-period-requires c κs =
       c1 .of2 .ensures .1,
       (
         rw (c .before .before .switch-grid .ensures)
-            (grid-positive (seen (a .p)) (start .pre)
-            (sym (some-is (seen (a .p)) (start .pre) _ _ (ap (λ (x : Senders). x .tasks) (c3 .of .ensures))
+            (grid-positive (seen (a .p)) (start .pre .0)
+            (sym (some-is (seen (a .p)) (start .pre .0) _ _ (ap (λ (x : Senders). x .tasks) (c3 .of .ensures))
             (c2 .task-count .ensures .0)) ∙ sym (c1 .before .before .some-bus-task .ensures) ∙ not-false _ (c1 .before .if1 .left))),
         sym (c .before .period-divides .ensures) ∙ not-false _ (c .if2 .left),
       ),
@@ -73,18 +73,19 @@ returns-3 c =
     let c5 = c4 .before .before .before in
     let start = c5 .before in
     let a = start .args in
-    lays-refused PeriodOffResolution _ _ (c .refused3 .ensures)
-    (eight (seen (a .p)) (sym (some-is (seen (a .p)) (start .pre) _ _ (ap (λ (x : Senders). x .tasks) (c5 .of .ensures))
+    lays-refused PeriodOffResolution _ (c .refused3 .ensures) (start .pre .1) _
+    (eight (seen (a .p)) (sym (some-is (seen (a .p)) (start .pre .0) _ _ (ap (λ (x : Senders). x .tasks) (c5 .of .ensures))
     (c4 .task-count .ensures .0)) ∙ sym (c3 .before .before .some-bus-task .ensures) ∙ not-false _ (c3 .before .if1 .left))
-    (divides-seven (seen (a .p)) (start .pre) _ (c3 .of2 .ensures .0) _ _ (c2 .switch-grid .ensures)
+    (divides-seven (seen (a .p)) (start .pre .0) _ (c3 .of2 .ensures .0) _ _ (c2 .switch-grid .ensures)
     (c1 .before .before .period-divides .ensures) ∙ not-false _ (c1 .before .if2 .left))
-    (divides-eight (seen (a .p)) (start .pre) _ (c3 .of2 .ensures .0) _ _ _ (c1 .bus-period .ensures .0) refl
+    (divides-eight (seen (a .p)) (start .pre .0) _ (c3 .of2 .ensures .0) _ _ _ (c1 .bus-period .ensures .0) refl
     (c .before .before .divides .ensures) ∙ not-true _ (c .before .if3 .taken)))
 
 framed-requires : tie.Need-framed-requires
 unfolding sendersOf seen busSeen
 framed-requires c κs =
-    let c1 = c .before .before in
+    let c0 = c .before .before .before in
+    let c1 = c0 .before .before in
     let c2 = c1 .before in
     let c3 = c2 .before in
     let c4 = c3 .before in
@@ -95,29 +96,32 @@ framed-requires c κs =
     let c9 = c8 .before .before .before in
     let start = c9 .before in
     let a = start .args in (
-      (start .pre),
+      start .pre .0,
       (
         (
-          (sym (some-is (seen (a .p)) (start .pre) _ _ (ap (λ (x : Senders). x .tasks) (c9 .of .ensures))
+          (sym (some-is (seen (a .p)) (start .pre .0) _ _ (ap (λ (x : Senders). x .tasks) (c9 .of .ensures))
               (c8 .task-count .ensures .0)) ∙ sym (c7 .some-bus-task .ensures) ∙ not-false _ (c6 .if1 .left)),
           divides-true _ _
-              (divides-seven (seen (a .p)) (start .pre) _ (c5 .of2 .ensures .0) _ _ (c4 .switch-grid .ensures)
+              (divides-seven (seen (a .p)) (start .pre .0) _ (c5 .of2 .ensures .0) _ _ (c4 .switch-grid .ensures)
               (c3 .period-divides .ensures) ∙ not-false _ (c2 .if2 .left)),
         ),
         (
           (
             c9 .of .ensures,
             c5 .of2 .ensures .0,
-            c1 .bus-period .ensures .0 ∙ period-is (seen (a .p)) (start .pre) _
+            c1 .bus-period .ensures .0 ∙ period-is (seen (a .p)) (start .pre .0) _
                 (c5 .of2 .ensures .0),
           ),
-          past-eight (seen (a .p))
-              (sym (some-is (seen (a .p)) (start .pre) _ _ (ap (λ (x : Senders). x .tasks) (c9 .of .ensures))
-              (c8 .task-count .ensures .0)) ∙ sym (c7 .some-bus-task .ensures) ∙ not-false _ (c6 .if1 .left))
-              (divides-seven (seen (a .p)) (start .pre) _ (c5 .of2 .ensures .0) _ _ (c4 .switch-grid .ensures)
-              (c3 .period-divides .ensures) ∙ not-false _ (c2 .if2 .left))
-              (divides-eight (seen (a .p)) (start .pre) _ (c5 .of2 .ensures .0) _ _ _ (c1 .bus-period .ensures .0) refl
-              (c .before .divides .ensures) ∙ not-false _ (c .if3 .left)),
+          (
+            past-eight (seen (a .p))
+                (sym (some-is (seen (a .p)) (start .pre .0) _ _ (ap (λ (x : Senders). x .tasks) (c9 .of .ensures))
+                (c8 .task-count .ensures .0)) ∙ sym (c7 .some-bus-task .ensures) ∙ not-false _ (c6 .if1 .left))
+                (divides-seven (seen (a .p)) (start .pre .0) _ (c5 .of2 .ensures .0) _ _ (c4 .switch-grid .ensures)
+                (c3 .period-divides .ensures) ∙ not-false _ (c2 .if2 .left))
+                (divides-eight (seen (a .p)) (start .pre .0) _ (c5 .of2 .ensures .0) _ _ _ (c1 .bus-period .ensures .0) refl
+                (c0 .before .divides .ensures) ∙ not-false _ (c0 .if3 .left)),
+            start .pre .1,
+          ),
         ),
       ),
     )

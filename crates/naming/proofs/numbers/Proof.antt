@@ -1,5 +1,5 @@
 -- Invariant: the first k places are filled by `numberAt` (`stores`); a turn is `stores-turn` on what `number_of` promises.
-use mathlib.Core.Path.{_≡_, refl}
+use mathlib.Core.Path.{_≡_}
 use Prim.Native.Nat.{_-_, _≤_}
 use native.Mathlib.Omega.{arith}
 use lib.ListN.{replicate}
@@ -19,7 +19,7 @@ abbrev μ-loop : tie.MeasureT-loop
 μ-loop tasks deadlines frames rowTasks rowDeadlines rows found₀ k₀ found k = rows - k
 
 loop-holds : tie.Need-loop-holds Inv-loop μ-loop
-loop-holds c = (search needs, refl)
+loop-holds c = (search needs, c .pre .1 .1)
 
 number-of-requires : tie.Need-number-of-requires Inv-loop μ-loop
 number-of-requires c κs = c .before .before .before .before .pre .0

@@ -23,10 +23,9 @@ abbrev μ-loop : tie.MeasureT-loop
 loop-holds : tie.Need-loop-holds Inv-loop μ-loop
 loop-holds c = (
   search needs,
-  stores-none _ (taskAt (c .args .tasks .now) (c .args .numbers .now)),
-  stores-none _
-      (taskAt (c .args .deadlines .now) (c .args .numbers .now)),
-  stores-none _
+  c .pre .1 .1 .0 ∙ stores-none _ (taskAt (c .args .tasks .now) (c .args .numbers .now)),
+  c .pre .1 .1 .1 ∙ stores-none _ (taskAt (c .args .deadlines .now) (c .args .numbers .now)),
+  c .pre .1 .1 .2 ∙ stores-none _
       (stopAt (c .args .tasks .now) (c .args .times .now) (c .args .numbers .now) (c .args .starts .now)),
 )
 

@@ -6,10 +6,10 @@ use Rattle.vectors.proofs.zeros.Statement.{statement}
 use Rattle.vectors.proofs.zeros.Tie as tie
 
 abbrev Inv-loop : tie.InvT-loop
-Inv-loop rows n₀ k₀ n k = (n ≤ k) × (k ≤ mostFrames)
+Inv-loop tasks releases deadlines starts n₀ k₀ n k = (n ≤ k) × (k ≤ mostFrames)
 
 abbrev μ-loop : tie.MeasureT-loop
-μ-loop rows n₀ k₀ n k = mostFrames - k
+μ-loop tasks releases deadlines starts n₀ k₀ n k = mostFrames - k
 
 pub zeros-spec : {M : Type 1} → statement M
 zeros-spec =

@@ -1,4 +1,5 @@
--- Two cases of the outcome: a whole file gives what was gathered (`read-whole`), a broken one no table (`read-broken`).
+-- Two cases of the outcome: a whole file gives what was gathered (`read-whole`), a broken one no table, the lent arrays cleared
+-- (`read-broken`); both gather from the zeros that were lent.
 use denote.Ref.{now}
 use Rattle.table.specs.Memory.{tableFrom}
 use Rattle.table.proofs.Gathering.{read-whole, read-broken}
@@ -10,16 +11,16 @@ returns : tie.Need-returns
 unfolding tableFrom
 returns c =
     let c1 = c .before .before .before in
-    let a = c1 .before .before .before .before .before .before .before .before .before .args in
-    read-whole (now (a .s)) (c1 .gather .result) _ _ _ _ _ _ _ (c1 .gather .ensures) (c .enum-told .given .1)
+    let c2 = c1 .before .before .before .before .before .before .before .before .before in
+    read-whole (now (c2 .args .s)) (c1 .gather .result) _ _ _ _ _ _ _ (c2 .pre) (c1 .gather .ensures) (c .enum-told .given .1)
 
 returns-2 : tie.Need-returns-2
-unfolding tableFrom
 returns-2 c =
-    let c1 = c .before .before .before .before .before in
-    let a = c1 .before .before .before .before .before .before .before .before .before .args in
-    rw (c .empty .ensures) (read-broken (now (a .s)) (c1 .gather .result) _ _ _ _ _ _ _ (c1 .gather .ensures)
-    (c .before .before .outcome .given .1))
+    let c1 = c .before .before .before .before .before .before in
+    let c2 = c1 .before .before .before in
+    let c3 = c2 .before .before .before .before .before .before .before .before .before in
+    read-broken (now (c3 .args .s)) (c2 .gather .result) _ _ _ _ _ _ _ (c3 .pre) (c2 .gather .ensures) (c1 .outcome .given .1)
+    (c .empty .ensures)
 
 pub read-table-spec : {M : Type 1} → statement M
 read-table-spec =

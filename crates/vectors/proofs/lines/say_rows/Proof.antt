@@ -1,14 +1,14 @@
--- Invariant: k is at most n, and the rows left fall; the loop's test guards each read.
+-- Invariant: k is at most the number of frames, and the rows left fall; the loop's test guards each read.
 use Prim.Native.Nat.{_-_, _≤_}
 use borrow.Author.Needs.{needs}
 use Rattle.vectors.proofs.lines.say_rows.Statement.{statement}
 use Rattle.vectors.proofs.lines.say_rows.Tie as tie
 
 abbrev Inv-loop : tie.InvT-loop
-Inv-loop rows n k₀ k = k ≤ n
+Inv-loop frames tasks releases deadlines starts k₀ k = k ≤ frames
 
 abbrev μ-loop : tie.MeasureT-loop
-μ-loop rows n k₀ k = n - k
+μ-loop frames tasks releases deadlines starts k₀ k = frames - k
 
 pub say-rows-spec : {M : Type 1} → statement M
 say-rows-spec =

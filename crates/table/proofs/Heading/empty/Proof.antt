@@ -1,8 +1,8 @@
 -- Plain computation, with the promise of `Header::empty` rewritten.
 use Rattle.table.specs.Memory.{emptyTable, layOut, noTable}
 use borrow.Author.Needs.{needs}
-use Rattle.table.proofs.Table.empty.Statement.{statement}
-use Rattle.table.proofs.Table.empty.Tie as tie
+use Rattle.table.proofs.Heading.empty.Statement.{statement}
+use Rattle.table.proofs.Heading.empty.Tie as tie
 
 returns : tie.Need-returns
 unfolding emptyTable layOut noTable
