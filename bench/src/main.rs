@@ -2,47 +2,16 @@
 //! both, one after the other; a line has the medians over the rounds, the median of the rounds'
 //! ratios, and the ratios between which the middle half of the rounds lies.
 
+use bench::{SIZES, TICKS, plan_with, ticks_of};
 use olbiothar::{FRAMES, Frame, LONGEST_TABLE, Refusal, Station};
-use reference::generate::{Draft, History, Rng, Tick, job_a, quick_runs, starting_modes};
-use reference::plan::{Connection, Invocation, Mode, Task};
-use reference::{FrameRow, plan};
+use reference::FrameRow;
+use reference::generate::quick_runs;
 use std::hint::black_box;
 use std::time::Instant;
 
 const ROUNDS: usize = 101;
 /// Of one side in one round.
 const ROUND_NANOSECONDS: f64 = 2_000_000.0;
-const TICKS: usize = 2_000;
-
-/// How often each bus task runs in a cycle: the sum is the number of frames. All divide the cycle.
-const SIZES: [(usize, &[u16]); 4] = [
-    (8, &[1, 2, 5]),
-    (64, &[1, 2, 3, 4, 5, 6, 7, 8, 9, 10, 9]),
-    (256, &[1, 2, 3, 4, 5, 6, 7, 8, 9, 10, 11, 12, 13, 14, 15, 16, 18, 20, 21, 22, 24, 15]),
-    (
-        1_024,
-        &[
-            1, 2, 3, 4, 5, 6, 7, 8, 9, 10, 11, 12, 13, 14, 15, 16, 18, 20, 21, 22, 24, 28, 36, 44,
-            55, 70, 88, 104, 112, 120, 126,
-        ],
-    ),
-];
-
-/// Two nodes: all bus tasks are on one, and one task on the other reads them.
-fn plan_with(rates: &[u16]) -> Draft {
-    let period = 720_720;
-    let mut draft = job_a();
-    (draft.bits.kbits, draft.bits.overhead) = (10_000, 8);
-    draft.modes = [0, 1].map(|module| Mode { module, period, switch_period: period }).to_vec();
-    draft.tasks = rates.iter().map(|_| Task { module: 0, size: 4, worst_time: 1_000 }).collect();
-    draft.tasks.push(Task { module: 1, size: 4, worst_time: 1_000 });
-    let runs = (0..).zip(rates);
-    draft.invocations = runs.map(|(task, &rate)| Invocation { mode: 0, task, rate }).collect();
-    let consumer = rates.len() as u8;
-    draft.invocations.push(Invocation { mode: 1, task: consumer, rate: 1 });
-    draft.connections = (0..consumer).map(|producer| Connection { producer, consumer }).collect();
-    draft
-}
 
 /// Nanoseconds of one call: the mean over so many calls.
 fn time<T>(calls: usize, call: &mut impl FnMut() -> T) -> f64 {
@@ -122,11 +91,7 @@ fn compare_check(frames: usize, plan: &[u8], table: &[u8]) {
 
 /// The same history again and again, each time from the beginning.
 fn compare_ticks(frames: usize, plan: &[u8], table: &[u8]) {
-    let read = plan::read(plan).expect("the plan is good");
-    let rng = &mut Rng::new(1);
-    let modes = starting_modes(rng, &read);
-    let mut history = History::new(rng, &read, &modes, None);
-    let ticks: Vec<Tick> = (0..TICKS).map(|_| history.next_tick().0).collect();
+    let (modes, ticks) = ticks_of(plan);
     let begun = Station::begin(plan, table, &modes).expect("the table passes");
     let rust_begun = reference::Station::begin(plan, table, modes).expect("the table passes");
     compare(

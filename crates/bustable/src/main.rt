@@ -9,6 +9,7 @@ use input::Input;
 use libc::STDIN_FILENO;
 use libc::STDOUT_FILENO;
 use linetable::Answer;
+use units::ByteCount;
 use units::Frame;
 
 // The answer at the front of `out`; its length. No line has more than 53 bytes.
@@ -46,8 +47,7 @@ fn main() {
     let got = input::read_open(STDIN_FILENO, b"standard input", &mut plan);
     match got {
         Input::Bytes(n) => {
-            // The longest table, 8 control rows and 1,024 data rows, has 14,425 bytes.
-            let mut out = [0u8; 14425];
+            let mut out = [0u8; ByteCount::LONGEST_TABLE];
             let length = respond(&plan[..n], &mut out);
             io::write_all(STDOUT_FILENO, &out[..length]);
         }

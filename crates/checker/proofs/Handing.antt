@@ -1,5 +1,5 @@
 -- The ways of a check that hands on what it read: what each answers is what the rules say there.
-use mathlib.Core.Path.{_≡_, refl, sym, ap, _∙_}
+use mathlib.Core.Path.{_≡_, refl, sym, ap, ap₂, _∙_}
 use mathlib.Core.Bool.{true}
 use mathlib.Core.List.{List}
 use mathlib.Core.Logic.{inl}
@@ -7,18 +7,15 @@ use lib.ListN.{replicate}
 use Prim.Native.Nat.{ℕ, _≤_}
 use Rattle.laws.specs.Res.{Res, ok, refuse}
 use Rattle.laws.proofs.Res.{refuse≢ok, refuse-number, refuse-place}
-use Rattle.units.specs.declared.Offset.{Offset}
 use Rattle.rules.specs.Limits.{mostFrames}
-use Rattle.rules.specs.Records.{records, tableFollows}
+use Rattle.rules.specs.Records.{Rec, records, tableFollows}
 use Rattle.rules.specs.Plan as rules
 use Rattle.rules.specs.Plan.{readPlan}
 use Rattle.rules.specs.Frames.{layoutOf}
 use Rattle.rules.specs.Checker.{Passed, judged, tableOf, checkFiles}
 use Rattle.rules.proofs.RecordsExact.{records-refused}
 use Rattle.answers.specs.declared.Refusal.{Refusal}
-use Rattle.answers.specs.declared.Refusal.the-variants.{BadTableRecords}
 use Rattle.answers.specs.Refusals.{numberOf, placeOf, said, heard}
-use Rattle.answers.specs.declared.Verdict.{Verdict}
 use Rattle.answers.specs.declared.Verdict.the-variants.{Fine, Refused}
 use Rattle.plan.specs.declared.Plan.{Plan}
 use Rattle.plan.specs.Memory.{seen, layOut}
@@ -32,14 +29,12 @@ use Rattle.line.specs.Line.{Drawing, drawing, lineIn, lineOf, noLine}
 use Rattle.line.specs.Laying.{Lays, laid, fileLaid}
 use Rattle.line.proofs.Drawn.{Drawn}
 use Rattle.line.proofs.Reading.{sound-laid}
-use Rattle.table.specs.declared.read.Outcome.the-variants.{Whole, Broken}
-use Rattle.table.specs.Memory as tables
-use Rattle.table.specs.Memory.{ReadTable, readingOf}
 use Rattle.naming.specs.Places.{Numbered}
-use Rattle.judging.specs.Judged.{judgement, framesOn, lineJudged, Right}
 use Rattle.checker.specs.declared.Passing.{Passing}
+use Rattle.checker.specs.declared.CheckedRows.{CheckedRows}
+use Rattle.checker.specs.Unscanned.{ByTable}
 use Rattle.checker.specs.Passing.{Passes, noPassing, startsOf, tablePassed}
-use Rattle.checker.proofs.Ways.{right-by, drawn-ready, laid-refused, laid-sound, file-laid, file-drawn, plan-refused, reading-broken, reading-whole}
+use Rattle.checker.proofs.Ways.{right-by, drawn-ready, laid-refused, laid-sound, file-laid, file-drawn, plan-refused}
 
 -- the three arrays of a plan's pairs are zeros
 abbrev NoPairs : List ℕ → List ℕ → List ℕ → Type 0
@@ -63,46 +58,47 @@ module _ (p : Plan) (line : Line) (pairTasks releases pairDeadlines : List ℕ)
   pub judge-ready : Numbered pairTasks pairDeadlines (line .frames) × (line .controls ≤ 8)
   judge-ready = drawn-ready (seen p) (ready .2) (ready .1)
 
-  module _ (table : List ℕ) (r : Passing) (tasks deadlines starts : List ℕ) (reading : ReadTable) (is : reading ≡ readingOf (records tableFollows 20 table)) where
+  module _ (table : List ℕ) (r : Passing) (tasks deadlines starts : List ℕ) (j : CheckedRows) (given : List ℕ)
+      (by : ByTable true l (records tableFollows 20 table) j given) where
     -- what is promised of the result and the lent arrays
     abbrev Promised : Type 0
     Promised = Passes r tasks deadlines starts (tablePassed (seen p) table)
 
-    -- 20
-    pub on-broken : (at : Offset) → reading .outcome ≡ Broken at → r ≡ noPassing (BadTableRecords at) → NoPairs tasks deadlines starts → Promised
+    -- 20 to 28
+    pub on-refused : (why : Refusal) → j .answer ≡ Refused why → r ≡ noPassing why → NoPairs tasks deadlines starts → Promised
     unfolding tablePassed
-    on-broken at q e z =
-        let b = reading-broken (records tableFollows 20 table) reading at is q in
-        passes-refused (BadTableRecords at) r (tablePassed (seen p) table) e z
-        (rw (b .1, records-refused tableFollows 20 table (b .0) (at .0) .0 (b .1) .0))
+    on-refused why q e z = passes-refused why r (tablePassed (seen p) table) e z (go (records tableFollows 20 table) refl by)
+      where
+        go : (m : Res (List Rec)) → records tableFollows 20 table ≡ m → ByTable true l m j given → tablePassed (seen p) table ≡ said why
+        go (refuse n at) broken is =
+            let same : _≡_ {A = Res (Unit {0})} (refuse 20 at) (said why) = sym (ap (λ (c : CheckedRows). heard (c .answer)) is) ∙ ap heard q in
+            rw (broken, records-refused tableFollows 20 table n at .0 broken .0) (ap₂ refuse (refuse-number same) (refuse-place same))
+        go (ok rs) areRows is =
+            let says = right-by (seen p) (ready .2) rs (ready .1) (is .1) in
+            let refuses : judged (layoutOf (seen p)) (tableOf rs) ≡ said why = sym (says .verdict (inl refl)) ∙ ap heard q in
+            rw (areRows, refuses)
 
-    module _ (whole : reading .outcome ≡ Whole) {v : Verdict} {given : List ℕ}
-        (right : Right true releases (line .frames) (lineJudged l (tables.seen (reading .table))) (framesOn l) (tables.seen (reading .table)) (judgement v given)) where
-      -- 21 to 28
-      pub on-refused : (why : Refusal) → v ≡ Refused why → r ≡ noPassing why → NoPairs tasks deadlines starts → Promised
-      unfolding tablePassed
-      on-refused why q e z =
-          reading-whole (records tableFollows 20 table) reading is whole λ rs areRows held.
-          let says = right-by (seen p) (ready .2) rs (ready .1) held right in
-          let refuses : judged (layoutOf (seen p)) (tableOf rs) ≡ said why = sym (says .verdict (inl refl)) ∙ ap heard q in
-          passes-refused why r (tablePassed (seen p) table) e z (rw (areRows, refuses))
-
-      -- it passes
-      pub on-passed : v ≡ Fine → r ≡ record { answer = v; plan = p; line = line } → tasks ≡ pairTasks → deadlines ≡ pairDeadlines → starts ≡ given → Promised
-      unfolding tablePassed startsOf
-      on-passed q e t d s =
-          reading-whole (records tableFollows 20 table) reading is whole λ rs areRows held.
-          let says = right-by (seen p) (ready .2) rs (ready .1) held right in
-          let passes : judged (layoutOf (seen p)) (tableOf rs) ≡ ok tt = sym (says .verdict (inl refl)) ∙ ap heard q in
-          rw (areRows, passes, e)
-          (record {
-            answered = ap heard q;
-            plan = ready .0;
-            line = ap lineIn (ready .1);
-            tasks = t ∙ ap (λ (z : Drawing). z .tasks) (ready .1);
-            deadlines = d ∙ ap (λ (z : Drawing). z .deadlines) (ready .1);
-            starts = s ∙ says .starts passes;
-          })
+    -- it passes
+    pub on-passed : j .answer ≡ Fine → r ≡ record { answer = j .answer; plan = p; line = line } → tasks ≡ pairTasks → deadlines ≡ pairDeadlines → starts ≡ given
+        → Promised
+    unfolding tablePassed startsOf
+    on-passed q e t d s = go (records tableFollows 20 table) refl by
+      where
+        go : (m : Res (List Rec)) → records tableFollows 20 table ≡ m → ByTable true l m j given → Promised
+        go (refuse n at) broken is =
+            let z : refuse 20 at ≡ ok tt = sym (ap (λ (c : CheckedRows). heard (c .answer)) is) ∙ ap heard q in refuse≢ok z
+        go (ok rs) areRows is =
+            let says = right-by (seen p) (ready .2) rs (ready .1) (is .1) in
+            let passes : judged (layoutOf (seen p)) (tableOf rs) ≡ ok tt = sym (says .verdict (inl refl)) ∙ ap heard q in
+            rw (areRows, passes, e)
+            (record {
+              answered = ap heard q;
+              plan = ready .0;
+              line = ap lineIn (ready .1);
+              tasks = t ∙ ap (λ (z : Drawing). z .tasks) (ready .1);
+              deadlines = d ∙ ap (λ (z : Drawing). z .deadlines) (ready .1);
+              starts = s ∙ says .starts passes;
+            })
 
 -- ---- by a plan file
 

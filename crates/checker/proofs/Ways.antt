@@ -31,7 +31,7 @@ use Rattle.line.specs.Laying as laying
 use Rattle.line.specs.Laying.{Lays, laid, fileLaid}
 use Rattle.table.specs.declared.read.Outcome.the-variants.{Whole, Broken}
 use Rattle.naming.specs.Places.{Numbered}
-use Rattle.table.specs.Memory.{Table, ReadTable, layOut, seen, readingOf}
+use Rattle.table.specs.Memory.{ReadTable, layOut, seen, readingOf}
 use Rattle.judging.specs.Judged.{Judgement, judgement, framesOn, lineJudged, startIn, NoneEarly, Right}
 use Rattle.line.proofs.Drawn.{Drawn, drawn}
 use Rattle.judging.proofs.Layouts.{line-numbered, line-controls, line-right}
@@ -39,7 +39,7 @@ use Rattle.rows.specs.Frames.{rowsWith, NoRows}
 use Rattle.rows.specs.Rows.{Rows, rowTask, rowRelease, rowDeadline, rowStart, rowsLaid}
 use Rattle.answers.specs.declared.Verdict.{Verdict}
 use Rattle.answers.specs.declared.Verdict.the-variants.{Fine, Refused}
-use Rattle.checker.specs.Unscanned.{Judged, checking, refuses, Settles}
+use Rattle.checker.specs.Unscanned.{ByTable, Judged, checking, refuses, Settles}
 use Rattle.checker.specs.declared.CheckedRows.{CheckedRows}
 use Rattle.checker.specs.declared.Ruling.{Ruling}
 use Rattle.checked.specs.Checking.{Checked, Checks, verdict, lentPassed, PassesExactly, RefusesExactly}
@@ -130,20 +130,30 @@ plan-refused plan table n at e =
 
 -- ---- a table that was read
 
-pub reading-broken : (m : Res (List Rec)) (r : ReadTable) (at : Offset) → r ≡ readingOf m → r .outcome ≡ Broken at → (n : ℕ) × (m ≡ refuse n (at .0))
-reading-broken (ok rs) r at e q =
+reading-broken : {C : Type 0} (m : Res (List Rec)) (r : ReadTable) (at : Offset) → r ≡ readingOf m → r .outcome ≡ Broken at
+    → ((n : ℕ) → m ≡ refuse n (at .0) → C) → C
+reading-broken (ok rs) r at e q go =
     let z : Whole ≡ Broken at = sym (ap (λ (x : ReadTable). x .outcome) e) ∙ q in
     let y : _≡_ {A = ℕ} 0 1 = cc in absurd (omega arith)
-reading-broken (refuse n p) r at e q =
+reading-broken (refuse n p) r at e q go =
     let z : Broken (record { 0 = p }) ≡ Broken at = sym (ap (λ (x : ReadTable). x .outcome) e) ∙ q in
-    let same : record { 0 = p } ≡ at = cc in (n, ap (λ (x : Offset). refuse n (x .0)) same)
+    let same : record { 0 = p } ≡ at = cc in go n (ap (λ (x : Offset). refuse n (x .0)) same)
 
-pub reading-whole : {C : Type 0} (m : Res (List Rec)) (r : ReadTable) → r ≡ readingOf m → r .outcome ≡ Whole
+reading-whole : {C : Type 0} (m : Res (List Rec)) (r : ReadTable) → r ≡ readingOf m → r .outcome ≡ Whole
     → ((rs : List Rec) → m ≡ ok rs → r .table ≡ layOut (tableOf rs) → C) → C
 reading-whole (ok rs) r e q go = go rs refl (ap (λ (x : ReadTable). x .table) e)
 reading-whole (refuse n p) r e q go =
     let z : Broken (record { 0 = p }) ≡ Whole = sym (ap (λ (x : ReadTable). x .outcome) e) ∙ q in
     let y : _≡_ {A = ℕ} 0 1 = cc in absurd (omega arith)
+
+module _ (m : Res (List Rec)) (reading : ReadTable) (is : reading ≡ readingOf m) (early : Bool) (l : Drawing) (r : CheckedRows) (starts : List ℕ) where
+  pub by-broken : (at : Offset) → reading .outcome ≡ Broken at → r ≡ refusedBy (BadTableRecords at) → ByTable early l m r starts
+  by-broken at q e = reading-broken m reading at is q λ n broken. rw (broken, e)
+
+  pub by-whole : reading .outcome ≡ Whole → {v : Verdict}
+      → Right early (l .releases) (l .frames) (lineJudged l (seen (reading .table))) (framesOn l) (seen (reading .table)) (judgement v starts)
+      → r ≡ record { answer = v; frames = l .frames } → ByTable early l m r starts
+  by-whole whole right e = reading-whole m reading is whole λ rs areRows held. rw (areRows, e) (refl, rw held at right)
 
 -- ---- the rows of a table that passes
 
@@ -194,10 +204,10 @@ module _ (p : Plan) (d : Drawn p) (t : TableRead) (early : Bool) (j : Judgement)
       looked (inr h) = inr (h enough)
 
 -- what is judged right by a line and a table in memory is judged right by the plan and the rows that they stand for
-pub right-by : (p : Plan) → Drawn p → (rs : List Rec) {l : Drawing} {t : Table} → l ≡ lineOf p → t ≡ layOut (tableOf rs) → {early : Bool} {j : Judgement}
-    → Right early (l .releases) (l .frames) (lineJudged l (seen t)) (framesOn l) (seen t) j
+pub right-by : (p : Plan) → Drawn p → (rs : List Rec) {l : Drawing} → l ≡ lineOf p → {early : Bool} {j : Judgement}
+    → Right early (l .releases) (l .frames) (lineJudged l (seen (layOut (tableOf rs)))) (framesOn l) (seen (layOut (tableOf rs))) j
     → Right early (lineOf p .releases) (lineOf p .frames) (judged (layoutOf p) (tableOf rs)) (layoutOf p .pairs) (tableOf rs) j
-right-by p d rs same held right = line-right p d (tableOf rs) (table-single rs) (rw (same, held) at right)
+right-by p d rs same right = line-right p d (tableOf rs) (table-single rs) (rw same at right)
 
 -- ---- the ways out
 
@@ -220,18 +230,12 @@ module _ (plan table : List ℕ) (lent : ℕ) (early : Bool) (r : CheckedRows) (
         let n : fileLaid plan ≡ said why = laid-refused (numberOf why) (placeOf why) (fileLaid plan) (sym (h .answered) ∙ ap heard q) in
         refused-as why e (enough-is plan table lent enough ∙ plan-refused plan table (numberOf why) (placeOf why) n)
 
-    module _ (sound : x .answer ≡ Fine) (reading : ReadTable) (is : reading ≡ readingOf (records tableFollows 20 table)) where
+    module _ (sound : x .answer ≡ Fine) where
       -- 20
       broken-refused : (p : Plan) → fileLaid plan ≡ ok p → (n at : ℕ) → records tableFollows 20 table ≡ refuse n at → checkFiles plan table ≡ refuse 20 at
       unfolding checkFiles
       broken-refused p laid n at e =
           file-laid plan p laid λ isRead isLaid. rw (isRead, isLaid, e, records-refused tableFollows 20 table n at .0 e .0)
-
-      pub way-records : (at : Offset) → reading .outcome ≡ Broken at → r ≡ refusedBy (BadTableRecords at) → Promised
-      way-records at q e =
-          laid-sound (fileLaid plan) x h sound λ p laid same.
-          let b = reading-broken (records tableFollows 20 table) reading at is q in
-          refused-as (BadTableRecords at) e (enough-is plan table lent enough ∙ broken-refused p laid (b .0) (at .0) (b .1))
 
       -- 21 to 28
       judged-is : (p : Plan) (rs : List Rec) → fileLaid plan ≡ ok p → records tableFollows 20 table ≡ ok rs
@@ -243,16 +247,19 @@ module _ (plan table : List ℕ) (lent : ℕ) (early : Bool) (r : CheckedRows) (
       abbrev l : Drawing
       l = drawing (x .line) tasks releases deadlines
 
-      pub way-judged : reading .outcome ≡ Whole → {v : Verdict}
-          → Right early releases (l .frames) (lineJudged l (seen (reading .table))) (framesOn l) (seen (reading .table)) (judgement v starts)
-          → r ≡ record { answer = v; frames = x .line .frames } → Promised
-      way-judged whole {v} right e =
-          laid-sound (fileLaid plan) x h sound λ p laid same.
-          reading-whole (records tableFollows 20 table) reading is whole λ rs areRows held.
-          let d = file-drawn plan p laid in
-          judged-by p d (tableOf rs) early (judgement v starts) (right-by p d rs same held right) lent (checking r tasks releases deadlines starts)
-          (lentPassed plan table lent) enough (judged-is p rs laid areRows)
-          (ap (λ (z : CheckedRows). checking z tasks releases deadlines starts) e ∙ ap {B = Checked} (λ (z : Drawing). record { answer = v; rows = rowsOn z starts }) same)
+      pub way-table : ByTable early l (records tableFollows 20 table) r starts → Promised
+      way-table by = laid-sound (fileLaid plan) x h sound λ p laid same. go p laid same (records tableFollows 20 table) refl by
+        where
+          go : (p : Plan) → fileLaid plan ≡ ok p → l ≡ lineOf p → (m : Res (List Rec)) → records tableFollows 20 table ≡ m → ByTable early l m r starts
+              → Promised
+          go p laid same (refuse n at) broken by =
+              refused-as (BadTableRecords (record { 0 = at })) by (enough-is plan table lent enough ∙ broken-refused p laid n at broken)
+          go p laid same (ok rs) areRows by =
+              let d = file-drawn plan p laid in
+              judged-by p d (tableOf rs) early (judgement (r .answer) starts) (right-by p d rs same (by .1)) lent (checking r tasks releases deadlines starts)
+              (lentPassed plan table lent) enough (judged-is p rs laid areRows)
+              (ap {B = Checked} (λ (n : ℕ). record { answer = r .answer; rows = rowsWith n tasks releases deadlines starts }) (by .0)
+              ∙ ap {B = Checked} (λ (z : Drawing). record { answer = r .answer; rows = rowsOn z starts }) same)
 
 -- ---- after the scan
 

@@ -2,16 +2,19 @@
 // that are lent. Its parts serve the check of `olbiothar` too, which looks for rule 25 in the lent rows.
 ghost use mathlib.Core.Path.{_≡_};
 ghost use lib.ListN.{replicate};
-ghost use Rattle.rules.specs.Limits.{mostFrames};
+ghost use Prim.Native.Nat.{_≤_};
+ghost use Rattle.rules.specs.Limits.{mostNodes, mostFrames};
+ghost use Rattle.rules.specs.Records.{records, tableFollows};
 ghost use Rattle.rules.specs.Checker.{checkFiles};
 ghost use Rattle.plan.specs.Memory.{layOut, seen};
 ghost use Rattle.line.specs.Line.{drawing, lineOf};
 ghost use Rattle.line.proofs.Drawn.{Drawn};
+ghost use Rattle.naming.specs.Places.{Numbered};
 ghost use Rattle.rows.specs.Frames.{NoRows};
 ghost use Rattle.answers.specs.declared.Verdict.the-variants.{Refused};
 ghost use Rattle.checked.specs.Checking.{Checks, lentPassed, PassesExactly, RefusesExactly};
 ghost use Rattle.checker.specs.Passing.{Passes, noPassing, tablePassed};
-ghost use Rattle.checker.specs.Unscanned.{Judged, checking, refuses, Settles};
+ghost use Rattle.checker.specs.Unscanned.{ByTable, Judged, checking, refuses, Settles};
 use answers::Refusal;
 use answers::Verdict;
 use judging::judge;
@@ -34,6 +37,55 @@ fn refused(why: Refusal) -> CheckedRows
 {
     let answer = Verdict::Refused(why);
     CheckedRows { answer, frames: 0 }
+}
+
+// A table file by a line and its frames: 20, then 21 to 28; of these 25 only where `early_too`. `starts` is left as `judge` leaves it.
+fn by_table<'a>(
+    table: &[u8],
+    line: Line,
+    tasks: &'a [u8; Frame::MOST],
+    releases: &'a [u32; Frame::MOST],
+    deadlines: &'a [u32; Frame::MOST],
+    early_too: bool,
+    starts: &mut [u32; Frame::MOST],
+) -> CheckedRows
+    requires { ⌜ Numbered (now tasks) (now deadlines) (line .frames) ⌝ }
+    requires { ⌜ line .controls ≤ mostNodes ⌝ }
+    requires { ⌜ now starts ≡ replicate mostFrames 0 ⌝ }
+    ensures { λ r. ⌜ ByTable «early_too» (drawing line (now (tasks .entry)) (now (releases .entry)) (now (deadlines .entry))) (records tableFollows 20 (now (table .entry))) r (now (starts .exit)) ⌝ }
+{
+    let mut row_tasks: [u8; Frame::MOST] = [0; Frame::MOST];
+    let mut row_deadlines: [u32; Frame::MOST] = [0; Frame::MOST];
+    let mut row_starts: [u32; Frame::MOST] = [0; Frame::MOST];
+    let mut row_stops: [u32; Frame::MOST] = [0; Frame::MOST];
+    let reading = read_table(
+        table,
+        &mut row_tasks,
+        &mut row_deadlines,
+        &mut row_starts,
+        &mut row_stops,
+    );
+    let outcome = reading.outcome;
+    if let Outcome::Broken(at) = outcome {
+        return refused(Refusal::BadTableRecords(at));
+    }
+    let answer = judge(
+        reading.heading,
+        &row_tasks,
+        &row_deadlines,
+        &row_starts,
+        &row_stops,
+        line,
+        tasks,
+        releases,
+        deadlines,
+        early_too,
+        starts,
+    );
+    CheckedRows {
+        answer,
+        frames: line.frames,
+    }
 }
 
 // A table file by a plan file, where `lent` frame rows are lent: 19 before all, 1 to 11 of the plan, 20 to 28 of the table; of these 25 only
@@ -59,39 +111,15 @@ pub fn judged(
     if let Verdict::Refused(why) = answer {
         return refused(why);
     }
-    let mut row_tasks: [u8; Frame::MOST] = [0; Frame::MOST];
-    let mut row_deadlines: [u32; Frame::MOST] = [0; Frame::MOST];
-    let mut row_starts: [u32; Frame::MOST] = [0; Frame::MOST];
-    let mut row_stops: [u32; Frame::MOST] = [0; Frame::MOST];
-    let reading = read_table(
+    by_table(
         table,
-        &mut row_tasks,
-        &mut row_deadlines,
-        &mut row_starts,
-        &mut row_stops,
-    );
-    let outcome = reading.outcome;
-    if let Outcome::Broken(at) = outcome {
-        return refused(Refusal::BadTableRecords(at));
-    }
-    let line = laid.line;
-    let answer = judge(
-        reading.heading,
-        &row_tasks,
-        &row_deadlines,
-        &row_starts,
-        &row_stops,
-        line,
+        laid.line,
         tasks,
         releases,
         deadlines,
         early_too,
         starts,
-    );
-    CheckedRows {
-        answer,
-        frames: line.frames,
-    }
+    )
 }
 
 // The same with every rule; where it refuses there are no frame rows, and the arrays are zeros again.
@@ -213,34 +241,8 @@ fn passed_on(
     requires { ⌜ now starts ≡ replicate mostFrames 0 ⌝ }
     ensures { λ r. ⌜ Passes r (now (tasks .exit)) (now (deadlines .exit)) (now (starts .exit)) (tablePassed (seen p) (now (table .entry))) ⌝ }
 {
-    let mut row_tasks: [u8; Frame::MOST] = [0; Frame::MOST];
-    let mut row_deadlines: [u32; Frame::MOST] = [0; Frame::MOST];
-    let mut row_starts: [u32; Frame::MOST] = [0; Frame::MOST];
-    let mut row_stops: [u32; Frame::MOST] = [0; Frame::MOST];
-    let reading = read_table(
-        table,
-        &mut row_tasks,
-        &mut row_deadlines,
-        &mut row_starts,
-        &mut row_stops,
-    );
-    let outcome = reading.outcome;
-    if let Outcome::Broken(at) = outcome {
-        return taken_back(Refusal::BadTableRecords(at), tasks, deadlines, starts);
-    }
-    let answer = judge(
-        reading.heading,
-        &row_tasks,
-        &row_deadlines,
-        &row_starts,
-        &row_stops,
-        line,
-        tasks,
-        releases,
-        deadlines,
-        true,
-        starts,
-    );
+    let judged = by_table(table, line, tasks, releases, deadlines, true, starts);
+    let answer = judged.answer;
     if let Verdict::Refused(why) = answer {
         return taken_back(why, tasks, deadlines, starts);
     }

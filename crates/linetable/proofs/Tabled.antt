@@ -15,7 +15,7 @@ use Rattle.laws.proofs.Members.{All, all-getD, all-weaker, all-unmap, map-getD,
 use Rattle.rules.specs.Plan.{Plan, readPlan}
 use Rattle.rules.specs.Frames.{Pair, pairs, Layout, layout, layoutOf}
 use Rattle.rules.specs.LatestRelease.{Placed, noPair, timeAlone, latestRelease}
-use Rattle.rules.specs.Table.{DataRow, PlacedRow, heldIn, pairsIn, alone, dataRow, tableBytes, rowsFrom}
+use Rattle.rules.specs.Table.{DataRow, PlacedRow, heldIn, pairsIn, alone, dataRow, tableBytes, tableLength, rowsFrom}
 use Rattle.rules.specs.Obeys.{IsPair, pairAt}
 use Rattle.rules.specs.RuleSteps.{unplaced}
 use Rattle.rules.proofs.PlanKept.{readable-kept}
@@ -27,18 +27,15 @@ use Rattle.line.specs.Line as line
 use Rattle.line.specs.Line.{taskOf, deadlineOf}
 use Rattle.placing.specs.Placing.{numberOf, startOf, timeOf}
 use Rattle.rows.specs.Rows.{Rows, TableRows, rowsLaid, scattered, taskAt, stopAt, tableRows}
-use Rattle.table.specs.Rows.{controlIn, dataIn, tableIn, tableLength}
-use Rattle.table.proofs.Glued.{table-long}
+use Rattle.rules.proofs.TableLength.{table-length}
+use Rattle.table.specs.Rows.{controlIn, dataIn, tableIn}
 use Rattle.line.proofs.Drawn.{Drawn, drawn}
 use Rattle.linetable.proofs.OverLine.{time-is, controls-are}
 use Rattle.linetable.proofs.Scattered.{noPlaced, tasks-are, releases-are, deadlines-are, rows-count, starts-scattered}
 
 pub bytes-long : (l : Layout) (rows : List PlacedRow) → length rows ≡ length (l .pairs)
     → length (tableBytes l rows) ≡ tableLength (length (l .control)) (length (l .pairs))
-unfolding tableBytes tableIn
-bytes-long l rows e =
-    table-long (l .period) (l .control) (map (dataRow l) rows) (length (l .control)) (length rows)
-    ∙ ap (tableLength (length (l .control))) (length-map rows (dataRow l) ∙ e)
+bytes-long l rows e = table-length l rows ∙ ap (tableLength (length (l .control))) e
 
 -- ---- facts of what was placed
 

@@ -14,7 +14,7 @@ use Rattle.laws.proofs.Lists.{length-tab, length-padTo}
 use Rattle.rules.specs.Plan.{Plan}
 use Rattle.rules.specs.Frames.{Layout, pairs, layoutOf}
 use Rattle.rules.specs.LatestRelease.{Placed, numberedFrom, place, latestRelease}
-use Rattle.rules.specs.Table.{alone, MadeTable, madeTable, tableBytes}
+use Rattle.rules.specs.Table.{alone, MadeTable, madeTable, tableBytes, tableLength}
 use Rattle.rules.proofs.RuleSteps.{rule-twelve}
 use Rattle.answers.specs.declared.Refusal.{Refusal}
 use Rattle.answers.specs.declared.Refusal.the-variants.{BufferTooShort, NoRoom}
@@ -26,7 +26,6 @@ use Rattle.placing.specs.Placing.{Placing, frameAt, timeOf, laid}
 use Rattle.units.specs.declared.FrameNo.{FrameNo}
 use Rattle.rows.specs.Rows.{Rows, TableRows, rowsLaid, scattered, tableRows}
 use Rattle.rows.specs.Frames.{rowsWith, NoRows}
-use Rattle.table.specs.Rows.{tableLength}
 use Rattle.linetable.specs.declared.Answer.the-variants.{Made, Refused}
 use Rattle.linetable.specs.Making.{Making, Makes, tabled}
 use Rattle.linetable.specs.Steps.{Stands, laidTable, bytesOf}

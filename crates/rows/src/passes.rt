@@ -1,6 +1,7 @@
 // The lent list of frame rows: a slice of frame structs. The prover's walk covers no function over such a slice, so each one here is thin:
 // a pass hands every row to a covered step and stores what the step gives, and every choice is a covered function's.
 ghost use mathlib.Core.Path.{_≡_};
+ghost use mathlib.Core.Bool.{cond};
 ghost use lib.ListN.{replicate};
 ghost use Prim.Native.Nat.{_≤_};
 ghost use Rattle.rules.specs.Limits.{mostFrames};
@@ -144,18 +145,32 @@ pub fn some_early(rows: &mut [Frame], frames: usize, found: bool) -> bool
     so_far
 }
 
+// A number of a row that is cleared or not.
+fn unless(refused: bool, x: u32) -> u32
+    ensures { λ r. ⌜ r ≡ cond refused 0 x ⌝ }
+{
+    if refused {
+        return 0;
+    }
+    x
+}
+
+// Number by number: where a row as a whole is chosen it goes through memory, 10 ns for each.
 fn cleared(refused: bool, row: Frame) -> Step
     ensures { λ r. ⌜ r ≡ clearedRow refused row ⌝ }
 {
-    if refused {
-        return Step {
-            found: refused,
-            row: Frame::zero(),
-        };
-    }
+    let task = unless(refused, row.task.0);
+    let release = unless(refused, row.release.0);
+    let deadline = unless(refused, row.deadline.0);
+    let start = unless(refused, row.start.0);
     Step {
         found: refused,
-        row,
+        row: Frame {
+            task: TaskWord(task),
+            release: Ticks(release),
+            deadline: Ticks(deadline),
+            start: Ticks(start),
+        },
     }
 }
 

@@ -30,6 +30,7 @@ pub mod StationPlaces
 pub mod StationRanges
 pub mod StationStays
 pub mod TableBytes
+pub mod TableLength
 pub mod Top
 pub mod Transparent
 pub mod TransparentBus

@@ -29,6 +29,7 @@ use Rattle.rules.specs.Table.{
   alone,
   dataRow,
   tableBytes,
+  longestTable,
   FrameRow,
   rowsFrom,
   rowsThenZero,
@@ -45,6 +46,7 @@ use Rattle.rules.proofs.LaidOut.{LaidOut, laid-out, period-kept, PairKe
 use Rattle.rules.proofs.PairsOf.{Before, plan-pairs}
 use Rattle.rules.proofs.Placing.{placed-well}
 use Rattle.rules.proofs.TableBytes.{ControlFits, DataFits, TableFits, tableRead, tableRecords, table-written, table-read}
+use Rattle.rules.proofs.TableLength.{table-length, length-most}
 use Rattle.rules.proofs.WellPlaced.{rowPlaced, tablePlaced, well-obeys, well-rows}
 use Rattle.rules.proofs.CheckerExact.{passed-passes, lent-enough}
 
@@ -136,6 +138,12 @@ module _ (p : Plan) (k : PlanKept p) (h : LaidOut p (layoutOf p)) (rows : List P
         rows = all-map (dataRow l) (all-of-members rows (λ r m. data-fits r (well .rowsWell r m)));
       }
 
+  pub table-short : length (tableBytes l rows) ≤ longestTable
+  unfolding layoutOf basic pairs
+  table-short =
+      rw (table-length l rows)
+      (length-most (length (l .control)) (length rows) (omega (arith, control-count p, k .nodeCount .most)) (omega (arith, count, h .few)))
+
   sorted : Pairs Before (l .pairs)
   unfolding layoutOf pairs
   sorted = plan-pairs p .sorted
@@ -164,6 +172,14 @@ module _ (plan : List ℕ) {p : Plan} {l : Layout} (isRead : readPlan plan ≡ o
       let well₀ = subst (λ (l : Layout). PlacedWell l rows) (sym (h .is)) well in
       subst (λ (l : Layout). Passes l rows) (h .is)
       (well-passes p (readable-kept plan p isRead) (subst (LaidOut p) (sym (h .is)) h) rows well₀)
+
+  -- it is no longer than the longest
+  pub well-short : length (tableBytes l rows) ≤ longestTable
+  well-short =
+      let h = laid-out p l isLaid in
+      let well₀ = subst (λ (l : Layout). PlacedWell l rows) (sym (h .is)) well in
+      subst (λ (l : Layout). length (tableBytes l rows) ≤ longestTable) (h .is)
+      (table-short p (readable-kept plan p isRead) (subst (LaidOut p) (sym (h .is)) h) rows well₀)
 
   may-pass : MayPass plan (tableBytes l rows)
   may-pass =

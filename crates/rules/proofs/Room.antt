@@ -1,5 +1,5 @@
 -- Room: `make` gives 12 exactly where the latest-release rule refuses, at the frame that it had taken, and a table exactly where the rule
--- places every frame and the room suffices.
+-- places every frame and the room suffices. No table is longer than the longest, so with room for that one it always suffices.
 use mathlib.Core.Path.{_≡_, refl, sym, ap, _∙_}
 use mathlib.Core.List.{List, map}
 use mathlib.Core.Logic.{_⊎_, inl, inr, _↔_}
@@ -26,12 +26,12 @@ use Rattle.rules.specs.Limits.{mostFrames}
 use Rattle.rules.specs.Plan.{Plan, readPlan}
 use Rattle.rules.specs.Frames.{Layout, layout}
 use Rattle.rules.specs.LatestRelease.{Placed, latestRelease}
-use Rattle.rules.specs.Table.{FrameRow, alone, tableBytes, MadeTable, madeTable, tableFor, outcome, make}
+use Rattle.rules.specs.Table.{FrameRow, alone, tableBytes, longestTable, MadeTable, madeTable, tableFor, outcome, make}
 use Rattle.rules.specs.RuleSteps.{RuleGives}
 use Rattle.rules.specs.Obeys.{MakesTable, MakeFault, inPlan, inLayout, inRule, inRoom, RuleRefuses}
-use Rattle.rules.proofs.RuleSteps.{rule-exact}
+use Rattle.rules.proofs.RuleSteps.{rule-exact, rule-twelve}
 use Rattle.rules.proofs.RefusalNumbers.{plan-gives, layout-gives}
-use Rattle.rules.proofs.MadePasses.{make-enough, make-short, make-gave, table-made}
+use Rattle.rules.proofs.MadePasses.{make-enough, make-short, make-gave, table-made, rule-well, well-short}
 
 -- ---- tableFor
 
@@ -184,3 +184,27 @@ module _ (plan : List ℕ) (rows : List FrameRow) (buffer : List ℕ) where
     λ e. twelve-only pair (make-refuses 12 pair .0 e),
     λ h. make-refuses 12 pair .1 (inr (h .0, inRule (h .1 .isRead) (h .1 .isLaid) (h .1 .rule))),
   )
+
+  -- ---- how much room is enough
+
+  bytes-most : {q : Plan} {l : Layout} {placed : List Placed} → readPlan plan ≡ ok q → layout q ≡ ok l → latestRelease l ≡ ok placed
+      → length (tableBytes l (map alone placed)) ≤ longestTable
+  bytes-most {q} {l} {placed} isRead isLaid rule = well-short plan isRead isLaid (rule-well q l isLaid placed rule)
+
+  -- no table that is made is longer than the longest
+  pub made-most : (n : ℕ) → make plan rows buffer .answer ≡ ok n → n ≤ longestTable
+  made-most n e = let m = makes-only n e .1 in rw (sym (m .long)) (bytes-most (m .isRead) (m .isLaid) (m .rule))
+
+  fault-thirteen : (n : ℕ) → MakeFault plan (length buffer) 13 n → (length buffer < n) × (n ≤ longestTable)
+  fault-thirteen n (inPlan e) = absurd (omega (arith, plan-gives plan .number 13 n e))
+  fault-thirteen n (inLayout {q} a e) = absurd (omega (arith, layout-gives q .number 13 n e))
+  fault-thirteen n (inRule {q} {l} a b e) = absurd (omega (arith, rule-twelve l 13 n e))
+  fault-thirteen n (inRoom a b c w e f) = rw f (w, bytes-most a b c)
+
+  thirteen-only : (n : ℕ) → MakeRefuses 13 n → (length buffer < n) × (n ≤ longestTable)
+  thirteen-only n (inl h) = absurd (omega (arith, h .1))
+  thirteen-only n (inr h) = fault-thirteen n (h .1)
+
+  -- 13 is given only where less room is lent than the table needs, and none needs more than the longest
+  pub thirteen-most : (n : ℕ) → make plan rows buffer .answer ≡ refuse 13 n → (length buffer < n) × (n ≤ longestTable)
+  thirteen-most n e = thirteen-only n (make-refuses 13 n .0 e)

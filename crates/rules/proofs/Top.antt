@@ -17,7 +17,7 @@ use Rattle.rules.specs.Traffic.{taskNode, busPeriod, switchGrid, basic}
 use Rattle.rules.specs.Frames.{pairOf, pairs, gapTime, Layout, layoutOf, layout}
 use Rattle.rules.specs.LatestRelease.{Placed, latestRelease}
 use Rattle.rules.specs.RuleSteps.{RuleGives}
-use Rattle.rules.specs.Table.{FrameRow, make}
+use Rattle.rules.specs.Table.{FrameRow, longestTable, make}
 use Rattle.rules.specs.Checker.{tableOf, check}
 use Rattle.rules.specs.Gaps.{GapsKept}
 use Rattle.rules.specs.Obeys.{MayPass, BrokenAt, MakesTable, RuleRefuses}
@@ -36,7 +36,7 @@ use Rattle.rules.proofs.Doubtful.{none-in-read, none-left, same-layout,
 use Rattle.rules.proofs.RuleSteps as steps
 use Rattle.rules.proofs.CheckerExact.{checker-exact, rule-exact}
 use Rattle.rules.proofs.MadePasses.{made-checks}
-use Rattle.rules.proofs.Room.{make-exact, twelve-exact}
+use Rattle.rules.proofs.Room.{make-exact, twelve-exact, made-most, thirteen-most}
 use Rattle.rules.proofs.Gaps.{frames-apart}
 use Rattle.rules.proofs.AllowedExact.{history-told}
 use Rattle.rules.proofs.TransparentTold.{shown-told, shown-told-own}
@@ -105,6 +105,15 @@ it-makes-exactly = make-exact
 pub no-room-exactly : (plan : List ℕ) (rows : List FrameRow) (buffer : List ℕ) (pair : ℕ)
     → (make plan rows buffer .answer ≡ refuse 12 pair) ↔ ((mostFrames ≤ length rows) × RuleRefuses plan pair)
 no-room-exactly = twelve-exact
+
+-- No table that is made is longer than the longest, of 8 control rows and 1,024 data rows ..
+pub none-is-longer : (plan : List ℕ) (rows : List FrameRow) (buffer : List ℕ) (n : ℕ) → make plan rows buffer .answer ≡ ok n → n ≤ longestTable
+none-is-longer = made-most
+
+-- .. so that with as much room 13 is never given: it says how many bytes the table needs, and these are more than were lent.
+pub more-is-never-needed : (plan : List ℕ) (rows : List FrameRow) (buffer : List ℕ) (n : ℕ) → make plan rows buffer .answer ≡ refuse 13 n
+    → (length buffer < n) × (n ≤ longestTable)
+more-is-never-needed = thirteen-most
 
 -- All that is made passes the checker.
 pub what-is-made-passes : (plan : List ℕ) (rows : List FrameRow) (buffer : List ℕ) (n : ℕ) → make plan rows buffer .answer ≡ ok n

@@ -3,13 +3,13 @@ use mathlib.Core.Bool.{Bool, true, false, cond}
 use mathlib.Core.List.{List, [], _∷_, _++_, map}
 use lib.Dec.{eqb, leb}
 use lib.ListN.{length, drop, replicate}
-use Prim.Native.Nat.{ℕ, suc, _+_, _-_}
+use Prim.Native.Nat.{ℕ, suc, _+_, _-_, _*_}
 use Rattle.laws.specs.Res.{Res, ok, refuse, _>>=_, _>>_, unless}
 use Rattle.laws.specs.Lists.{any, joined}
 use Rattle.laws.specs.Numbers.{bytes}
-use Rattle.rules.specs.Records.{Field, width, fields}
+use Rattle.rules.specs.Records.{Field, width, fields, bodyLength}
 use Rattle.rules.specs.Plan.{readPlan}
-use Rattle.rules.specs.Limits.{mostFrames}
+use Rattle.rules.specs.Limits.{mostNodes, mostFrames}
 use Rattle.rules.specs.Frames.{Pair, ControlRow, Layout, layout}
 use Rattle.rules.specs.LatestRelease.{Numbered, Placed, latestRelease}
 
@@ -71,6 +71,17 @@ unfoldable pub tableBytes : Layout → List PlacedRow → List ℕ
 tableBytes l rows =
     headerBytes (l .period) (length (l .control)) (length rows)
     ++ (joined (map controlBytes (l .control)) ++ (joined (map dataBytes (map (dataRow l) rows)) ++ (0 ∷ [])))
+
+-- Rule 2.2: a record is the byte of its kind and its body. So a table is as long as its head, its control rows, its data rows and its end.
+unfoldable pub recordLength : ℕ → ℕ
+recordLength kind = 1 + bodyLength kind
+
+unfoldable pub tableLength : ℕ → ℕ → ℕ
+tableLength controls datas = recordLength 16 + recordLength 17 * controls + recordLength 18 * datas + recordLength 0
+
+-- Rule 3.4: the longest table has a control row for each node and as many data rows as there may be frames.
+unfoldable pub longestTable : ℕ
+longestTable = tableLength mostNodes mostFrames
 
 -- A frame row (rule 4.15): task, release, deadline, and the start that the table gives.
 pub record FrameRow : Type 0 where

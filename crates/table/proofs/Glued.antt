@@ -1,7 +1,7 @@
 -- Stores one behind the other are the store of what they make together: numbers a record, rows of one length, a table.
-use mathlib.Core.Path.{_≡_, refl, sym, ap, ap₂, _∙_}
+use mathlib.Core.Path.{_≡_, refl, sym, ap, _∙_}
 use mathlib.Core.List.{List, [], _∷_, _++_, map, append-nil, append-assoc}
-use native.Mathlib.Nat.{zero-add, mul-zero, mul-suc}
+use native.Mathlib.Nat.{zero-add}
 use native.Mathlib.Omega.{arith}
 use lib.ListN.{length, length-append}
 use lib.Seq.{sets}
@@ -12,9 +12,10 @@ use Rattle.laws.proofs.Laid.{sets-append}
 use Rattle.laws.proofs.Lists.{tab-more, map-snoc, length-tab}
 use Rattle.laws.proofs.Little.{length-bytes}
 use Rattle.rules.specs.Records.{Field, width, kinds, fields, bodyLength}
-use Rattle.rules.specs.Table.{DataRow, encoded, recordBytes, headerBytes, controlBytes, dataBytes}
+use Rattle.rules.specs.Table.{DataRow, encoded, recordBytes, headerBytes, controlBytes, dataBytes, recordLength}
 use Rattle.rules.specs.Frames.{ControlRow}
-use Rattle.table.specs.Rows.{tableIn, recordLength, tableLength}
+use Rattle.rules.proofs.TableLength.{length-rows, length-controls, length-datas, length-header}
+use Rattle.table.specs.Rows.{tableIn}
 
 -- two lists laid one behind the other, the second at a place that is known to be the next
 sets-next : {A : Type 0} (l : List A) (i : ℕ) {j : ℕ} (xs ys : List A) → j ≡ i + length xs → sets (sets l i xs) j ys ≡ sets l i (xs ++ ys)
@@ -53,18 +54,12 @@ joined-snoc [] xs = append-nil xs
 joined-snoc (ys ∷ xss) xs = ap (λ (r : List _). ys ++ r) (joined-snoc xss xs) ∙ sym (append-assoc ys (joined xss) xs)
 
 module _ {R : Type 0} (bytesOf : R → List ℕ) (wide : ℕ) (widths : (r : R) → length (bytesOf r) ≡ wide) where
-  length-rows : (rs : List R) → length (joined (map bytesOf rs)) ≡ wide * length rs
-  length-rows [] = sym (mul-zero wide)
-  length-rows (r ∷ rs) =
-      length-append (bytesOf r) (joined (map bytesOf rs)) ∙ ap₂ _+_ (widths r) (length-rows rs)
-      ∙ (let e : wide + wide * length rs ≡ wide * length rs + wide = omega arith in e ∙ sym (mul-suc wide (length rs)))
-
   module _ (row : ℕ → R) where
     abbrev first : ℕ → List ℕ
     first n = joined (map bytesOf (tab row 0 n))
 
     first-long : (n : ℕ) → length (first n) ≡ wide * n
-    first-long n = length-rows (tab row 0 n) ∙ ap (λ (k : ℕ). wide * k) (length-tab row 0 n)
+    first-long n = length-rows bytesOf wide widths (tab row 0 n) ∙ ap (λ (k : ℕ). wide * k) (length-tab row 0 n)
 
     rows-more : (n : ℕ) → first (n + 1) ≡ first n ++ bytesOf (row n)
     rows-more n =
@@ -90,34 +85,6 @@ unfolding dataBytes recordBytes recordLength bodyLength fields kinds
 data-more row = one-more dataBytes (recordLength 18) (λ r. refl) row
 
 -- ---- the whole table
-
-length-controls : (rs : List ControlRow) → length (joined (map controlBytes rs)) ≡ recordLength 17 * length rs
-unfolding controlBytes recordBytes recordLength bodyLength fields kinds
-length-controls = length-rows controlBytes (recordLength 17) (λ r. refl)
-
-length-datas : (rs : List DataRow) → length (joined (map dataBytes rs)) ≡ recordLength 18 * length rs
-unfolding dataBytes recordBytes recordLength bodyLength fields kinds
-length-datas = length-rows dataBytes (recordLength 18) (λ r. refl)
-
-length-header : (period controls datas : ℕ) → length (headerBytes period controls datas) ≡ recordLength 16
-unfolding headerBytes recordBytes recordLength bodyLength fields kinds
-length-header period controls datas = refl
-
-length-end : 1 ≡ recordLength 0
-unfolding recordLength bodyLength fields kinds
-length-end = refl
-
-pub table-long : (period : ℕ) (control : List ControlRow) (rows : List DataRow) (controls datas : ℕ)
-    → length (tableIn period control rows controls datas) ≡ tableLength (length control) (length rows)
-unfolding tableIn tableLength
-table-long period control rows controls datas =
-    let H = headerBytes period controls datas in
-    let C = joined (map controlBytes control) in
-    let D = joined (map dataBytes rows) in
-    let h : length (H ++ (C ++ (D ++ (0 ∷ [])))) ≡ length H + length (C ++ (D ++ (0 ∷ []))) = length-append H (C ++ (D ++ (0 ∷ []))) in
-    let c : length (C ++ (D ++ (0 ∷ []))) ≡ length C + length (D ++ (0 ∷ [])) = length-append C (D ++ (0 ∷ [])) in
-    let d : length (D ++ (0 ∷ [])) ≡ length D + recordLength 0 = length-append D (0 ∷ []) ∙ ap (λ (n : ℕ). length D + n) length-end in
-    rw (h, c, d, length-header period controls datas, length-controls control, length-datas rows) (omega arith)
 
 -- four lists laid one behind the other
 glued : (b H C D E : List ℕ) {b₁ b₂ b₃ b₄ : List ℕ} → b₁ ≡ sets b 0 H → b₂ ≡ sets b₁ (length H) C → b₃ ≡ sets b₂ (length H + length C) D

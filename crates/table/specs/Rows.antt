@@ -1,9 +1,8 @@
 -- A table's rows in arrays, and the bytes of the table that they make.
 use mathlib.Core.List.{List, [], _∷_, _++_, map}
 use lib.ListN.{getD}
-use Prim.Native.Nat.{ℕ, _+_, _*_}
+use Prim.Native.Nat.{ℕ}
 use Rattle.laws.specs.Lists.{joined}
-use Rattle.rules.specs.Records.{bodyLength}
 use Rattle.rules.specs.Frames.{ControlRow}
 use Rattle.rules.specs.Table.{DataRow, headerBytes, controlBytes, dataBytes}
 
@@ -19,11 +18,3 @@ dataIn tasks deadlines starts stops k =
 unfoldable pub tableIn : ℕ → List ControlRow → List DataRow → ℕ → ℕ → List ℕ
 tableIn period control rows controls datas =
     headerBytes period controls datas ++ (joined (map controlBytes control) ++ (joined (map dataBytes rows) ++ (0 ∷ [])))
-
--- Rule 2.2: a record is the byte of its kind and its body.
-unfoldable pub recordLength : ℕ → ℕ
-recordLength kind = 1 + bodyLength kind
-
--- How long a table is: its header, its control rows, its data rows, the end.
-unfoldable pub tableLength : ℕ → ℕ → ℕ
-tableLength controls datas = recordLength 16 + recordLength 17 * controls + recordLength 18 * datas + recordLength 0

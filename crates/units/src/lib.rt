@@ -21,6 +21,15 @@ impl Ticks {
 pub struct ByteCount(pub u32);
 
 impl ByteCount {
+    // No table is longer (rule 3.4).
+    pub const LONGEST_TABLE: usize = 14_425;
+
+    pub fn longest_table() -> usize
+        ensures { λ r. ⌜ r ≡ 14425 ⌝ }
+    {
+        ByteCount::LONGEST_TABLE
+    }
+
     pub fn count(self) -> usize
         ensures { λ r. ⌜ r ≡ self .0 ⌝ }
     {
@@ -134,6 +143,12 @@ pub struct Frame {
 impl Frame {
     // Refusals 9 and 19: a plan has at most this many frames, and as many rows are lent.
     pub const MOST: usize = 1024;
+
+    pub fn most() -> usize
+        ensures { λ r. ⌜ r ≡ 1024 ⌝ }
+    {
+        Frame::MOST
+    }
 
     pub fn zero() -> Frame
         ensures { λ r. ⌜ r ≡ record { task = record { 0 = 0 }; release = record { 0 = 0 }; deadline = record { 0 = 0 }; start = record { 0 = 0 } } ⌝ }

@@ -7,8 +7,8 @@ use lib.ListN.{length}
 use lib.Seq.{sets, length-sets}
 use Rattle.laws.specs.Lists.{tab, joined}
 use Rattle.rules.specs.Records.{kinds, fields, bodyLength}
-use Rattle.rules.specs.Table.{controlBytes}
-use Rattle.table.specs.Rows.{controlIn, recordLength}
+use Rattle.rules.specs.Table.{controlBytes, recordLength}
+use Rattle.table.specs.Rows.{controlIn}
 use Rattle.table.proofs.Glued.{control-more}
 use borrow.Author.Needs.{needs}
 use Rattle.table.proofs.write.put_controls.Statement.{statement}

@@ -7,8 +7,8 @@ use lib.ListN.{length}
 use lib.Seq.{sets, length-sets}
 use Rattle.laws.specs.Lists.{tab, joined}
 use Rattle.rules.specs.Records.{kinds, fields, bodyLength}
-use Rattle.rules.specs.Table.{dataBytes}
-use Rattle.table.specs.Rows.{dataIn, recordLength}
+use Rattle.rules.specs.Table.{dataBytes, recordLength}
+use Rattle.table.specs.Rows.{dataIn}
 use Rattle.table.proofs.Glued.{data-more}
 use borrow.Author.Needs.{needs}
 use Rattle.table.proofs.write.put_rows.Statement.{statement}

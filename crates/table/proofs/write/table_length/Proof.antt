@@ -1,6 +1,6 @@
 -- Plain arithmetic: `tableLength` computes to the sum, and both counts are small.
 use Rattle.rules.specs.Records.{kinds, fields, bodyLength}
-use Rattle.table.specs.Rows.{recordLength, tableLength}
+use Rattle.rules.specs.Table.{recordLength, tableLength}
 use borrow.Author.Needs.{needs}
 use Rattle.table.proofs.write.table_length.Statement.{statement}
 use Rattle.table.proofs.write.table_length.Tie as tie

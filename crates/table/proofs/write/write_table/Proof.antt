@@ -1,6 +1,7 @@
 -- Header, control rows, data rows and last byte, stored one behind the other, are the table's bytes (`table-put`).
 use Rattle.rules.specs.Records.{kinds, fields, bodyLength}
-use Rattle.table.specs.Rows.{controlIn, dataIn, recordLength}
+use Rattle.rules.specs.Table.{recordLength}
+use Rattle.table.specs.Rows.{controlIn, dataIn}
 use Rattle.table.proofs.Glued.{table-put}
 use borrow.Author.Needs.{needs}
 use Rattle.table.proofs.write.write_table.Statement.{statement}
