@@ -103,6 +103,7 @@ olbiothar_answer olbiothar_check(const uint8_t *plan, size_t plan_length, const 
 /* A played station. It holds its own copy of what it needs of plan and table. All bytes zero, it is a station not begun. Its
  * fields may be read; `nodes[n].shown[t]` is what node n shows of task t after the last accepted tick. Any numbers may stand in a
  * station that is ticked, also in one that was kept elsewhere and read back: one outside its range makes the tick answer 40 at 0.
+ * There are `fixed.pairs` pairs; what lies in the places behind them is not looked at.
  * `fixed`, the runs and the pairs do not change while it plays. Bit m of `pair_modes[q]` says that mode m has the message of pair q;
  * `pair_starts` and `pair_stops` are those of the row that the pair rides in. `sending`, `givens` and `full` are flags: set where the
  * byte is not 0, and stored as 0 or 1. */

@@ -145,6 +145,29 @@ static void flags(const olbiothar_station *station) {
     HOLDS(one.play.full[1] == 1 && empty.play.full[1] == 1);
 }
 
+/* What lies behind the pairs is no number of the station: a tick does not look at it. The last pair, and how many there are, are. */
+static void behind_the_pairs(const olbiothar_station *station) {
+    const size_t pairs = station->fixed.pairs, rest = OLBIOTHAR_FRAMES - pairs;
+    olbiothar_station clean = *station, other = *station;
+    memset(other.pair_tasks + pairs, 0xff, rest * sizeof *other.pair_tasks);
+    memset(other.pair_deadlines + pairs, 0xff, rest * sizeof *other.pair_deadlines);
+    memset(other.pair_starts + pairs, 0xff, rest * sizeof *other.pair_starts);
+    memset(other.pair_stops + pairs, 0xff, rest * sizeof *other.pair_stops);
+    memset(other.pair_modes + pairs, 0xff, rest * sizeof *other.pair_modes);
+    olbiothar_station more = other, last = other;
+    HOLDS(is(play(&clean, FRAME_STARTS).answer, OLBIOTHAR_DONE, 0));
+    HOLDS(is(play(&other, FRAME_STARTS).answer, OLBIOTHAR_DONE, 0));
+    HOLDS(same_state(&clean, &other));
+    more.fixed.pairs++;
+    HOLDS(is(play(&more, FRAME_STARTS).answer, OLBIOTHAR_NOT_BEGUN, 0));
+    more = *station, more.fixed.pairs = OLBIOTHAR_FRAMES;
+    HOLDS(is(play(&more, FRAME_STARTS).answer, OLBIOTHAR_DONE, 0));
+    more = *station, more.fixed.pairs = OLBIOTHAR_FRAMES + 1;
+    HOLDS(is(play(&more, FRAME_STARTS).answer, OLBIOTHAR_NOT_BEGUN, 0));
+    last.pair_starts[pairs - 1] = last.fixed.period + 1;
+    HOLDS(is(play(&last, FRAME_STARTS).answer, OLBIOTHAR_NOT_BEGUN, 0));
+}
+
 static uint64_t seed = 1;
 
 static uint8_t any_byte(void) {
@@ -178,6 +201,7 @@ int main(int count, char **words) {
     nothing_lent();
     fields(&station);
     flags(&station);
+    behind_the_pairs(&station);
     any_station(&station);
     puts("boundary: as the header says");
     return 0;
