@@ -122,7 +122,7 @@ pub fn judged(
     )
 }
 
-// The same with every rule; where it refuses there are no frame rows, and the arrays are zeros again.
+// The same with every rule, into arrays with any contents; where it refuses there are no frame rows, and the arrays are zeros.
 pub fn check(
     plan: &[u8],
     table: &[u8],
@@ -132,11 +132,14 @@ pub fn check(
     deadlines: &mut [u32; Frame::MOST],
     starts: &mut [u32; Frame::MOST],
 ) -> CheckedRows
-    requires { ⌜ NoRows (now tasks) (now releases) (now deadlines) (now starts) ⌝ }
     ensures { λ r. ⌜ Checks (checking r (now (tasks .exit)) (now (releases .exit)) (now (deadlines .exit)) (now (starts .exit))) (lentPassed (now (plan .entry)) (now (table .entry)) lent) ⌝ }
     ensures { λ r. ⌜ PassesExactly (r .answer) (now (plan .entry)) (now (table .entry)) lent ⌝ }
     ensures { λ r. ⌜ RefusesExactly (r .answer) (now (plan .entry)) (now (table .entry)) lent ⌝ }
 {
+    *tasks = [0; Frame::MOST];
+    *releases = [0; Frame::MOST];
+    *deadlines = [0; Frame::MOST];
+    *starts = [0; Frame::MOST];
     let all = judged(plan, table, lent, true, tasks, releases, deadlines, starts);
     let answer = all.answer;
     match answer {

@@ -1,4 +1,4 @@
-// The whole of making a table: from a plan file to the table in a lent buffer, with the frame rows in arrays that are lent, zeros before.
+// The whole of making a table: from a plan file to the table in a lent buffer, with the frame rows in arrays that are lent.
 ghost use mathlib.Core.Path.{_≡_};
 ghost use lib.ListN.{length, replicate};
 ghost use Rattle.rules.specs.Limits.{mostFrames};
@@ -59,9 +59,8 @@ fn made_of(
     }
 }
 
-// A table from a plan file, with `lent` frame rows lent; or the first refusal of 19 and 1 to 13 that applies, at its lowest place. The
-// frames by number and their starts go into the arrays, which are zeros again where it refuses.
-pub fn made(
+// The same as `made`, into arrays that are zeros before: who has them so need not clear them twice.
+pub fn made_in(
     plan: &[u8],
     lent: usize,
     buf: &mut [u8],
@@ -83,4 +82,25 @@ pub fn made(
         Verdict::Fine => made_of(laid.line, &mut *buf, tasks, releases, deadlines, starts),
         Verdict::Refused(why) => refused(why),
     }
+}
+
+// A table from a plan file, with `lent` frame rows lent; or the first refusal of 19 and 1 to 13 that applies, at its lowest place. The
+// frames by number and their starts go into the arrays, whatever these held; where it refuses they are zeros.
+pub fn made(
+    plan: &[u8],
+    lent: usize,
+    table: &mut [u8],
+    tasks: &mut [u8; Frame::MOST],
+    releases: &mut [u32; Frame::MOST],
+    deadlines: &mut [u32; Frame::MOST],
+    starts: &mut [u32; Frame::MOST],
+) -> MadeRows
+    ensures { λ r. ⌜ Makes (making r (now (tasks .exit)) (now (releases .exit)) (now (deadlines .exit)) (now (starts .exit))) (now (table .entry)) (now (table .exit)) (lentFor (now (plan .entry)) lent (length (now (table .entry)))) ⌝ }
+    ensures { λ r. ⌜ PassesCheck (now (plan .entry)) (r .answer) (now (table .exit)) ⌝ }
+{
+    *tasks = [0; Frame::MOST];
+    *releases = [0; Frame::MOST];
+    *deadlines = [0; Frame::MOST];
+    *starts = [0; Frame::MOST];
+    made_in(plan, lent, &mut *table, tasks, releases, deadlines, starts)
 }

@@ -1,4 +1,4 @@
--- What `maker::made` answers by value, with the rows filled, is what the rules' `make` leaves.
+-- What `maker::made_in` leaves in the lent arrays, with the rows filled from them, is what the rules' `make` leaves.
 use mathlib.Core.Bool.{Bool, true, false}
 use mathlib.Core.Path.{_≡_, refl, sym, ap, _∙_, subst}
 use mathlib.Core.List.{List, [], _∷_, map}

@@ -34,7 +34,7 @@ pub extern "C" fn olbiothar_make(plan: &[u8], rows: &mut [Frame], table: &mut [u
     let mut releases = zero_words();
     let mut deadlines = zero_words();
     let mut starts = zero_words();
-    let making = maker::made(
+    let making = maker::made_in(
         plan,
         rows.len(),
         table,

@@ -1,4 +1,4 @@
--- A walk of the MIR by hand: four arrays of zeros are lent to `maker::made` and, behind it, to `fill`, with the open rows; the answer goes through `made`. `makes-rows` joins what they say.
+-- A walk of the MIR by hand: four arrays of zeros are lent to `maker::made_in` and, behind it, to `fill`, with the open rows; the answer goes through `made`. `makes-rows` joins what they say.
 use mathlib.Core.Path.{_≡_, refl, sym, ap, subst}
 use Prim.Native.Nat.{ℕ}
 use mathlib.Core.List.{List, [], _∷_}
@@ -66,10 +66,10 @@ use Rattle.linetable.proofs.Answer as B
 use Rattle.linetable.proofs.Answer.Laws as B′
 use Rattle.maker.proofs.MadeRows as N
 use Rattle.maker.proofs.MadeRows.Laws as N′
-use Rattle.maker.proofs.made as made
-use Rattle.maker.proofs.made.Symbol as made-def
-use Rattle.maker.proofs.made.Symbol.{name as #made}
-use Rattle.maker.proofs.made.Met as made-thm
+use Rattle.maker.proofs.made_in as made
+use Rattle.maker.proofs.made_in.Symbol as made-def
+use Rattle.maker.proofs.made_in.Symbol.{name as #made}
+use Rattle.maker.proofs.made_in.Met as made-thm
 use Rattle.rows.proofs.Lending.{lentRows}
 use Rattle.olbiothar.proofs.Filling.{Numbers, held, numbers-typed, array-out, array-in, Fill, calls-fill}
 use Rattle.rows.proofs.Calls.{Plain, calls-plain, Gives, calls-none}
@@ -139,7 +139,7 @@ module _ {M : Type 1} (𝓤 : URA M) (H : Heap 𝓤) (A : Atoms 𝓤) (W : Given
     abbrev Buf : Item 𝓤
     Buf = ‵ (MutSlice (named 1) κ₂ u8 .own buf (u ∷ []))
 
-    -- ---- a call of `made`, to which four arrays of zeros are lent
+    -- ---- a call of `made_in`, to which four arrays of zeros are lent
     module _ (l₁ l₂ l₃ l₄ : ℕ) where
       abbrev lent : ℕ → GName → RefT (List ℕ)
       lent l γ = record { ptr = (l, 0); name = γ; now = zeros }
@@ -187,7 +187,7 @@ module _ {M : Type 1} (𝓤 : URA M) (H : Heap 𝓤) (A : Atoms 𝓤) (W : Given
           owned t usize (Is usize) (uint-makes 𝓤 H A W w64) rows _ (refl, gr .0) $ fjoin t $ move t (10 ∷ 0 ∷ []) $ fjoin t $
           nothing t $ move t (3 ∷ 0 ∷ []) $ join t $ move t (4 ∷ 0 ∷ []) $ join t $ move t (5 ∷ 0 ∷ []) $ join t $ move t (6 ∷ 0 ∷ []) $ join t $ move t (7 ∷ 0 ∷ []) $ join t $ move t (6 ∷ 0 ∷ []) $ join t $
           join t $ use1 W (raw (Made .pre (to-made ν₁ ν₂ ν₃ ν₄ δ₁ δ₂ δ₃ δ₄))) (asked ν₁ ν₂ ν₃ ν₄ δ₁ δ₂ δ₃ δ₄) $
-          -- [what `made` asks for; the lenders' parts: starts, deadlines, releases, tasks]
+          -- [what `made_in` asks for; the lenders' parts: starts, deadlines, releases, tasks]
           calls-at t fm Made known (to-made ν₁ ν₂ ν₃ ν₄ δ₁ δ₂ δ₃ δ₄) (os _ _ _ _ _) (λ w.
           use1 W (later (some (λ (m : MadeRows). (Tokens ν₁ ν₂ ν₃ ν₄ δ₁ δ₂ δ₃ δ₄ ⊛ ‵ (N.the-row .own m (w ∷ []))) ⊛ raw (ensured 𝓤 H A made.ended (made.clauses 𝓤 H A at-mem run) (κs ν₁ ν₂ ν₃ ν₄ δ₁ δ₂ δ₃ δ₄) (passed ν₁ ν₂ ν₃ ν₄ δ₁ δ₂ δ₃ δ₄) tt m)))) (id⊢ 𝓤 _) $ await t tt $ pick t (λ m.
           split t $ move t (1 ∷ []) $ use1 W (some (λ (ws : Lasts made.ended (κs ν₁ ν₂ ν₃ ν₄ δ₁ δ₂ δ₃ δ₄) (passed ν₁ ν₂ ν₃ ν₄ δ₁ δ₂ δ₃ δ₄)). ‵ (lasts made.ended (κs ν₁ ν₂ ν₃ ν₄ δ₁ δ₂ δ₃ δ₄) (passed ν₁ ν₂ ν₃ ν₄ δ₁ δ₂ δ₃ δ₄) ws)
@@ -260,7 +260,7 @@ module _ {M : Type 1} (𝓤 : URA M) (H : Heap 𝓤) (A : Atoms 𝓤) (W : Given
         assigns ! (of-opd ! (load ! (from ! (stop !)) (look ! 28 refl))) (from ! (stop !)) (init ! 36 refl (numbers-typed 𝓤 H A W w32 z₃ is₃)) $
         calls-none (Numbers w32) IsZeros 𝓤 H A W ! fm known-words (λ I. no-more !) (λ z₄ v₄ e₄ is₄. land ! (from ! (stop !)) (store ! 28 refl (numbers-typed 𝓤 H A W w32 z₄ is₄)) $
         assigns ! (of-opd ! (load ! (from ! (stop !)) (look ! 28 refl))) (from ! (stop !)) (init ! 34 refl (numbers-typed 𝓤 H A W w32 z₄ is₄)) $
-        -- the operands of `made`
+        -- the operands of `made_in`
         assigns ! (of-opd ! (load ! (from ! (fld ! refl (stop !))) (look-in ! 44 (sub ! 1 refl (whole !))))) (from ! (stop !)) (init ! 26 refl (tt, record { fits = gr .0 })) $
         assigns ! (addr ! (from ! (fld ! refl (hop ! (look-in ! 42 (sub ! 0 refl (whole !))) (stop !))))) (from ! (stop !)) (init ! 24 refl (tt, tt)) $
         assigns ! (agg ! (and-then ! (load ! (from ! (stop !)) (look ! 24 refl)) (and-then ! (load ! (from ! (fld ! refl (stop !))) (look-in ! 42 (sub ! 1 refl (whole !)))) (no-more !)))) (from ! (stop !)) (init ! 22 refl (tt, (tt, (record { fits = gb .0 }, tt)))) $
@@ -326,7 +326,7 @@ olbiothar-make-spec 𝓤 H 𝓜 𝓖 𝓡 =
     (olbiothar-make-meets 𝓤 H (𝓖 .A) (givenOf 𝓤 H 𝓜 𝓖) (𝓜 .mem) (𝓡 .run) (tablesOf 𝓤 H 𝓜 (tables 𝓤 H 𝓜 𝓡 code.env))
     (cited 𝓤 H (Gives (Numbers w8) IsZeros 𝓤 H (𝓖 .A)) 𝓜 𝓡 code.env #bytes bytes-def.routine code.calls-rows·passes·zero-bytes (bytes-thm.met 𝓤 H 𝓜 𝓖 𝓡))
     (cited 𝓤 H (Gives (Numbers w32) IsZeros 𝓤 H (𝓖 .A)) 𝓜 𝓡 code.env #words words-def.routine code.calls-rows·passes·zero-words (words-thm.met 𝓤 H 𝓜 𝓖 𝓡))
-    (cited 𝓤 H (Made 𝓤 H (𝓖 .A) (givenOf 𝓤 H 𝓜 𝓖) (𝓜 .mem) (𝓡 .run)) 𝓜 𝓡 code.env #made made-def.routine code.calls-maker·made
+    (cited 𝓤 H (Made 𝓤 H (𝓖 .A) (givenOf 𝓤 H 𝓜 𝓖) (𝓜 .mem) (𝓡 .run)) 𝓜 𝓡 code.env #made made-def.routine code.calls-maker·made-in
     (made-thm.met 𝓤 H 𝓜 𝓖 𝓡))
     (cited 𝓤 H (Fill 𝓤 H (𝓖 .A) (𝓜 .mem) (𝓡 .run)) 𝓜 𝓡 code.env #fill fill-def.routine code.calls-rows·passes·fill
     (fill-thm.met 𝓤 H 𝓜 𝓖 𝓡))

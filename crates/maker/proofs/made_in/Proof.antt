@@ -4,8 +4,8 @@ use lib.ListN.{length}
 use Rattle.answers.specs.declared.Refusal.the-variants.{TooFewRows}
 use Rattle.maker.proofs.Ways.{too-few-rows, plan-refused, plan-sound, refused-made, none-left, placed-made}
 use borrow.Author.Needs.{needs}
-use Rattle.maker.proofs.made.Statement.{statement}
-use Rattle.maker.proofs.made.Tie as tie
+use Rattle.maker.proofs.made_in.Statement.{statement}
+use Rattle.maker.proofs.made_in.Tie as tie
 
 returns : tie.Need-returns
 returns c =
@@ -52,8 +52,8 @@ returns-3 c =
     refused-made (a .plan .now) (a .lent) _ _ (a .buf .now) (c .refused2 .ensures)
     (none-left (a .plan .now) (a .lent) (c2 .lay-out .result) refused (start .pre .1 .1 .1)) (refused .rule)
 
-pub made-spec : {M : Type 1} → statement M
-made-spec =
+pub made-in-spec : {M : Type 1} → statement M
+made-in-spec =
     tie.close
     (tie.spec (λ c κs. search needs) returns lay-out-requires (λ c. search needs) made-of-requires (λ c. search needs)
     (λ c κs. search needs) (λ c. search needs) returns-2 returns-3)
