@@ -26,7 +26,7 @@ pub struct Control {
 
 // How long the control frame of a payload takes.
 fn control_time(p: Plan, payload: ByteCount) -> Span
-    ensures { λ r. ⌜ (r .0 ≡ rules.sendingTime (seen p .bus) (payload .0)) × (r .0 < 2 ^ 47) ⌝ }
+    ensures { λ r. ⌜ (r .0 ≡ rules.sendingTime (seen p .bus) (payload .0)) × (r .0 < 2 ^ 53) ⌝ }
 {
     let bus = p.bus;
     sending_time(bus, payload)

@@ -38,6 +38,15 @@ pub mod bus {
     pub const LENGTH: usize = RESOLUTION + super::U32;
 }
 
+// A bus that says how many bits a byte takes: the numbers of `bus`, and this one behind them.
+pub mod framed_bus {
+    pub const KIND: u8 = 9;
+
+    pub const BYTE_BITS: usize = super::bus::LENGTH;
+
+    pub const LENGTH: usize = BYTE_BITS + super::U8;
+}
+
 pub mod nodes {
     pub const KIND: u8 = 2;
 

@@ -2,7 +2,7 @@
 -- fixed width, filled and stored into.
 use mathlib.Core.Path.{_≡_, sym, ap, _∙_}
 use mathlib.Core.Logic.{_⊎_, inl, inr}
-use native.Mathlib.Nat.{zero-add, eq-zero-or-pos, div-zero, mul-zero, le-mul-of-pos-right}
+use native.Mathlib.Nat.{zero-add, eq-zero-or-pos, div-zero, mul-zero, le-trans, le-mul-of-pos-right, mul-le-mul-right}
 use native.Mathlib.Omega.{arith}
 use Prim.Native.Nat.{ℕ, _+_, _*_, _≤_, _<_}
 use mathlib.Core.List.{List}
@@ -14,7 +14,7 @@ use Rattle.laws.specs.Loops.{stores}
 use Rattle.laws.proofs.Lists.{length-tab, getD-tab}
 use Rattle.laws.proofs.Loops.{length-stores, stores-at, stores-beyond}
 use Rattle.laws.specs.Numbers.{ceil, up}
-use Rattle.laws.proofs.Divisors.{ceil-least, ceil-tight}
+use Rattle.laws.proofs.Divisors.{ceil-enough, ceil-least, ceil-tight}
 
 pub ceil-by-zero : (a : ℕ) → ceil a 0 ≡ 0
 unfolding ceil
@@ -34,6 +34,18 @@ up-le r x = by-case (eq-zero-or-pos r)
     by-case : (r ≡ 0) ⊎ (0 < r) → ceil x r * r ≤ x + r
     by-case (inl z) = rw (z, mul-zero) (omega arith)
     by-case (inr w) = let t : ceil x r * r < x + r = ceil-tight x r w in omega arith
+
+-- what is rounded up does not fall when it grows
+pub ceil-rises : (a c b : ℕ) → a ≤ c → ceil a b ≤ ceil c b
+ceil-rises a c b h = by-case (eq-zero-or-pos b)
+  where
+    by-case : (b ≡ 0) ⊎ (0 < b) → ceil a b ≤ ceil c b
+    by-case (inl z) = rw (z, ceil-by-zero) (omega arith)
+    by-case (inr w) = ceil-least a b (ceil c b) (le-trans h (ceil-enough c b w))
+
+pub up-rises : (r x y : ℕ) → x ≤ y → up r x ≤ up r y
+unfolding up
+up-rises r x y h = mul-le-mul-right r (ceil-rises x y r h)
 
 -- ---- the table f 0, .., f (w - 1)
 

@@ -2,6 +2,7 @@
 -- shown exact in one line for each rule.
 use mathlib.Core.Path.{_≡_, refl, sym, subst}
 use mathlib.Core.Bool.{Bool, true, false, cond, not, _&&_, _||_}
+use mathlib.Core.Logic.{_⊎_, inl, inr}
 use mathlib.Core.List.{List, [], _∷_, List·Memᴰ, List·Memᴰ·head, List·Memᴰ·tail, List·Memᴰ·not-nil}
 use native.Mathlib.Nat.{mod-eq-zero-of-dvd, dvd-of-mod-eq-zero}
 use borrow.Author.Tests.{leb-true, ltb-true, eqb-true, le-leb, lt-ltb, eq-eqb}
@@ -52,6 +53,18 @@ module _ {P Q : Type 0} where
   pub by-and : {b c : Bool} → Tests b P → Tests c Q → Tests (b && c) (P × Q)
   by-and {b} {c} s t =
       record { says = λ e. (s .says (both-left b c e), t .says (both-right b c e)); passes = λ h. rw (s .passes (h .0), t .passes (h .1)) }
+
+  pub by-or : {b c : Bool} → Tests b P → Tests c Q → Tests (b || c) (P ⊎ Q)
+  by-or {b} {c} s t = record { says = said b s; passes = passed b s }
+    where
+      said : (b : Bool) → Tests b P → (b || c) ≡ true → P ⊎ Q
+      said true s e = inl (s .says refl)
+      said false s e = inr (t .says e)
+
+      passed : (b : Bool) → Tests b P → P ⊎ Q → (b || c) ≡ true
+      passed true s h = refl
+      passed false s (inl h) = true-false (sym (s .passes h))
+      passed false s (inr h) = t .passes h
 
   -- a test that is asked only where another passes
   pub by-where : {b c : Bool} → Tests b P → Tests c Q → Tests (cond b c true) (P → Q)

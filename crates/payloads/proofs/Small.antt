@@ -1,7 +1,7 @@
 -- The times of a plan that was read are small.
 use mathlib.Core.Path.{_≡_, sym, ap, _∙_}
 use mathlib.Core.List.{List}
-use native.Mathlib.Nat.{max-le, le-mul-of-pos-right}
+use native.Mathlib.Nat.{max-le, le-mul-of-pos-right, mul-le-mul-right}
 use native.Mathlib.Omega.{arith}
 use lib.Dec.{lit≤}
 use lib.ListN.{length, getD, replicate, List·getD-eq-default}
@@ -13,7 +13,7 @@ use Rattle.laws.proofs.Bus.{table-filled}
 use Rattle.laws.proofs.Divisors.{ceil-least, up-tight}
 use Rattle.laws.proofs.Members.{all-getD-or, all-weaker}
 use Rattle.rules.specs.Plan.{Bus, Plan, Task, noTask, theTask}
-use Rattle.rules.specs.Frames.{ticksOfBits, sendingTime, gapTime}
+use Rattle.rules.specs.Frames.{ofBits, onBus, sendingTime, gapOnBus, gapTime}
 use Rattle.rules.proofs.PlanKept.{PlanKept, BusKept}
 use Rattle.plan.specs.declared.Plan as plan
 use Rattle.plan.specs.Memory.{seen, taskSeen, taskLaid}
@@ -21,8 +21,8 @@ use Rattle.bus.proofs.Things.{task-here}
 use Rattle.payloads.specs.Tests.{taskTime}
 
 module _ (b : Bus) (k : BusKept b) where
-  ticks-small : (bits : ℕ) → bits ≤ 4000 → ticksOfBits b bits < 4294967296
-  unfolding ticksOfBits
+  ticks-small : (bits : ℕ) → bits ≤ 4000 → ofBits b bits .ticks < 4294967296
+  unfolding ofBits
   ticks-small bits h =
       let one : 1 ≤ b .rate = k .rate .least in
       let c : ceil (bits * 1000) (b .rate) ≤ bits * 1000 = ceil-least (bits * 1000) (b .rate) (bits * 1000) (le-mul-of-pos-right (bits * 1000) one) in
@@ -32,15 +32,17 @@ module _ (b : Bus) (k : BusKept b) where
       omega arith
 
   pub sending-small : (s : ℕ) → s ≤ 256 → sendingTime b s < 4294967296
-  unfolding sendingTime
+  unfolding sendingTime onBus
   sending-small s h =
       let o : b .overhead ≤ 64 = k .overhead .most in
       let l : b .least ≤ 254 = k .least .most in
       let m : max s (b .least) ≤ 256 = max-le h (omega arith) in
-      ticks-small (8 * (b .overhead + max s (b .least))) (omega arith)
+      let bytes = b .overhead + max s (b .least) in
+      let few : b .byteBits * bytes ≤ 12 * bytes = mul-le-mul-right bytes (k .byteBits .most) in
+      ticks-small (b .byteBits * bytes) (omega arith)
 
   pub gap-small : gapTime b < 4294967296
-  unfolding gapTime
+  unfolding gapTime gapOnBus
   gap-small = let g : b .gap ≤ 1000 = k .gap .most in ticks-small (b .gap) (omega arith)
 
 -- the number of bytes that a struct has for a task

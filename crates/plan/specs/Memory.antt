@@ -21,8 +21,9 @@ busLaid b =
       overhead = record { 0 = b .overhead };
       least = record { 0 = b .least };
       most = record { 0 = b .most };
-      gap = b .gap;
+      gap = record { 0 = b .gap };
       resolution = record { 0 = b .resolution };
+      «byte_bits» = record { 0 = b .byteBits };
     }
 
 unfoldable pub moduleLaid : ℕ → Module
@@ -41,9 +42,22 @@ invocationLaid i = record { mode = record { 0 = i .mode }; task = record { 0 = i
 unfoldable pub connectionLaid : rules.Connection → Connection
 connectionLaid c = record { producer = record { 0 = c .producer }; consumer = record { 0 = c .consumer } }
 
+-- a bus whose bytes take so many bits
+unfoldable pub withByteBits : ℕ → rules.Bus → rules.Bus
+withByteBits bits b =
+    record {
+      rate = b .rate;
+      overhead = b .overhead;
+      least = b .least;
+      most = b .most;
+      gap = b .gap;
+      resolution = b .resolution;
+      byteBits = bits;
+    }
+
 -- the bus of a plan with nothing in it
 unfoldable pub noBus : rules.Bus
-noBus = record { rate = 0; overhead = 0; least = 0; most = 0; gap = 0; resolution = 0 }
+noBus = record { rate = 0; overhead = 0; least = 0; most = 0; gap = 0; resolution = 0; byteBits = 0 }
 
 -- A plan in memory: its counts by kind, each array filled up with zero things; what has no place left is not stored.
 unfoldable pub layOut : rules.Plan → Plan
@@ -75,8 +89,9 @@ busSeen b =
       overhead = b .overhead .0;
       least = b .least .0;
       most = b .most .0;
-      gap = b .gap;
+      gap = b .gap .0;
       resolution = b .resolution .0;
+      byteBits = b .«byte_bits» .0;
     }
 
 unfoldable pub moduleSeen : Module → ℕ

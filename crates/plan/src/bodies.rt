@@ -2,7 +2,7 @@
 ghost use mathlib.Core.Path.{_≡_};
 ghost use Rattle.rules.specs.Records.{recordOf};
 ghost use Rattle.rules.specs.Plan.{busOf, moduleOf, modeOf, taskOf, invocationOf, connectionOf};
-ghost use Rattle.plan.specs.Memory.{busLaid, moduleLaid, modeLaid, taskLaid, invocationLaid, connectionLaid};
+ghost use Rattle.plan.specs.Memory.{busLaid, withByteBits, moduleLaid, modeLaid, taskLaid, invocationLaid, connectionLaid};
 use crate::Bus;
 use crate::Connection;
 use crate::Invocation;
@@ -12,6 +12,8 @@ use crate::Task;
 use little::read8;
 use little::read16;
 use little::read32;
+use units::BitCount;
+use units::ByteBits;
 use units::ByteCount;
 use units::ModeNo;
 use units::ModuleNo;
@@ -19,8 +21,9 @@ use units::NodeNo;
 use units::TaskNo;
 use units::Ticks;
 
-pub fn bus(body: &[u8]) -> Bus
-    ensures { λ r. ⌜ r ≡ busLaid (busOf (recordOf 1 (now (body .entry)) .numbers)) ⌝ }
+// The numbers that both kinds of bus have, with the bits of a byte.
+fn bus_with(body: &[u8], bits: ByteBits) -> Bus
+    ensures { λ r. ⌜ r ≡ busLaid (withByteBits (bits .0) (busOf (recordOf 1 (now (body .entry))))) ⌝ }
 {
     let overhead = read16(body, fields::bus::OVERHEAD);
     let least = read16(body, fields::bus::LEAST);
@@ -31,9 +34,22 @@ pub fn bus(body: &[u8]) -> Bus
         overhead: ByteCount(overhead as u32),
         least: ByteCount(least as u32),
         most: ByteCount(most as u32),
-        gap: gap as u32,
+        gap: BitCount(gap as u32),
         resolution: Ticks(read32(body, fields::bus::RESOLUTION)),
+        byte_bits: bits,
     }
+}
+
+pub fn bus(body: &[u8]) -> Bus
+    ensures { λ r. ⌜ r ≡ busLaid (busOf (recordOf 1 (now (body .entry)))) ⌝ }
+{
+    bus_with(body, ByteBits::plain())
+}
+
+pub fn framed_bus(body: &[u8]) -> Bus
+    ensures { λ r. ⌜ r ≡ busLaid (busOf (recordOf 9 (now (body .entry)))) ⌝ }
+{
+    bus_with(body, ByteBits(read8(body, fields::framed_bus::BYTE_BITS)))
 }
 
 pub fn module(body: &[u8]) -> Module

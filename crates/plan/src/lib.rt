@@ -5,6 +5,8 @@ ghost use Rattle.plan.specs.Memory.{emptyPlan};
 pub mod bodies;
 pub mod look;
 
+use units::BitCount;
+use units::ByteBits;
 use units::ByteCount;
 use units::ModeNo;
 use units::ModuleNo;
@@ -12,14 +14,15 @@ use units::NodeNo;
 use units::TaskNo;
 use units::Ticks;
 
-// Rate in kbit/s, gap in bits.
+// Rate in kbit/s.
 pub struct Bus {
     pub rate: u32,
     pub overhead: ByteCount,
     pub least: ByteCount,
     pub most: ByteCount,
-    pub gap: u32,
+    pub gap: BitCount,
     pub resolution: Ticks,
+    pub byte_bits: ByteBits,
 }
 
 impl Bus {
@@ -130,8 +133,9 @@ impl Plan {
                 overhead: ByteCount(0),
                 least: ByteCount(0),
                 most: ByteCount(0),
-                gap: 0,
+                gap: BitCount(0),
                 resolution: Ticks(0),
+                byte_bits: ByteBits(0),
             },
             counts: [0; 8],
             modules: [Module { node: NodeNo(0) }; ModuleNo::MOST],

@@ -1,6 +1,7 @@
 -- A plan that is gathered record by record is the plan of the records: over lists, then over a file that the record reader walks.
 use mathlib.Core.Path.{_≡_, refl, sym, ap, _∙_, subst}
 use mathlib.Core.Bool.{Bool, true, false, _&&_, _||_}
+use mathlib.Core.Logic.{_⊎_, inl, inr}
 use mathlib.Core.List.{List, [], _∷_, _++_, map, append-assoc}
 use native.Mathlib.Omega.{arith}
 use lib.Dec.{eqb, leb, ltb}
@@ -12,7 +13,8 @@ use Rattle.laws.specs.Lists.{keep}
 use Rattle.laws.specs.Loops.{padTo}
 use Rattle.laws.proofs.Lists.{keep-snoc-yes, keep-snoc-no, map-snoc, length-snoc, padTo-snoc, both-left, both-right, true-false}
 use Rattle.laws.proofs.Res.{refuse≢ok, ok-injective}
-use Rattle.rules.specs.Records.{Rec, fields, bodyLength, decoded, recordOf, planFollows, before, records, known}
+use Rattle.laws.proofs.Tests.{by-or, by-eq}
+use Rattle.rules.specs.Records.{Rec, fields, bodyLength, decoded, recordOf, isBus, planFollows, before, records, known}
 use Rattle.rules.specs.Plan as rules
 use Rattle.records.specs.Reader.{nextAt, either, wrongAt}
 use Rattle.records.specs.declared.Sort.the-variants.{Plan}
@@ -41,9 +43,14 @@ pub data Things : List Rec → Type 0 where
   none : Things []
   more : {k : ℕ} (b : List ℕ) {rs : List Rec} → Thing k → Things rs → Things (rec k b ∷ rs)
 
--- the records of a plan (rule 2.5): the bus, the number of nodes, then things
+-- the two kinds of bus
+pub data ABus : ℕ → Type 0 where
+  plain : ABus 1
+  framed : ABus 9
+
+-- the records of a plan (rule 2.5): a bus, the number of nodes, then things
 pub data Planned : List Rec → Type 0 where
-  planned : (b n : List ℕ) {rs : List Rec} → Things rs → Planned (rec 1 b ∷ rec 2 n ∷ rs)
+  planned : {k : ℕ} → ABus k → (b n : List ℕ) {rs : List Rec} → Things rs → Planned (rec k b ∷ rec 2 n ∷ rs)
 
 module _ (k : ℕ) (rs : List Rec) (r : Rec) where
   thing-more : rules.isKind k r ≡ true → rules.things k (rs ++ (r ∷ [])) ≡ rules.things k rs ++ (r .numbers ∷ [])
@@ -54,6 +61,10 @@ module _ (k : ℕ) (rs : List Rec) (r : Rec) where
   unfolding rules.things
   thing-same e = ap (map rules.numbersOf) (keep-snoc-no (rules.isKind k) rs r e)
 
+bus-same : (rs : List Rec) (r : Rec) → rules.isBusRecord r ≡ false → rules.theBus (rs ++ (r ∷ [])) ≡ rules.theBus rs
+unfolding rules.theBus
+bus-same rs r e = rw (keep-snoc-no rules.isBusRecord rs r e)
+
 -- one thing more in an array filled up
 padded-more : {A B : Type 0} (n : ℕ) (z : B) (f : A → B) (l : List A) (x : A)
     → padTo n z (map f (l ++ (x ∷ []))) ≡ set (padTo n z (map f l)) (length l) (f x)
@@ -61,10 +72,10 @@ padded-more n z f l x = rw (map-snoc f l x, padTo-snoc n z (map f l) (f x), leng
 
 module-more : (rs : List Rec) (b : List ℕ)
     → layOut (rules.planOf (rs ++ (rec 3 b ∷ []))) ≡ withRecord (layOut (rules.planOf rs)) (rec 3 b)
-unfolding layOut rules.planOf rules.only rules.isKind withRecord withModule oneMore countSeen
+unfolding layOut rules.planOf rules.only rules.isKind rules.isBusRecord isBus withRecord withModule oneMore countSeen
 module-more rs b =
     rw (
-      thing-same 1 rs (rec 3 b) refl,
+      bus-same rs (rec 3 b) refl,
       thing-same 2 rs (rec 3 b) refl,
       thing-more 3 rs (rec 3 b) refl,
       thing-same 4 rs (rec 3 b) refl,
@@ -78,10 +89,10 @@ module-more rs b =
 
 mode-more : (rs : List Rec) (b : List ℕ)
     → layOut (rules.planOf (rs ++ (rec 4 b ∷ []))) ≡ withRecord (layOut (rules.planOf rs)) (rec 4 b)
-unfolding layOut rules.planOf rules.only rules.isKind withRecord withMode oneMore countSeen
+unfolding layOut rules.planOf rules.only rules.isKind rules.isBusRecord isBus withRecord withMode oneMore countSeen
 mode-more rs b =
     rw (
-      thing-same 1 rs (rec 4 b) refl,
+      bus-same rs (rec 4 b) refl,
       thing-same 2 rs (rec 4 b) refl,
       thing-same 3 rs (rec 4 b) refl,
       thing-more 4 rs (rec 4 b) refl,
@@ -95,10 +106,10 @@ mode-more rs b =
 
 task-more : (rs : List Rec) (b : List ℕ)
     → layOut (rules.planOf (rs ++ (rec 5 b ∷ []))) ≡ withRecord (layOut (rules.planOf rs)) (rec 5 b)
-unfolding layOut rules.planOf rules.only rules.isKind withRecord withTask oneMore countSeen
+unfolding layOut rules.planOf rules.only rules.isKind rules.isBusRecord isBus withRecord withTask oneMore countSeen
 task-more rs b =
     rw (
-      thing-same 1 rs (rec 5 b) refl,
+      bus-same rs (rec 5 b) refl,
       thing-same 2 rs (rec 5 b) refl,
       thing-same 3 rs (rec 5 b) refl,
       thing-same 4 rs (rec 5 b) refl,
@@ -112,10 +123,10 @@ task-more rs b =
 
 invocation-more : (rs : List Rec) (b : List ℕ)
     → layOut (rules.planOf (rs ++ (rec 6 b ∷ []))) ≡ withRecord (layOut (rules.planOf rs)) (rec 6 b)
-unfolding layOut rules.planOf rules.only rules.isKind withRecord withInvocation oneMore countSeen
+unfolding layOut rules.planOf rules.only rules.isKind rules.isBusRecord isBus withRecord withInvocation oneMore countSeen
 invocation-more rs b =
     rw (
-      thing-same 1 rs (rec 6 b) refl,
+      bus-same rs (rec 6 b) refl,
       thing-same 2 rs (rec 6 b) refl,
       thing-same 3 rs (rec 6 b) refl,
       thing-same 4 rs (rec 6 b) refl,
@@ -129,10 +140,10 @@ invocation-more rs b =
 
 connection-more : (rs : List Rec) (b : List ℕ)
     → layOut (rules.planOf (rs ++ (rec 7 b ∷ []))) ≡ withRecord (layOut (rules.planOf rs)) (rec 7 b)
-unfolding layOut rules.planOf rules.only rules.isKind withRecord withConnection oneMore countSeen
+unfolding layOut rules.planOf rules.only rules.isKind rules.isBusRecord isBus withRecord withConnection oneMore countSeen
 connection-more rs b =
     rw (
-      thing-same 1 rs (rec 7 b) refl,
+      bus-same rs (rec 7 b) refl,
       thing-same 2 rs (rec 7 b) refl,
       thing-same 3 rs (rec 7 b) refl,
       thing-same 4 rs (rec 7 b) refl,
@@ -162,15 +173,16 @@ things-gathered done none = rw (append-nothing done)
 things-gathered done (more {k} b {rs} t h) =
     rw (← one-more done b t) (things-gathered (done ++ (rec k b ∷ [])) h ∙ rw (append-assoc done (rec k b ∷ []) rs))
 
-begun : (b n : List ℕ)
-    → withRecord (withRecord emptyPlan (rec 1 b)) (rec 2 n) ≡ layOut (rules.planOf (rec 1 b ∷ rec 2 n ∷ []))
-unfolding emptyPlan layOut noPlan rules.planOf rules.only rules.things rules.isKind withRecord withBus withNodes
-begun b n = refl
+begun : {k : ℕ} (b n : List ℕ) → ABus k
+    → withRecord (withRecord emptyPlan (rec k b)) (rec 2 n) ≡ layOut (rules.planOf (rec k b ∷ rec 2 n ∷ []))
+unfolding emptyPlan layOut noPlan rules.planOf rules.only rules.theBus rules.things rules.isKind rules.isBusRecord isBus withRecord withBus withNodes
+begun b n plain = refl
+begun b n framed = refl
 
 -- Gathered from nothing, the records of a plan make that plan.
 pub gathered-whole : {rs : List Rec} → Planned rs → withRecords emptyPlan rs ≡ layOut (rules.planOf rs)
-gathered-whole (planned b n {rs} h) =
-    ap (λ (p : memory.Plan). withRecords p rs) (begun b n) ∙ things-gathered (rec 1 b ∷ rec 2 n ∷ []) h
+gathered-whole (planned {k} bus b n {rs} h) =
+    ap (λ (p : memory.Plan). withRecords p rs) (begun b n bus) ∙ things-gathered (rec k b ∷ rec 2 n ∷ []) h
 
 -- ---- over a file
 
@@ -185,32 +197,41 @@ thing (suc (suc (suc (suc (suc (suc zero)))))) h w = an-invocation
 thing (suc (suc (suc (suc (suc (suc (suc zero))))))) h w = a-connection
 thing (suc (suc (suc (suc (suc (suc (suc (suc k)))))))) h w = absurd (omega arith)
 
-thing-low : {k : ℕ} → Thing k → 2 ≤ k
-thing-low a-module = omega arith
-thing-low a-mode = omega arith
-thing-low a-task = omega arith
-thing-low an-invocation = omega arith
-thing-low a-connection = omega arith
+thing-between : {k : ℕ} → Thing k → (2 ≤ k) × (k ≤ 7)
+thing-between a-module = (omega arith, omega arith)
+thing-between a-mode = (omega arith, omega arith)
+thing-between a-task = (omega arith, omega arith)
+thing-between an-invocation = (omega arith, omega arith)
+thing-between a-connection = (omega arith, omega arith)
+
+a-bus : (kind : ℕ) → isBus kind ≡ true → ABus kind
+unfolding isBus
+a-bus kind e = by-kind (by-or (by-eq kind 1) (by-eq kind 9) .says e)
+  where
+    by-kind : (kind ≡ 1) ⊎ (kind ≡ 9) → ABus kind
+    by-kind (inl one) = subst ABus (sym one) plain
+    by-kind (inr nine) = subst ABus (sym nine) framed
+
+-- behind a bus stands the number of nodes, not the end
+nodes-second : {previous : ℕ} (kind : ℕ) → ABus previous → planFollows previous kind ≡ true → kind ≡ 2
+unfolding planFollows isBus
+nodes-second kind plain e = eqb-true kind 2 e
+nodes-second kind framed e = eqb-true kind 2 e
 
 module _ (previous kind : ℕ) (e : planFollows previous kind ≡ true) where
   -- behind the number of nodes only things stand
-  thing-behind : 2 ≤ previous → eqb kind 0 ≡ false → Thing kind
-  unfolding planFollows
+  thing-behind : (2 ≤ previous) × (previous ≤ 7) → eqb kind 0 ≡ false → Thing kind
+  unfolding planFollows isBus
   thing-behind h z =
+      let other : (k : ℕ) → (previous ≡ k → ⊥) → eqb previous k ≡ false = ne-eqb previous in
+      let low = h .0 in
+      let high = h .1 in
       let a : (eqb kind 0 || (leb 3 kind && (leb previous kind && leb kind 7))) ≡ true
-      = rw (ne-eqb previous 0 (λ x. omega arith), ne-eqb previous 1 (λ x. omega arith)) at e in
+      = rw (other 0 (λ x. omega arith), other 1 (λ x. omega arith), other 9 (λ x. omega arith)) at e in
       let b : (leb 3 kind && (leb previous kind && leb kind 7)) ≡ true = rw z at a in
       let c : (leb previous kind && leb kind 7) ≡ true = both-right (leb 3 kind) (leb previous kind && leb kind 7) b in
       thing kind (leb-true 3 kind (both-left (leb 3 kind) (leb previous kind && leb kind 7) b))
       (leb-true kind 7 (both-right (leb previous kind) (leb kind 7) c))
-
-  bus-first : previous ≡ 0 → kind ≡ 1
-  unfolding planFollows
-  bus-first h = eqb-true kind 1 (rw h at e)
-
-  nodes-second : previous ≡ 1 → kind ≡ 2
-  unfolding planFollows
-  nodes-second h = eqb-true kind 2 (rw h at e)
 
 before-ok : {C : Type 0} (order : ℕ → ℕ → Bool) (n : ℕ) (r : Rec) (w : Res (List Rec)) (rs : List Rec) → before order n r w ≡ ok rs
     → ((tail : List Rec) → w ≡ ok tail → rs ≡ r ∷ tail → C) → C
@@ -229,7 +250,7 @@ module _ (s : List ℕ) where
   by-step previous at rs P here end End q e = subst P (ok-injective e) (end q)
   by-step previous at rs P here end (Wrong place) q e = refuse≢ok e
 
-  things-behind : (n previous at : ℕ) (rs : List Rec) → length s ≤ n + at → 2 ≤ previous → at ≤ length s
+  things-behind : (n previous at : ℕ) (rs : List Rec) → length s ≤ n + at → (2 ≤ previous) × (previous ≤ 7) → at ≤ length s
       → from Plan 1 s previous at ≡ ok rs → Things rs
   unfolding recordOf
   things-behind zero previous at rs m h w e =
@@ -240,7 +261,7 @@ module _ (s : List ℕ) where
       (λ kind body next tail f r.
       let t : Thing kind = thing-behind previous kind (f .in-order) h (f .no-end) in
       more (decoded (fields kind) (drop body s)) t
-      (things-behind n kind next tail (omega (arith, f .fits, f .further)) (thing-low t) (f .fits) r))
+      (things-behind n kind next tail (omega (arith, f .fits, f .further)) (thing-between t) (f .fits) r))
       (λ q. none)
       (nextAt Plan s previous at) refl (sym (one-step Plan 1 s previous at w) ∙ e)
 
@@ -269,24 +290,22 @@ module _ (s : List ℕ) where
       (eqb (at + 1) (length s)) (leb (bodyLength (getD s at 0)) (length s - (at + 1)))
       refl refl e
 
-  nodes-behind : (b : List ℕ) (at : ℕ) (rs : List Rec) → at ≤ length s → from Plan 1 s 1 at ≡ ok rs → Planned (rec 1 b ∷ rs)
-  unfolding recordOf planFollows
-  nodes-behind b at rs w e =
-      by-step 1 at rs (λ l. Planned (rec 1 b ∷ l))
+  nodes-behind : {k : ℕ} → ABus k → (b : List ℕ) (at : ℕ) (rs : List Rec) → at ≤ length s → from Plan 1 s k at ≡ ok rs → Planned (rec k b ∷ rs)
+  unfolding recordOf
+  nodes-behind {k} bus b at rs w e =
+      by-step k at rs (λ l. Planned (rec k b ∷ l))
       (λ kind body next tail f r.
-      let k : kind ≡ 2 = nodes-second 1 kind (f .in-order) refl in
-      let t : Things tail = things-behind (length s) kind next tail (omega arith) (omega arith) (f .fits) r in
-      rw k (planned b (decoded (fields 2) (drop body s)) t))
-      (λ q. true-false (sym (ends 1 at q)))
-      (nextAt Plan s 1 at) refl (sym (one-step Plan 1 s 1 at w) ∙ e)
+      let two : kind ≡ 2 = nodes-second kind bus (f .in-order) in
+      let t : Things tail = things-behind (length s) kind next tail (omega arith) (omega arith, omega arith) (f .fits) r in
+      rw two (planned bus b (decoded (fields 2) (drop body s)) t))
+      (λ q. let end : 0 ≡ 2 = nodes-second 0 bus (ends k at q) in absurd (omega arith))
+      (nextAt Plan s k at) refl (sym (one-step Plan 1 s k at w) ∙ e)
 
-  -- The records of a plan: the bus, the number of nodes, then things.
+  -- The records of a plan: a bus, the number of nodes, then things.
   pub file-planned : (rs : List Rec) → records planFollows 1 s ≡ ok rs → Planned rs
-  unfolding recordOf planFollows records from
+  unfolding recordOf planFollows isBus records from
   file-planned rs e =
       by-step 0 0 rs Planned
-      (λ kind body next tail f r.
-      let k : kind ≡ 1 = bus-first 0 kind (f .in-order) refl in
-      rw k (nodes-behind (decoded (fields 1) (drop body s)) next tail (f .fits) (rw k at r)))
+      (λ kind body next tail f r. nodes-behind (a-bus kind (f .in-order)) (decoded (fields kind) (drop body s)) next tail (f .fits) r)
       (λ q. true-false (sym (ends 0 0 q)))
       (nextAt Plan s 0 0) refl (sym (one-step Plan 1 s 0 0 (omega arith)) ∙ e)

@@ -10,6 +10,7 @@ use Prim.Native.Nat.{ℕ, zero, suc, _+_, _-_, _≤_, _<_}
 use Rattle.laws.specs.Res.{Res, ok, refuse}
 use Rattle.laws.proofs.Res.{refuse≢ok, ok-injective, refuse-place}
 use Rattle.rules.specs.Records.{Rec, bodyLength, recordOf, planFollows, before, records}
+use Rattle.rules.specs.Plan as rules
 use Rattle.records.specs.Reader.{nextAt}
 use Rattle.records.specs.declared.Sort.the-variants.{Plan}
 use Rattle.records.specs.declared.Step.{Step}
@@ -45,7 +46,7 @@ module _ (p : memory.Plan) (r : Rec) (k : ℕ) (h : 3 ≤ k) where
       let same : getD (p .counts) k 0 ≤ getD (p .counts) k 0 + 1 = omega arith in
       let nodes : (n : ℕ) → getD (set (p .counts) 2 n) k 0 ≤ getD (p .counts) k 0 + 1
       = λ n. rw (getD-set-other (p .counts) 2 k n 0 (λ e. omega arith)) same in
-      picked Grown (eqb (r .kind) 1) same
+      picked Grown (rules.isBusRecord r) same
       (picked Grown (eqb (r .kind) 2) (nodes _)
       (picked Grown (eqb (r .kind) 3) (one 3)
       (picked Grown (eqb (r .kind) 4) (one 4)

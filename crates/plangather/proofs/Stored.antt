@@ -10,7 +10,7 @@ use lib.Seq.{set-out}
 use borrow.Author.Tests.{ltb-true, ltb-false, leb-true, le-leb, lt-leb, ne-eqb}
 use Prim.Native.Nat.{ℕ, zero, suc, _≤_, _<_}
 use Rattle.laws.proofs.Lists.{both-left}
-use Rattle.rules.specs.Records.{Rec, recordOf}
+use Rattle.rules.specs.Records.{Rec, recordOf, isBus}
 use Rattle.rules.specs.Plan as rules
 use Rattle.plan.specs.declared.Bus.{Bus}
 use Rattle.plan.specs.declared.Module.{Module}
@@ -21,6 +21,7 @@ use Rattle.plan.specs.declared.Connection.{Connection}
 use Rattle.plan.specs.declared.Plan.{Plan}
 use Rattle.plan.specs.Memory.{busLaid, moduleLaid, modeLaid, taskLaid, invocationLaid, connectionLaid, countSeen, emptyPlan, layOut, noPlan}
 use Rattle.plangather.specs.Gather.{isThing, numberOf, countedMore, places, keptKind, oneMore, withBus, withNodes, withModule, withMode, withTask, withInvocation, withConnection, withRecord}
+use Rattle.plangather.proofs.Gathering.{ABus, plain, framed}
 
 -- ---- the kind again, where a place is left
 
@@ -62,46 +63,47 @@ number-least p kind at h = go (isThing kind) refl
 -- ---- stored
 
 module _ (p : Plan) (kind n : ℕ) (counts body : List ℕ) (number : n ≡ numberOf (p .counts) kind) (raised : counts ≡ countedMore (p .counts) kind) where
-  pub stored-bus : (b : Bus) → keptKind kind n ≡ 1 → b ≡ busLaid (rules.busOf (recordOf 1 body .numbers))
+  pub stored-bus : {key : ℕ} (b : Bus) → ABus key → keptKind kind n ≡ key → b ≡ busLaid (rules.busOf (recordOf key body))
       → record { bus = b; counts = counts; modules = p .modules; modes = p .modes; tasks = p .tasks; invocations = p .invocations; connections = p .connections }
       ≡ withRecord p (recordOf kind body)
-  unfolding withRecord withBus recordOf countedMore isThing
-  stored-bus b e w = rw (raised, w, kept-kind kind n 1 e (omega arith))
+  unfolding withRecord withBus rules.isBusRecord isBus recordOf countedMore isThing
+  stored-bus b plain e w = rw (raised, w, kept-kind kind n 1 e (omega arith))
+  stored-bus b framed e w = rw (raised, w, kept-kind kind n 9 e (omega arith))
 
   pub stored-nodes : (x : ℕ) → keptKind kind n ≡ 2 → x ≡ rules.nth (recordOf 2 body .numbers) 0
       → record { bus = p .bus; counts = set counts 2 x; modules = p .modules; modes = p .modes; tasks = p .tasks; invocations = p .invocations; connections = p .connections }
       ≡ withRecord p (recordOf kind body)
-  unfolding withRecord withNodes recordOf countedMore isThing
+  unfolding withRecord rules.isBusRecord isBus withNodes recordOf countedMore isThing
   stored-nodes x e w = rw (raised, w, kept-kind kind n 2 e (omega arith))
 
   pub stored-module : (m : Module) → keptKind kind n ≡ 3 → m ≡ moduleLaid (rules.moduleOf (recordOf 3 body .numbers))
       → record { bus = p .bus; counts = counts; modules = set (p .modules) n m; modes = p .modes; tasks = p .tasks; invocations = p .invocations; connections = p .connections }
       ≡ withRecord p (recordOf kind body)
-  unfolding withRecord withModule oneMore countSeen recordOf countedMore numberOf isThing
+  unfolding withRecord rules.isBusRecord isBus withModule oneMore countSeen recordOf countedMore numberOf isThing
   stored-module m e w = rw (raised, w, number, kept-kind kind n 3 e (omega arith))
 
   pub stored-mode : (μ : Mode) → keptKind kind n ≡ 4 → μ ≡ modeLaid (rules.modeOf (recordOf 4 body .numbers))
       → record { bus = p .bus; counts = counts; modules = p .modules; modes = set (p .modes) n μ; tasks = p .tasks; invocations = p .invocations; connections = p .connections }
       ≡ withRecord p (recordOf kind body)
-  unfolding withRecord withMode oneMore countSeen recordOf countedMore numberOf isThing
+  unfolding withRecord rules.isBusRecord isBus withMode oneMore countSeen recordOf countedMore numberOf isThing
   stored-mode μ e w = rw (raised, w, number, kept-kind kind n 4 e (omega arith))
 
   pub stored-task : (t : Task) → keptKind kind n ≡ 5 → t ≡ taskLaid (rules.taskOf (recordOf 5 body .numbers))
       → record { bus = p .bus; counts = counts; modules = p .modules; modes = p .modes; tasks = set (p .tasks) n t; invocations = p .invocations; connections = p .connections }
       ≡ withRecord p (recordOf kind body)
-  unfolding withRecord withTask oneMore countSeen recordOf countedMore numberOf isThing
+  unfolding withRecord rules.isBusRecord isBus withTask oneMore countSeen recordOf countedMore numberOf isThing
   stored-task t e w = rw (raised, w, number, kept-kind kind n 5 e (omega arith))
 
   pub stored-invocation : (i : Invocation) → keptKind kind n ≡ 6 → i ≡ invocationLaid (rules.invocationOf (recordOf 6 body .numbers))
       → record { bus = p .bus; counts = counts; modules = p .modules; modes = p .modes; tasks = p .tasks; invocations = set (p .invocations) n i; connections = p .connections }
       ≡ withRecord p (recordOf kind body)
-  unfolding withRecord withInvocation oneMore countSeen recordOf countedMore numberOf isThing
+  unfolding withRecord rules.isBusRecord isBus withInvocation oneMore countSeen recordOf countedMore numberOf isThing
   stored-invocation i e w = rw (raised, w, number, kept-kind kind n 6 e (omega arith))
 
   pub stored-connection : (c : Connection) → keptKind kind n ≡ 7 → c ≡ connectionLaid (rules.connectionOf (recordOf 7 body .numbers))
       → record { bus = p .bus; counts = counts; modules = p .modules; modes = p .modes; tasks = p .tasks; invocations = p .invocations; connections = set (p .connections) n c }
       ≡ withRecord p (recordOf kind body)
-  unfolding withRecord withConnection oneMore countSeen recordOf countedMore numberOf isThing
+  unfolding withRecord rules.isBusRecord isBus withConnection oneMore countSeen recordOf countedMore numberOf isThing
   stored-connection c e w = rw (raised, w, number, kept-kind kind n 7 e (omega arith))
 
 -- ---- without a place
@@ -120,7 +122,7 @@ pub sizes-kept : (p : Plan) (r : Rec) → sizesOf (withRecord p r) ≡ sizesOf p
 unfolding withRecord withBus withNodes withModule withMode withTask withInvocation withConnection
 sizes-kept p r =
     let Kept : Plan → Type 0 = λ q. sizesOf q ≡ sizesOf p in
-    picked Kept (eqb (r .kind) 1) refl
+    picked Kept (rules.isBusRecord r) refl
     (picked Kept (eqb (r .kind) 2) refl
     (picked Kept (eqb (r .kind) 3) (rw (length-set (p .modules) (countSeen p 3) _))
     (picked Kept (eqb (r .kind) 4) (rw (length-set (p .modes) (countSeen p 4) _))
@@ -128,9 +130,9 @@ sizes-kept p r =
     (picked Kept (eqb (r .kind) 6) (rw (length-set (p .invocations) (countSeen p 6) _))
     (picked Kept (eqb (r .kind) 7) (rw (length-set (p .connections) (countSeen p 7) _)) refl))))))
 
--- none of 1 to 7, as the arms of a `match` leave it
+-- none of 1 to 7 and 9, as the arms of a `match` leave it
 abbrev Other : ℕ → Type 0
-Other x = ((((((Unit {0} × (x ≡ 1 → ⊥)) × (x ≡ 2 → ⊥)) × (x ≡ 3 → ⊥)) × (x ≡ 4 → ⊥)) × (x ≡ 5 → ⊥)) × (x ≡ 6 → ⊥)) × (x ≡ 7 → ⊥)
+Other x = (((((((Unit {0} × (x ≡ 1 → ⊥)) × (x ≡ 9 → ⊥)) × (x ≡ 2 → ⊥)) × (x ≡ 3 → ⊥)) × (x ≡ 4 → ⊥)) × (x ≡ 5 → ⊥)) × (x ≡ 6 → ⊥)) × (x ≡ 7 → ⊥)
 
 module _ (p : Plan) (n : ℕ) (body : List ℕ) (sized : sizesOf p ≡ sizesOf emptyPlan) where
   -- the plan with nothing but its counts changed
@@ -138,19 +140,19 @@ module _ (p : Plan) (n : ℕ) (body : List ℕ) (sized : sizesOf p ≡ sizesOf e
   counting counts = record { bus = p .bus; counts = counts; modules = p .modules; modes = p .modes; tasks = p .tasks; invocations = p .invocations; connections = p .connections }
 
   -- a kind behind those of a plan
-  beyond : (kind : ℕ) → 7 < kind → counting (countedMore (p .counts) kind) ≡ withRecord p (recordOf kind body)
-  unfolding withRecord recordOf countedMore isThing
-  beyond kind h =
+  beyond : (kind : ℕ) → 7 < kind → (kind ≡ 9 → ⊥) → counting (countedMore (p .counts) kind) ≡ withRecord p (recordOf kind body)
+  unfolding withRecord rules.isBusRecord isBus recordOf countedMore isThing
+  beyond kind h nine =
       let other : (k : ℕ) → k ≤ 7 → eqb kind k ≡ false = λ k l. ne-eqb kind k (λ e. omega arith) in
-      rw (le-leb 3 kind (omega arith), lt-leb kind 7 h, other 1 (omega arith), other 2 (omega arith), other 3 (omega arith), other 4 (omega arith), other 5 (omega arith), other 6 (omega arith), other 7 (omega arith))
+      rw (le-leb 3 kind (omega arith), lt-leb kind 7 h, ne-eqb kind 9 nine, other 1 (omega arith), other 2 (omega arith), other 3 (omega arith), other 4 (omega arith), other 5 (omega arith), other 6 (omega arith), other 7 (omega arith))
 
   pub not-stored : (kind key : ℕ) (counts : List ℕ) → n ≡ numberOf (p .counts) kind → counts ≡ countedMore (p .counts) kind
       → key ≡ keptKind kind n → Other key
       → counting counts ≡ withRecord p (recordOf kind body)
-  unfolding withRecord withModule withMode withTask withInvocation withConnection oneMore countSeen recordOf countedMore numberOf isThing places emptyPlan layOut noPlan
+  unfolding withRecord rules.isBusRecord isBus withModule withMode withTask withInvocation withConnection oneMore countSeen recordOf countedMore numberOf isThing places emptyPlan layOut noPlan
   not-stored zero key counts number raised w h = rw raised
   not-stored (suc zero) key counts number raised w h =
-      absurd (omega (arith, not-kept 1 n (λ e. h .0 .0 .0 .0 .0 .0 .1 (w ∙ e))))
+      absurd (omega (arith, not-kept 1 n (λ e. h .0 .0 .0 .0 .0 .0 .0 .1 (w ∙ e))))
   not-stored (suc (suc zero)) key counts number raised w h =
       absurd (omega (arith, not-kept 2 n (λ e. h .0 .0 .0 .0 .0 .1 (w ∙ e))))
   not-stored (suc (suc (suc zero))) key counts number raised w h =
@@ -163,5 +165,8 @@ module _ (p : Plan) (n : ℕ) (body : List ℕ) (sized : sizesOf p ≡ sizesOf e
       rw (raised, set-out (p .invocations) (getD (p .counts) 6 0) _ (omega (arith, ap (λ (l : List ℕ). getD l 3 0) sized, not-kept 6 n (λ e. h .0 .1 (w ∙ e)))))
   not-stored (suc (suc (suc (suc (suc (suc (suc zero))))))) key counts number raised w h =
       rw (raised, set-out (p .connections) (getD (p .counts) 7 0) _ (omega (arith, ap (λ (l : List ℕ). getD l 4 0) sized, not-kept 7 n (λ e. h .1 (w ∙ e)))))
-  not-stored (suc (suc (suc (suc (suc (suc (suc (suc kind)))))))) key counts number raised w h =
-      rw raised (beyond (suc (suc (suc (suc (suc (suc (suc (suc kind)))))))) (omega arith))
+  not-stored (suc (suc (suc (suc (suc (suc (suc (suc zero)))))))) key counts number raised w h = rw raised (beyond 8 (omega arith) (λ e. omega arith))
+  not-stored (suc (suc (suc (suc (suc (suc (suc (suc (suc zero))))))))) key counts number raised w h =
+      absurd (omega (arith, not-kept 9 n (λ e. h .0 .0 .0 .0 .0 .0 .1 (w ∙ e))))
+  not-stored (suc (suc (suc (suc (suc (suc (suc (suc (suc (suc kind)))))))))) key counts number raised w h =
+      rw raised (beyond (suc (suc (suc (suc (suc (suc (suc (suc (suc (suc kind)))))))))) (omega arith) (λ e. omega arith))

@@ -32,7 +32,7 @@ countedMore counts kind = cond (isThing kind) (set counts kind (getD counts kind
 
 -- by kind, how many have a place; and the kind again where the n-th of it has one, else 0
 unfoldable pub places : List ℕ
-places = 0 ∷ 1 ∷ 1 ∷ mostModules ∷ mostModes ∷ mostTasks ∷ mostInvocations ∷ mostConnections ∷ []
+places = 0 ∷ 1 ∷ 1 ∷ mostModules ∷ mostModes ∷ mostTasks ∷ mostInvocations ∷ mostConnections ∷ 0 ∷ 1 ∷ []
 
 unfoldable pub keptKind : ℕ → ℕ → ℕ
 keptKind kind n = cond (ltb n (getD places kind 0)) kind 0
@@ -130,7 +130,7 @@ withConnection p c =
 -- A plan with one record more, by its kind; a kind that no plan has changes nothing.
 unfoldable pub withRecord : Plan → Rec → Plan
 withRecord p r =
-    cond (eqb (r .kind) 1) (withBus p (busLaid (rules.busOf (r .numbers))))
+    cond (rules.isBusRecord r) (withBus p (busLaid (rules.busOf r)))
     (cond (eqb (r .kind) 2) (withNodes p (rules.nth (r .numbers) 0))
     (cond (eqb (r .kind) 3) (withModule p (moduleLaid (rules.moduleOf (r .numbers))))
     (cond (eqb (r .kind) 4) (withMode p (modeLaid (rules.modeOf (r .numbers))))

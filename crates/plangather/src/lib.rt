@@ -27,8 +27,11 @@ pub struct Gathered {
     pub plan: Plan,
 }
 
+// The kinds from here on have no place.
+const LISTED: u8 = fields::framed_bus::KIND + 1;
+
 // By kind: the bus and the number of nodes have one place, things as many as their array.
-const PLACES: [usize; 8] = [
+const PLACES: [usize; LISTED as usize] = [
     0,
     1,
     1,
@@ -37,6 +40,8 @@ const PLACES: [usize; 8] = [
     TaskNo::MOST,
     Invocation::MOST,
     Connection::MOST,
+    0,
+    1,
 ];
 
 // The number of the next thing of a kind, which is counted; 0 for the bus and the number of nodes.
@@ -59,7 +64,7 @@ fn counted(counts: &mut [usize; 8], kind: u8) -> usize
 fn kept(kind: u8, n: usize) -> u8
     ensures { λ r. ⌜ r ≡ keptKind kind n ⌝ }
 {
-    if kind < 8 {
+    if kind < LISTED {
         if n < PLACES[kind as usize] {
             return kind;
         }
@@ -84,6 +89,7 @@ pub fn gather(s: &[u8]) -> Gathered
                 let n = counted(&mut p.counts, kind);
                 match kept(kind, n) {
                     fields::bus::KIND => p.bus = bodies::bus(body),
+                    fields::framed_bus::KIND => p.bus = bodies::framed_bus(body),
                     fields::nodes::KIND => p.counts[2] = read8(body, fields::nodes::COUNT) as usize,
                     fields::module::KIND => p.modules[n] = bodies::module(body),
                     fields::mode::KIND => p.modes[n] = bodies::mode(body),

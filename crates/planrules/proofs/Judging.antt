@@ -12,6 +12,7 @@ use Rattle.laws.specs.Lists.{firstBad, upTo}
 use Rattle.laws.proofs.Res.{bind-ok, bind-refuse, then-ok, then-refuse, at-none, at-ok, at-some}
 use Rattle.rules.specs.Records.{Rec, records, planFollows}
 use Rattle.rules.specs.Plan as rules
+use Rattle.rules.proofs.NamedAlike.{named-alike}
 use Rattle.answers.specs.declared.Refusal.{Refusal}
 use Rattle.answers.specs.declared.Refusal.the-variants.{BadRecords, BadCount, NotThere, OutOfRange, Unfit}
 use Rattle.answers.specs.Refusals.{said}
@@ -32,7 +33,6 @@ use Rattle.places.specs.Found.{foundOf}
 use Rattle.planrules.specs.Tests.{countsFit, listed}
 use Rattle.planfits.proofs.Places.{at-met-upTo, at-end-upTo}
 use Rattle.planrules.proofs.RecordRefusal.{records-refuse}
-use Rattle.planrules.proofs.RecordTests.{named-alike}
 
 -- ---- general
 

@@ -5,7 +5,8 @@ ghost use lib.Dec.{leb};
 ghost use Rattle.rules.specs.Records as records;
 ghost use Rattle.rules.specs.Plan.{namesAreThere, numbersAreWithin};
 ghost use Rattle.planfits.specs.Scans.{earlierOf, isOk};
-ghost use Rattle.planrules.specs.Tests.{listed, firstsOf};
+ghost use Rattle.planrules.specs.Tests.{listed, firstsOf, busIsWithin};
+ghost use Rattle.plan.specs.Memory.{busSeen};
 use figures::both;
 use places::Found;
 use plan::Bus;
@@ -15,6 +16,7 @@ use plan::Task;
 use plan::bodies;
 use records::Sort;
 use records::Step;
+use units::ByteBits;
 use units::RecordNo;
 
 // The first record that breaks refusal 3's rule, that what a number names is there, and the first that breaks refusal 4's, that
@@ -52,13 +54,17 @@ fn names_are_there(counts: [usize; 8], kind: u8, body: &[u8]) -> bool
     }
 }
 
-fn bus_is_within(body: &[u8]) -> bool
-    ensures { λ r. ⌜ r ≡ numbersAreWithin (records.recordOf 1 (now (body .entry))) ⌝ }
+fn bus_is_within(b: Bus) -> bool
+    ensures { λ r. ⌜ r ≡ busIsWithin (busSeen b) ⌝ }
 {
-    let b = bodies::bus(body);
+    let bits = within(
+        ByteBits::FEWEST as u32,
+        b.byte_bits.0 as u32,
+        ByteBits::MOST as u32,
+    );
     let times = both(
-        within(0, b.gap, Bus::WIDEST_GAP),
-        within(1, b.resolution.0, Bus::COARSEST),
+        within(0, b.gap.0, Bus::WIDEST_GAP),
+        both(within(1, b.resolution.0, Bus::COARSEST), bits),
     );
     let payloads = both(
         within(0, b.least.0, Bus::MOST_PAYLOAD),
@@ -101,7 +107,8 @@ fn numbers_are_within(kind: u8, body: &[u8]) -> bool
     ensures { λ r. ⌜ r ≡ numbersAreWithin (records.recordOf kind (now (body .entry))) ⌝ }
 {
     match kind {
-        fields::bus::KIND => bus_is_within(body),
+        fields::bus::KIND => bus_is_within(bodies::bus(body)),
+        fields::framed_bus::KIND => bus_is_within(bodies::framed_bus(body)),
         fields::mode::KIND => mode_is_within(body),
         fields::task::KIND => task_is_within(body),
         fields::invocation::KIND => rate_is_within(body),

@@ -3,7 +3,7 @@ ghost use mathlib.Core.Path.{_≡_};
 ghost use mathlib.Core.Bool.{_&&_, _||_};
 ghost use lib.Dec.{eqb, leb};
 ghost use Rattle.rules.specs.Records as rules;
-ghost use Rattle.rules.specs.Records.{planFollows, tableFollows};
+ghost use Rattle.rules.specs.Records.{isBus, planFollows, tableFollows};
 ghost use Rattle.records.specs.Kinds.{lengthOf};
 
 // Stands in the table for a kind that is unknown; no body is that long.
@@ -23,7 +23,7 @@ const LENGTHS: [u8; LISTED as usize] = [
     fields::invocation::LENGTH as u8,
     fields::connection::LENGTH as u8,
     UNKNOWN,
-    UNKNOWN,
+    fields::framed_bus::LENGTH as u8,
     UNKNOWN,
     UNKNOWN,
     UNKNOWN,
@@ -67,14 +67,23 @@ fn rises(previous: u8, kind: u8, low: u8, high: u8) -> bool
     kind <= high
 }
 
+fn is_bus(kind: u8) -> bool
+    ensures { λ r. ⌜ r ≡ isBus kind ⌝ }
+{
+    if kind == fields::bus::KIND {
+        return true;
+    }
+    kind == fields::framed_bus::KIND
+}
+
 // Whether a kind may stand behind another in a plan; behind nothing where `previous` is 0.
 pub fn plan_follows(previous: u8, kind: u8) -> bool
     ensures { λ r. ⌜ r ≡ planFollows previous kind ⌝ }
 {
     if previous == 0 {
-        return kind == fields::bus::KIND;
+        return is_bus(kind);
     }
-    if previous == fields::bus::KIND {
+    if is_bus(previous) {
         return kind == fields::nodes::KIND;
     }
     rises(

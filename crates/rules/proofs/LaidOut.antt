@@ -37,7 +37,7 @@ use Rattle.laws.proofs.Members.{
 use Rattle.rules.specs.Limits.{mostFrames}
 use Rattle.rules.specs.Plan.{Plan, noMode, theMode, theTask}
 use Rattle.rules.specs.Traffic.{Run, runOf, ofBusTask, busRuns, invokes, isBusTask, busTasks, livesIn, isSending, isSendingNode, sendingNodes, ofSender, switchGrid, busPeriod, message, messagesOf, messages, basic, controlPayload}
-use Rattle.rules.specs.Frames.{Pair, pairOf, pairs, sendingTime, gapTime, cycleEnd, ticksOfBits, ControlRow, noControlRow, controlFrom, controlRows, controlEnd, someBusTask, payloadsFit, Layout, layoutOf, layout}
+use Rattle.rules.specs.Frames.{Pair, pairOf, pairs, sendingTime, ofBits, gapOnBus, gapTime, cycleEnd, ControlRow, noControlRow, controlFrom, controlRows, controlEnd, someBusTask, payloadsFit, Layout, layoutOf, layout}
 use Rattle.rules.proofs.Period.{switch-grid}
 use Rattle.rules.proofs.PairsOf.{plan-pairs}
 use Rattle.rules.proofs.PlanExact.{some-means, payloads-mean, layout-exact}
@@ -215,7 +215,7 @@ module _ (p : Plan) {l : Layout} (h : LaidOut p l) where
   end-whole = omega (arith, gap-within p, h .room)
 
   pub end-on-grid : p .bus .resolution ∣ cycleEnd (p .bus) (busPeriod p)
-  unfolding cycleEnd gapTime ticksOfBits up
+  unfolding cycleEnd gapTime gapOnBus ofBits up
   end-on-grid =
       let ticks = ceil (p .bus .gap * 1000) (p .bus .rate) in
       dvd-sub (p .bus .resolution) (h .onGrid) (dvd-mul-left (p .bus .resolution) (ceil ticks (p .bus .resolution)))

@@ -9,6 +9,7 @@ pub mod Grid
 pub mod Jobs
 pub mod LaidOut
 pub mod MadePasses
+pub mod NamedAlike
 pub mod PairRows
 pub mod PairsOf
 pub mod Payload
@@ -21,6 +22,7 @@ pub mod RecordsExact
 pub mod RefusalNumbers
 pub mod Room
 pub mod RuleSteps
+pub mod Sending
 pub mod Sent
 pub mod SingleRows
 pub mod StationExact
@@ -40,4 +42,5 @@ pub mod TransparentPlan
 pub mod TransparentPlays
 pub mod TransparentTick
 pub mod TransparentTold
+pub mod Twin
 pub mod WellPlaced

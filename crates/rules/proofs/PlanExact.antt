@@ -13,12 +13,12 @@ use Rattle.laws.specs.Res.{Res, ok, refuse, _>>_, unless, at}
 use Rattle.laws.specs.Lists.{firstBad, upTo}
 use Rattle.laws.specs.Numbers.{divides}
 use Rattle.laws.specs.Faults.{AllKept, FirstFault}
-use Rattle.laws.proofs.Tests.{Tests, by-iff, by-and, by-not, by-where, by-any, by-fresh, by-any-upTo, by-all-keep-upTo, by-eq, by-le, by-lt, by-divides}
+use Rattle.laws.proofs.Tests.{Tests, by-iff, by-and, by-or, by-not, by-where, by-any, by-fresh, by-any-upTo, by-all-keep-upTo, by-eq, by-le, by-lt, by-divides}
 use Rattle.laws.proofs.Res.{refuse≢ok, ok-injective, bind-case, then-case, bind-refused, then-refused, then-assoc}
 use Rattle.laws.proofs.Faults.{Exact, exact-rule, exact-list, exact-once, exact-then}
 use Rattle.laws.proofs.Members.{All, empty, also, all-getD}
 use Rattle.rules.specs.Limits.{mostFrames}
-use Rattle.rules.specs.Records.{Field, names, ranges, free, fields, Rec, decoded, recordOf, records, planFollows}
+use Rattle.rules.specs.Records.{Field, names, ranges, free, fields, Rec, decoded, recordOf, records, isBus, planFollows}
 use Rattle.rules.specs.Plan.{
   Plan,
   nth,
@@ -45,7 +45,8 @@ use Rattle.rules.specs.Plan.{
   firstMode,
   firstInvocation,
   firstConnection,
-  isKind,
+  isBusRecord,
+  zeroRecord,
   planOf,
   count,
   countFits,
@@ -69,7 +70,6 @@ use Rattle.rules.specs.ObeysPlan.{
   SwitchDivides,
   InvocationFits,
   ConnectionFits,
-  zeroRecord,
   recordAt,
   planRules,
   ReadsAs,
@@ -151,11 +151,11 @@ names-mean rs r s =
     (λ h k w kind e. h k kind w e)
 
 numbers-mean : (r : Rec) → Sized r → Tests (numbersAreWithin r) (NumbersWithin r)
-unfolding numbersAreWithin payloadsOrdered isKind fieldAt
+unfolding numbersAreWithin payloadsOrdered isBusRecord isBus fieldAt
 numbers-mean r s =
     by-iff
     (by-and (each-means isWithin within-means (fields (r .kind)) (r .numbers) s)
-    (by-where (by-eq (r .kind) 1) (by-le (nth (r .numbers) 2) (nth (r .numbers) 3))))
+    (by-where (by-or (by-eq (r .kind) 1) (by-eq (r .kind) 9)) (by-le (nth (r .numbers) 2) (nth (r .numbers) 3))))
     (λ h. record {
       least = λ k wide low high w e. h .0 k w wide low high e .0;
       most = λ k wide low high w e. h .0 k w wide low high e .1;

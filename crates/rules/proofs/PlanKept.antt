@@ -2,15 +2,19 @@
 -- rules 6.5.1 to 6.5.9 ask.
 use mathlib.Core.Path.{_≡_, refl, sym, subst}
 use mathlib.Core.Bool.{true}
-use mathlib.Core.List.{List, []}
-use borrow.Author.Tests.{eqb-true, eq-eqb}
-use lib.Dec.{lit<}
-use lib.ListN.{length, length-map}
+use mathlib.Core.Logic.{inl, inr}
+use mathlib.Core.List.{List, [], _∷_}
+use native.Mathlib.Omega.{arith}
+use borrow.Author.Tests.{eqb-true}
+use lib.Dec.{lit<, lit≤}
+use lib.ListN.{length, getD, length-map}
 use Prim.Native.Nat.{ℕ, _+_, _≤_, _<_, _∣_, zero-le, suc-le-suc}
 use Rattle.laws.specs.Res.{ok}
+use Rattle.laws.specs.Lists.{keep}
 use Rattle.laws.proofs.Lists.{true-false}
+use Rattle.laws.proofs.Tests.{by-or, by-eq}
 use Rattle.laws.proofs.Members.{All, all-weaker, all-both, all-keep, all-of-places, all-getD, keep-passes, all-map}
-use Rattle.rules.specs.Records.{ranges, fields, kinds, Rec, recordOf, planFollows}
+use Rattle.rules.specs.Records.{Field, ranges, free, fields, kinds, busThen, isBus, Rec, recordOf, planFollows}
 use Rattle.rules.specs.Obeys.{AreRecords, theEnd, oneMore}
 use Rattle.rules.specs.Plan.{
   Bus,
@@ -26,7 +30,9 @@ use Rattle.rules.specs.Plan.{
   invocationOf,
   connectionOf,
   moduleOf,
-  only,
+  isBusRecord,
+  zeroRecord,
+  theBus,
   leastCounts,
   mostCounts,
   noMode,
@@ -42,7 +48,7 @@ use Rattle.rules.specs.Plan.{
   count,
   readPlan,
 }
-use Rattle.rules.specs.ObeysPlan.{CountFits, fieldAt, NamesThere, NumbersWithin, SwitchDivides, InvocationFits, ConnectionFits, zeroRecord, recordAt, ReadsAs}
+use Rattle.rules.specs.ObeysPlan.{CountFits, fieldAt, NamesThere, NumbersWithin, SwitchDivides, InvocationFits, ConnectionFits, IsBus, recordAt, ReadsAs}
 use Rattle.rules.proofs.PlanExact.{read-exact}
 
 -- ---- what a plan that is read keeps
@@ -59,6 +65,7 @@ pub record BusKept (b : Bus) : Type 0 where
   pub ordered : b .least ≤ b .most
   pub gap : Between 0 1000 (b .gap)
   pub resolution : Between 1 1000 (b .resolution)
+  pub byteBits : Between 8 12 (b .byteBits)
 
 pub record ModeKept (p : Plan) (μ : Mode) : Type 0 where
   pub home : μ .home < length (p .modules)
@@ -115,15 +122,16 @@ body-kept rs kind r e n w =
     subst (λ (k : ℕ). BodyKept rs k (r .numbers)) (eqb-true (r .kind) kind e) (record { there = n; within = w })
 
 module _ {file : List ℕ} {p : Plan} (h : ReadsAs file p) where
+  records-kept : All (λ r. NamesThere (h .rows) r × NumbersWithin r) (h .rows)
+  unfolding recordAt
+  records-kept = all-of-places (h .rows) zeroRecord (λ k w. (h .kept .1 .0 .each k w, h .kept .1 .1 .0 .each k w))
+
   pub bodies : (kind : ℕ) → All (BodyKept (h .rows) kind) (things kind (h .rows))
-  unfolding things recordAt
+  unfolding things
   bodies kind =
-      let facts =
-      all-of-places {P = λ r. NamesThere (h .rows) r × NumbersWithin r} (h .rows) zeroRecord
-      (λ k w. (h .kept .1 .0 .each k w, h .kept .1 .1 .0 .each k w)) in
       all-map numbersOf
       (all-weaker (λ r a. body-kept (h .rows) kind r (a .0) (a .1 .0) (a .1 .1))
-      (all-both (keep-passes (isKind kind) (h .rows)) (all-keep (isKind kind) facts)))
+      (all-both (keep-passes (isKind kind) (h .rows)) (all-keep (isKind kind) records-kept)))
 
 -- ---- the counts, the bus, the things
 
@@ -181,19 +189,35 @@ module _ (rs : List Rec) (kind : ℕ) (b : List ℕ) (h : BodyKept rs kind b) wh
   range : (k wide low high : ℕ) → k < length (fields kind) → fieldAt kind k ≡ ranges wide low high → Between low high (nth b k)
   range k wide low high w e = record { least = h .within .least k wide low high w e; most = h .within .most k wide low high w e }
 
-module _ (rs : List Rec) (b : List ℕ) where
-  bus-kept : BodyKept rs 1 b → BusKept (busOf b)
-  unfolding fields kinds fieldAt busOf
-  bus-kept h =
+-- the numbers that both kinds of bus have
+module _ (rs : List Rec) (kind : ℕ) (b : List ℕ) (h : BodyKept rs kind b) (more : List Field) (e : fields kind ≡ busThen more) where
+  one-of-six : (k wide low high : ℕ) → k < 6 → getD (busThen more) k (free 0) ≡ ranges wide low high → Between low high (nth b k)
+  unfolding fieldAt
+  one-of-six k wide low high w q = range rs kind b h k wide low high (rw e (omega arith)) (rw e q)
+
+  bus-kept : IsBus kind → Between 8 12 (busOf (record { kind = kind; numbers = b }) .byteBits)
+      → BusKept (busOf (record { kind = kind; numbers = b }))
+  unfolding busOf
+  bus-kept isBus bits =
       record {
-        rate = range rs 1 b h 0 4 1 100000 (lit< tt) refl;
-        overhead = range rs 1 b h 1 2 0 64 (lit< tt) refl;
-        least = range rs 1 b h 2 2 0 254 (lit< tt) refl;
-        most = range rs 1 b h 3 2 1 254 (lit< tt) refl;
-        ordered = h .within .payloads refl;
-        gap = range rs 1 b h 4 2 0 1000 (lit< tt) refl;
-        resolution = range rs 1 b h 5 4 1 1000 (lit< tt) refl;
+        rate = one-of-six 0 4 1 100000 (lit< tt) refl;
+        overhead = one-of-six 1 2 0 64 (lit< tt) refl;
+        least = one-of-six 2 2 0 254 (lit< tt) refl;
+        most = one-of-six 3 2 1 254 (lit< tt) refl;
+        ordered = h .within .payloads isBus;
+        gap = one-of-six 4 2 0 1000 (lit< tt) refl;
+        resolution = one-of-six 5 4 1 1000 (lit< tt) refl;
+        byteBits = bits;
       }
+
+module _ (rs : List Rec) (b : List ℕ) where
+  plain-kept : BodyKept rs 1 b → BusKept (busOf (record { kind = 1; numbers = b }))
+  unfolding fields kinds busOf isKind
+  plain-kept h = bus-kept rs 1 b h [] refl (inl refl) (record { least = lit≤ tt; most = lit≤ tt })
+
+  framed-kept : BodyKept rs 9 b → BusKept (busOf (record { kind = 9; numbers = b }))
+  unfolding fields kinds fieldAt busOf isKind
+  framed-kept h = bus-kept rs 9 b h (ranges 1 8 12 ∷ []) refl (inr refl) (range rs 9 b h 6 1 8 12 (lit< tt) refl)
 
   module-kept : BodyKept rs 3 b → moduleOf b < count rs 2
   unfolding fields kinds fieldAt moduleOf
@@ -245,10 +269,26 @@ module _ (rs : List Rec) (b : List ℕ) where
 
 -- ---- the bus stands first
 
-bus-first : {file : List ℕ} {rs : List Rec} → AreRecords planFollows 0 file rs → 0 < length (things 1 rs)
-unfolding things isKind recordOf planFollows
+bus-first : {file : List ℕ} {rs : List Rec} → AreRecords planFollows 0 file rs → 0 < length (keep isBusRecord rs)
+unfolding isBusRecord recordOf planFollows isBus
 bus-first (theEnd s e) = true-false (sym (s .isNext))
-bus-first (oneMore {kind = kind} body s z b e r) = rw (eq-eqb kind 1 (eqb-true kind 1 (s .isNext))) (suc-le-suc zero-le)
+bus-first (oneMore {kind = kind} body s z b e r) = rw (s .isNext) (suc-le-suc zero-le)
+
+-- a bus of either kind keeps its ranges
+module _ (rs : List Rec) (r : Rec) (kept : BodyKept rs (r .kind) (r .numbers)) where
+  abbrev Keeps : ℕ → Type 0
+  Keeps kind = BodyKept rs kind (r .numbers)
+
+  abbrev Leaves : ℕ → Type 0
+  Leaves kind = BusKept (busOf (record { kind = kind; numbers = r .numbers }))
+
+  by-kind : IsBus (r .kind) → BusKept (busOf r)
+  by-kind (inl one) = subst Leaves (sym one) (plain-kept rs (r .numbers) (subst Keeps one kept))
+  by-kind (inr nine) = subst Leaves (sym nine) (framed-kept rs (r .numbers) (subst Keeps nine kept))
+
+  either-kept : isBusRecord r ≡ true → BusKept (busOf r)
+  unfolding isBusRecord isBus
+  either-kept e = by-kind (by-or (by-eq (r .kind) 1) (by-eq (r .kind) 9) .says e)
 
 -- ---- all together
 
@@ -336,8 +376,10 @@ module _ (file : List ℕ) (p : Plan) (h : ReadsAs file p) where
       (bodies h 7))
 
   bus-is-kept : BusKept (read .bus)
-  unfolding planOf only
-  bus-is-kept = bus-kept rows (only 1 rows) (all-getD [] (bodies h 1) 0 (bus-first (h .areRows)))
+  unfolding planOf theBus
+  bus-is-kept =
+      let found = all-getD zeroRecord (all-both (keep-passes isBusRecord rows) (all-keep isBusRecord (records-kept h))) 0 (bus-first (h .areRows)) in
+      either-kept rows (theBus rows) (record { there = found .1 .0; within = found .1 .1 }) (found .0)
 
   pub plan-kept : PlanKept p
   plan-kept =

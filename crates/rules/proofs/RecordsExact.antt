@@ -32,7 +32,7 @@ use Rattle.rules.specs.Obeys.{
 }
 
 -- a body's numbers are read from the body alone
-decoded-front : (fs : List Field) (body rest : List ℕ) → widths fs ≤ length body → decoded fs (body ++ rest) ≡ decoded fs body
+pub decoded-front : (fs : List Field) (body rest : List ℕ) → widths fs ≤ length body → decoded fs (body ++ rest) ≡ decoded fs body
 decoded-front [] body rest h = refl
 decoded-front (f ∷ fs) body rest h =
     let w : width f ≤ length body = omega arith in
@@ -86,7 +86,7 @@ module _ (follows : ℕ → ℕ → Bool) (refusal : ℕ) where
   unfolding walk
   walk-end previous at bs e = rw (e, walk)
 
-  walk-good : (previous kind at : ℕ) (body rest : List ℕ) → MayStand follows previous kind → (kind ≡ 0 → ⊥) → length body ≡ bodyLength kind
+  pub walk-good : (previous kind at : ℕ) (body rest : List ℕ) → MayStand follows previous kind → (kind ≡ 0 → ⊥) → length body ≡ bodyLength kind
       → reading previous 0 at (kind ∷ body ++ rest) ≡ before follows refusal (recordOf kind body) (reading kind 0 (suc at + length body) rest)
   walk-good previous kind at body rest s z b =
       walk-step previous kind at (body ++ rest) (stand-means previous kind .passes s) (ne-eqb kind 0 z)

@@ -12,9 +12,9 @@ use Rattle.laws.specs.Res.{Res, ok, refuse}
 use Rattle.laws.specs.Faults.{AllKept}
 use Rattle.rules.specs.Limits.{mostFrames}
 use Rattle.rules.specs.Records.{Rec, records, tableFollows}
-use Rattle.rules.specs.Plan.{Plan, readPlan}
+use Rattle.rules.specs.Plan.{Bus, Plan, readPlan}
 use Rattle.rules.specs.Traffic.{taskNode, busPeriod, switchGrid, basic}
-use Rattle.rules.specs.Frames.{pairOf, pairs, gapTime, Layout, layoutOf, layout}
+use Rattle.rules.specs.Frames.{pairOf, pairs, onBus, gapTime, Layout, layoutOf, layout}
 use Rattle.rules.specs.LatestRelease.{Placed, latestRelease}
 use Rattle.rules.specs.RuleSteps.{RuleGives}
 use Rattle.rules.specs.Table.{FrameRow, longestTable, make}
@@ -23,6 +23,7 @@ use Rattle.rules.specs.Gaps.{GapsKept}
 use Rattle.rules.specs.Obeys.{MayPass, BrokenAt, MakesTable, RuleRefuses}
 use Rattle.rules.specs.ObeysPlan.{ConnectionFits, ReadsAs, layoutRules}
 use Rattle.rules.specs.Doubtful.{withoutDoubtful}
+use Rattle.rules.specs.Twin.{plainPlan, twinPlan, aByteLater}
 use Rattle.rules.specs.Playing.{Input}
 use Rattle.rules.specs.Station.{Begun, State, begin}
 use Rattle.rules.specs.History.{played, consumes}
@@ -33,6 +34,8 @@ use Rattle.rules.proofs.PairsOf.{IsPairsOf, plan-pairs}
 use Rattle.rules.proofs.Direct.{FoundDirectly, found-directly}
 use Rattle.rules.proofs.PlanExact.{read-exact, layout-exact}
 use Rattle.rules.proofs.Doubtful.{none-in-read, none-left, same-layout, same-consumers}
+use Rattle.rules.proofs.Twin.{MadeAlike, CheckedAlike, twin-read, twin-made, twin-checked, twin-begun}
+use Rattle.rules.proofs.Sending.{NoLonger, monotone}
 use Rattle.rules.proofs.RuleSteps as steps
 use Rattle.rules.proofs.CheckerExact.{checker-exact, rule-exact}
 use Rattle.rules.proofs.MadePasses.{made-checks}
@@ -50,6 +53,27 @@ it-reads-exactly = read-exact
 -- It is laid out exactly when it keeps 6 to 11.
 pub it-lays-out-exactly : (p : Plan) (l : Layout) → (layout p ≡ ok l) ↔ (AllKept (layoutRules p) × (layoutOf p ≡ l))
 it-lays-out-exactly = layout-exact
+
+-- Of a plan with kind 9 and the bits that kind 1 means: it is read as its twin with kind 1 is, but that refusal 1 lies a byte later ..
+pub twins-are-read-alike : (body rest : List ℕ) → length body ≡ 16 → readPlan (twinPlan body rest) ≡ aByteLater (readPlan (plainPlan body rest))
+twins-are-read-alike = twin-read
+
+-- .. and so a table is made of it, a table is checked against it, and a station begins with it.
+pub twins-are-made-alike : (body rest : List ℕ) → length body ≡ 16 → (rows : List FrameRow) (buffer : List ℕ)
+    → MadeAlike (make (plainPlan body rest) rows buffer) (make (twinPlan body rest) rows buffer)
+twins-are-made-alike = twin-made
+
+pub twins-are-checked-alike : (body rest : List ℕ) → length body ≡ 16 → (table : List ℕ) (rows : List FrameRow)
+    → CheckedAlike (check (plainPlan body rest) table rows) (check (twinPlan body rest) table rows)
+twins-are-checked-alike = twin-checked
+
+pub twins-begin-alike : (body rest : List ℕ) → length body ≡ 16 → (table : List ℕ) (starting : ℕ → Option ℕ)
+    → begin (twinPlan body rest) table starting ≡ aByteLater (begin (plainPlan body rest) table starting)
+twins-begin-alike = twin-begun
+
+-- A larger payload never takes fewer bits nor fewer ticks, however many bits a byte takes and whatever the bus.
+pub more-takes-no-less : (b : Bus) (s t : ℕ) → s ≤ t → NoLonger (onBus b s) (onBus b t)
+more-takes-no-less = monotone
 
 -- A plan that is read is one without doubtful connections.
 pub what-is-read-has-none : (file : List ℕ) (p : Plan) → readPlan file ≡ ok p → withoutDoubtful p ≡ p

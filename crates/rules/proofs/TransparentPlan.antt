@@ -2,7 +2,7 @@
 use mathlib.Core.Path.{_≡_, refl, sym, ap, _∙_, subst}
 use mathlib.Core.Bool.{true}
 use mathlib.Core.List.{List, _∷_, List·Memᴰ, List·Memᴰ·head, List·Memᴰ·tail}
-use native.Mathlib.Nat.{dvd-trans, zero-mul, zero-lt-suc, le-max-left}
+use native.Mathlib.Nat.{dvd-trans, zero-mul, zero-lt-suc, le-max-left, mul-pos}
 use native.Mathlib.Omega.{arith}
 use borrow.Author.Tests.{ltb-true, eq-eqb, lt-ltb}
 use lib.ListN.{length}
@@ -20,7 +20,7 @@ use Rattle.laws.proofs.Tests.{by-same, by-itself}
 use Rattle.rules.specs.Plan.{Bus, Invocation, Plan, noMode, noTask, noInvocation, theMode, theTask, theInvocation, periodOf}
 use Rattle.rules.specs.Traffic.{moduleNode, isBusTask, isSending, standsOn, sendersOn, controlPayload, isSendingNode}
 use Rattle.rules.specs.Traffic.{sendingNodes, ofBusTask, busPeriod, ofSender, basic, has}
-use Rattle.rules.specs.Frames.{Pair, pairs, hasOf, ticksOfBits, sendingTime, gapTime, ControlRow, noControlRow}
+use Rattle.rules.specs.Frames.{Pair, pairs, hasOf, ofBits, onBus, sendingTime, gapTime, ControlRow, noControlRow}
 use Rattle.rules.specs.Frames.{controlFrom, controlRows, controlEnd, isOne, Layout, layoutOf}
 use Rattle.rules.specs.LatestRelease.{noPair, timeAlone}
 use Rattle.rules.specs.Checker.{Named, TableRead, controlAt, rowAt}
@@ -93,11 +93,14 @@ pos-of-mul-pos zero c h = rw (zero-mul c) at h
 pos-of-mul-pos (suc a) c h = zero-lt-suc a
 
 pub sending-pos : (b : Bus) → BusKept b → (s : ℕ) → 0 < s → 0 < sendingTime b s
-unfolding sendingTime ticksOfBits
+unfolding sendingTime onBus ofBits
 sending-pos b kept s h =
-    let bits = 8 * (b .overhead + max s (b .least)) in
+    let bytes = b .overhead + max s (b .least) in
+    let bits = b .byteBits * bytes in
     let enough : bits * 1000 ≤ ceil (bits * 1000) (b .rate) * b .rate = ceil-enough (bits * 1000) (b .rate) (kept .rate .least) in
-    let some-bits : 0 < bits * 1000 = omega (arith, le-max-left s (b .least)) in
+    let some-bytes : 0 < bytes = omega (arith, le-max-left s (b .least)) in
+    let fewest : 8 ≤ b .byteBits = kept .byteBits .least in
+    let some-bits : 0 < bits = mul-pos {m = b .byteBits} {n = bytes} (omega arith) some-bytes in
     let some-ticks : 0 < ceil (bits * 1000) (b .rate) = pos-of-mul-pos (ceil (bits * 1000) (b .rate)) (b .rate) (omega arith) in
     omega (arith, up-enough (b .resolution) (ceil (bits * 1000) (b .rate)) (kept .resolution .least))
 

@@ -83,17 +83,29 @@ block p ms fs m = greatest (map (bytesIn p ms fs) (keep (isModeIn p m) (upTo (le
 unfoldable pub payload : Plan → List Message → List Pair → ℕ
 payload p ms fs = sum (map (block p ms fs) (upTo (length (p .modules))))
 
+-- What is sent, as bits and as ticks: the bits as many as there are, the ticks rounded.
+pub record Sending : Type 0 where
+  pub bits : ℕ
+  pub ticks : ℕ
+
 -- Bits on the bus in ticks: bits × 1000 / kbit/s, rounded up twice, to a tick and to the resolution (reading 14).
-unfoldable pub ticksOfBits : Bus → ℕ → ℕ
-ticksOfBits b bits = up (b .resolution) (ceil (bits * 1000) (b .rate))
+unfoldable pub ofBits : Bus → ℕ → Sending
+ofBits b bits = record { bits = bits; ticks = up (b .resolution) (ceil (bits * 1000) (b .rate)) }
 
--- Rule 4.10: the sending time of s bytes, which are filled up to the least payload and have the overhead before them.
+-- Rule 4.10: s bytes, which are filled up to the least payload and have the overhead before them, each byte of as many bits as the bus says.
+unfoldable pub onBus : Bus → ℕ → Sending
+onBus b s = ofBits b (b .byteBits * (b .overhead + max s (b .least)))
+
+-- the sending time
 unfoldable pub sendingTime : Bus → ℕ → ℕ
-sendingTime b s = ticksOfBits b (8 * (b .overhead + max s (b .least)))
+sendingTime b s = onBus b s .ticks
 
--- Rule 4.11: the gap time.
+-- Rule 4.11: the gap, which is given in bits, and the gap time.
+unfoldable pub gapOnBus : Bus → Sending
+gapOnBus b = ofBits b (b .gap)
+
 unfoldable pub gapTime : Bus → ℕ
-gapTime b = ticksOfBits b (b .gap)
+gapTime b = gapOnBus b .ticks
 
 -- Rule 5.1: where the rows of a cycle end at the latest: a gap before the next cycle begins.
 unfoldable pub cycleEnd : Bus → ℕ → ℕ

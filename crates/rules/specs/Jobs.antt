@@ -9,16 +9,18 @@ use Rattle.laws.specs.Res.{Res, ok, refuse}
 use Rattle.laws.specs.Lists.{joined, upTo}
 use Rattle.rules.specs.Limits.{mostFrames}
 use Rattle.rules.specs.Records.{Rec}
-use Rattle.rules.specs.Plan.{Plan, numbersAreWithin, readPlan}
+use Rattle.rules.specs.Plan.{Plan, busOf, numbersAreWithin, readPlan}
 use Rattle.rules.specs.Traffic.{busRuns, basic}
+use Rattle.rules.specs.Frames.{Sending, onBus}
 use Rattle.rules.specs.Direct.{walkRuns}
 use Rattle.rules.specs.Table.{recordBytes, FrameRow, zeroRow, Made, make}
 use Rattle.rules.specs.Checker.{Checked, check}
 
--- An entry: how many messages a plan has; how many pairs the walk over its runs finds, and in how many steps; what 1 to 5 say of a plan; a
+-- An entry: how many bits and ticks a payload takes on a bus; how many messages a plan has; how many pairs the walk over its runs finds, and in how many steps; what 1 to 5 say of a plan; a
 -- record that 4 refuses; what is made of a plan in a room, the table and the frame rows, or the refusal; a table that passes, with the frame
 -- rows, or the refusal; how many rows are lent, the refusal, and the rows left.
 pub data Entry : Type 0 where
+  sends : (bus : Rec) (bytes bits ticks : ℕ) → Entry
   hasMessages : (plan : List ℕ) (number : ℕ) → Entry
   walks : (plan : List ℕ) (found steps : ℕ) → Entry
   reads : (plan : List ℕ) (says : Res (Unit {0})) → Entry
@@ -74,6 +76,9 @@ comesTo m answer rows buffer =
 abbrev pub checksTo : Checked → Res (Unit {0}) → List FrameRow → Bool
 checksTo c answer rows = sameAnswer anyValue (c .answer) answer && sameLists sameFrameRow (c .rows) rows
 
+abbrev pub takes : Sending → ℕ → ℕ → Bool
+takes s bits ticks = eqb (s .bits) bits && eqb (s .ticks) ticks
+
 abbrev pub countsMessages : Res Plan → ℕ → Bool
 countsMessages (ok p) n = eqb (length (basic p .messages)) n
 countsMessages (refuse m q) n = false
@@ -85,6 +90,7 @@ walksTo (ok p) found steps =
 walksTo (refuse m q) found steps = false
 
 abbrev pub holds : Entry → Bool
+holds (sends bus bytes bits ticks) = takes (onBus (busOf bus) bytes) bits ticks
 holds (hasMessages plan number) = countsMessages (readPlan plan) number
 holds (walks plan found steps) = walksTo (readPlan plan) found steps
 holds (reads plan says) = sameAnswer anyValue (readPlan plan) says
@@ -144,14 +150,17 @@ planAWith r k value = file (changed recordsA r k value)
 unfoldable pub planAJoined : List (List ℕ) → List ℕ
 planAJoined ends = file (recordsA ++ map (rec 7) ends)
 
--- its four frames, by their windows from release to deadline, with these starts
-unfoldable pub framesA : ℕ → ℕ → ℕ → ℕ → List FrameRow
-framesA first second third fourth =
-    frameRow 0 1000 20000 first
-    ∷ frameRow 0 1000 30000 second
-    ∷ frameRow 0 21000 40000 third
-    ∷ frameRow 0 41000 60000 fourth
+-- its four frames by their windows, from release to deadline, where the first task needs so long at worst, with these starts
+unfoldable pub framesFrom : ℕ → ℕ → ℕ → ℕ → ℕ → List FrameRow
+framesFrom worst first second third fourth =
+    frameRow 0 worst 20000 first
+    ∷ frameRow 0 worst 30000 second
+    ∷ frameRow 0 (20000 + worst) 40000 third
+    ∷ frameRow 0 (40000 + worst) 60000 fourth
     ∷ []
+
+unfoldable pub framesA : ℕ → ℕ → ℕ → ℕ → List FrameRow
+framesA = framesFrom 1000
 
 -- its whole table (rule 10.A), of 75 bytes
 unfoldable pub tableA : List ℕ
@@ -180,12 +189,25 @@ tableAWith k r = file (set rowsA k r)
 
 -- Job B: the same frames where the first task needs 19,894 ticks at worst.
 unfoldable pub framesB : List FrameRow
-framesB =
-    frameRow 0 19894 20000 19904
-    ∷ frameRow 0 19894 30000 29904
-    ∷ frameRow 0 39894 40000 39904
-    ∷ frameRow 0 59894 60000 59894
-    ∷ []
+framesB = framesFrom 19894 19904 29904 39904 59894
+
+-- Job A with a bus of kind 9 whose bytes take so many bits, and its table with ten (section 16).
+unfoldable pub recordsAOf : ℕ → List Rec
+recordsAOf bits = set recordsA 0 (rec 9 (1000 ∷ 8 ∷ 0 ∷ 254 ∷ 10 ∷ 1 ∷ bits ∷ []))
+
+unfoldable pub planTen : List ℕ
+planTen = file (recordsAOf 10)
+
+unfoldable pub tableTen : List ℕ
+tableTen =
+    file
+    (rec 16 (60000 ∷ 1 ∷ 4 ∷ [])
+    ∷ rec 17 (0 ∷ 0 ∷ 90 ∷ [])
+    ∷ rec 18 (0 ∷ 20000 ∷ 19880 ∷ 20000 ∷ [])
+    ∷ rec 18 (0 ∷ 30000 ∷ 29880 ∷ 30000 ∷ [])
+    ∷ rec 18 (0 ∷ 40000 ∷ 39880 ∷ 40000 ∷ [])
+    ∷ rec 18 (0 ∷ 60000 ∷ 59870 ∷ 59990 ∷ [])
+    ∷ [])
 
 -- Job J: X, Y, Z and what consumes them (reading 36), and the table that passes though the rule refuses.
 unfoldable pub recordsJ : List Rec
@@ -554,5 +576,32 @@ ownEntries =
     ∷ fails (file recordsJ) tableA 21 0
     ∷ []
 
+-- Bytes of more than eight bits: the two kinds of bus, the bits of a byte, and where a bus may stand.
+unfoldable pub byteEntries : List Entry
+byteEntries =
+    made planTen 75 tableTen (framesA 19880 29880 39880 59870)  -- A with ten bits
+    ∷ made (file (changed (recordsAOf 10) 7 2 19870)) 75 tableTen (framesFrom 19870 19880 29880 39880 59870)  -- B with ten bits
+    ∷ notMade (file (changed (recordsAOf 10) 7 2 19871)) 75 12 3
+    ∷ passes planTen tableTen (framesA 19880 29880 39880 59870)
+    ∷ fails planTen tableA 22 1  -- the table of eight bits
+    ∷ sends (rec 1 (1000 ∷ 8 ∷ 0 ∷ 254 ∷ 10 ∷ 1 ∷ [])) 4 96 96  -- kind 1 means eight
+    ∷ sends (rec 9 (3000 ∷ 8 ∷ 0 ∷ 254 ∷ 10 ∷ 1 ∷ 10 ∷ [])) 4 120 40  -- all bits are rounded together, not byte by byte
+    ∷ sends (rec 9 (7000 ∷ 8 ∷ 10 ∷ 254 ∷ 10 ∷ 4 ∷ 12 ∷ [])) 4 216 32  -- the ticks are rounded, the bits are not
+    ∷ reads (file (recordsAOf 7)) (refuse 4 0) ∷ reads (file (recordsAOf 8)) fine  -- bits of a byte
+    ∷ reads (file (recordsAOf 12)) fine ∷ reads (file (recordsAOf 13)) (refuse 4 0)
+    ∷ reads (file (changed (recordsAOf 10) 0 3 255)) (refuse 4 0)  -- kind 9 has kind 1's ranges
+    ∷ reads (file (changed (changed (recordsAOf 10) 0 2 100) 0 3 50)) (refuse 4 0)  -- and the order of its payloads
+    ∷ reads (file (changed (recordsAOf 13) 12 1 2)) (refuse 3 12)  -- 3 goes before 4
+    ∷ reads (take 17 planTen) (refuse 1 17)  -- the bits are missing
+    ∷ reads (take 18 planTen ++ (1 ∷ [])) (refuse 1 18)  -- behind a bus no other, only the nodes
+    ∷ reads (take 18 planTen ++ (9 ∷ [])) (refuse 1 18)
+    ∷ reads (take 18 planTen ++ (0 ∷ [])) (refuse 1 18)
+    ∷ reads (take 17 planA ++ (9 ∷ [])) (refuse 1 17)
+    ∷ reads (take 19 planA ++ (9 ∷ [])) (refuse 1 19)  -- not behind the nodes, nor behind things
+    ∷ reads (take 85 planA ++ (9 ∷ [])) (refuse 1 85)
+    ∷ reads (10 ∷ []) (refuse 1 0)  -- an unknown kind
+    ∷ fails planTen (9 ∷ []) 20 0  -- no kind of a table
+    ∷ []
+
 unfoldable pub entries : List Entry
-entries = documentJobs ++ (limits ++ ownEntries)
+entries = documentJobs ++ (limits ++ (ownEntries ++ byteEntries))

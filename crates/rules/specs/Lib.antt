@@ -17,6 +17,7 @@ pub mod OneBoard
 pub mod Obeys
 pub mod ObeysPlan
 pub mod Doubtful
+pub mod Twin
 pub mod History
 pub mod Heard
 pub mod Told

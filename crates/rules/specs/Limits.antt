@@ -41,6 +41,16 @@ mostGap = 1000
 abbrev pub coarsest : ℕ
 coarsest = 1000
 
+-- Rule 3.2, of the bus too: the bits that a byte takes; rule 4.10: how many these are where the plan does not say.
+abbrev pub fewestByteBits : ℕ
+fewestByteBits = 8
+
+abbrev pub mostByteBits : ℕ
+mostByteBits = 12
+
+abbrev pub plainByteBits : ℕ
+plainByteBits = 8
+
 -- mode periods, switch periods and worst times in ticks
 abbrev pub longestTime : ℕ
 longestTime = 1000000

@@ -1,6 +1,7 @@
 -- What it means that a plan keeps refusals 2 to 11 (docs/RULES.md, rules 6.2 to 6.11): a proposition for each sentence, and the rules in order
 -- with their numbers and their first records.
 use mathlib.Core.Path.{_≡_}
+use mathlib.Core.Logic.{_⊎_}
 use mathlib.Core.List.{List, [], _∷_}
 use lib.ListN.{length, getD}
 use Prim.Native.Nat.{ℕ, _+_, _≤_, _<_, _∣_}
@@ -11,6 +12,7 @@ use Rattle.rules.specs.Plan.{
   Plan,
   nth,
   planOf,
+  zeroRecord,
   count,
   leastCounts,
   mostCounts,
@@ -43,13 +45,17 @@ abbrev pub NamesThere : List Rec → Rec → Type 0
 NamesThere rs r =
     (k kind : ℕ) → k < length (fields (r .kind)) → fieldAt (r .kind) k ≡ names kind → nth (r .numbers) k < count rs kind
 
+-- the two kinds of bus
+abbrev pub IsBus : ℕ → Type 0
+IsBus kind = (kind ≡ 1) ⊎ (kind ≡ 9)
+
 -- Rules 6.4, 3.2, 3.3: each other number of a body is in its range, and the bus's largest payload is not below its least.
 pub record NumbersWithin (r : Rec) : Type 0 where
   pub least :
       (k wide low high : ℕ) → k < length (fields (r .kind)) → fieldAt (r .kind) k ≡ ranges wide low high → low ≤ nth (r .numbers) k
   pub most :
       (k wide low high : ℕ) → k < length (fields (r .kind)) → fieldAt (r .kind) k ≡ ranges wide low high → nth (r .numbers) k ≤ high
-  pub payloads : r .kind ≡ 1 → nth (r .numbers) 2 ≤ nth (r .numbers) 3
+  pub payloads : IsBus (r .kind) → nth (r .numbers) 2 ≤ nth (r .numbers) 3
 
 -- Rule 6.5.1: the module has a mode.
 pub record HasMode (p : Plan) (m : ℕ) : Type 0 where
@@ -79,9 +85,6 @@ pub record ConnectionFits (p : Plan) (k : ℕ) : Type 0 where
       → theConnection p j .consumer ≡ theConnection p k .consumer → ⊥
 
 -- the record of a number
-abbrev pub zeroRecord : Rec
-zeroRecord = record { kind = 0; numbers = [] }
-
 unfoldable pub recordAt : List Rec → ℕ → Rec
 recordAt rs k = getD rs k zeroRecord
 

@@ -7,8 +7,8 @@ use Prim.Native.Nat.{ℕ, _+_, _/_}
 use Rattle.laws.specs.Res.{Res, ok, _>>=_, _>>_, at}
 use Rattle.laws.specs.Lists.{keep, any, firstBad, isFresh, upTo}
 use Rattle.laws.specs.Numbers.{divides}
-use Rattle.rules.specs.Limits.{mostNodes, mostModules, mostModes, mostTasks, mostInvocations, mostConnections}
-use Rattle.rules.specs.Records.{Field, names, ranges, free, Rec, fields, records, planFollows}
+use Rattle.rules.specs.Limits.{plainByteBits, mostNodes, mostModules, mostModes, mostTasks, mostInvocations, mostConnections}
+use Rattle.rules.specs.Records.{Field, names, ranges, free, Rec, fields, records, isBus, planFollows}
 
 pub record Bus : Type 0 where
   pub rate : ℕ
@@ -17,6 +17,7 @@ pub record Bus : Type 0 where
   pub most : ℕ
   pub gap : ℕ
   pub resolution : ℕ
+  pub byteBits : ℕ
 
 pub record Mode : Type 0 where
   pub home : ℕ
@@ -52,9 +53,6 @@ pub record Plan : Type 0 where
 abbrev pub nth : List ℕ → ℕ → ℕ
 nth numbers k = getD numbers k 0
 
-unfoldable pub busOf : List ℕ → Bus
-busOf b = record { rate = nth b 0; overhead = nth b 1; least = nth b 2; most = nth b 3; gap = nth b 4; resolution = nth b 5 }
-
 unfoldable pub modeOf : List ℕ → Mode
 modeOf b = record { home = nth b 0; period = nth b 1; switch = nth b 2 }
 
@@ -67,20 +65,43 @@ invocationOf b = record { mode = nth b 0; task = nth b 1; rate = nth b 2 }
 unfoldable pub connectionOf : List ℕ → Connection
 connectionOf b = record { producer = nth b 0; consumer = nth b 1 }
 
--- a record is of this kind
+-- a record is of this kind; it is a bus
 unfoldable pub isKind : ℕ → Rec → Bool
 isKind k r = eqb (r .kind) k
 
+unfoldable pub isBusRecord : Rec → Bool
+isBusRecord r = isBus (r .kind)
+
 abbrev pub numbersOf : Rec → List ℕ
 numbersOf r = r .numbers
+
+-- A bus of either kind. Only kind 9 says how many bits a byte takes.
+unfoldable pub busOf : Rec → Bus
+busOf r =
+    let b = r .numbers in
+    record {
+      rate = nth b 0;
+      overhead = nth b 1;
+      least = nth b 2;
+      most = nth b 3;
+      gap = nth b 4;
+      resolution = nth b 5;
+      byteBits = cond (isKind 9 r) (nth b 6) plainByteBits;
+    }
 
 -- the bodies of the records of a kind, in file order
 unfoldable pub things : ℕ → List Rec → List (List ℕ)
 things k rs = map numbersOf (keep (isKind k) rs)
 
--- the first body of a kind (the bus, the number of nodes)
+-- the first body of a kind (the number of nodes), and the first bus
 unfoldable pub only : ℕ → List Rec → List ℕ
 only k rs = getD (things k rs) 0 []
+
+abbrev pub zeroRecord : Rec
+zeroRecord = record { kind = 0; numbers = [] }
+
+unfoldable pub theBus : List Rec → Rec
+theBus rs = getD (keep isBusRecord rs) 0 zeroRecord
 
 unfoldable pub moduleOf : List ℕ → ℕ
 moduleOf b = nth b 0
@@ -88,7 +109,7 @@ moduleOf b = nth b 0
 unfoldable pub planOf : List Rec → Plan
 planOf rs =
     record {
-      bus = busOf (only 1 rs);
+      bus = busOf (theBus rs);
       nodes = nth (only 2 rs) 0;
       modules = map moduleOf (things 3 rs);
       modes = map modeOf (things 4 rs);
@@ -134,7 +155,7 @@ isWithin (ranges w low high) x = leb low x && leb x high
 isWithin (free w) x = true
 
 unfoldable pub payloadsOrdered : Rec → Bool
-payloadsOrdered r = cond (isKind 1 r) (leb (nth (r .numbers) 2) (nth (r .numbers) 3)) true
+payloadsOrdered r = cond (isBusRecord r) (leb (nth (r .numbers) 2) (nth (r .numbers) 3)) true
 
 unfoldable pub numbersAreWithin : Rec → Bool
 numbersAreWithin r = eachNumber isWithin (fields (r .kind)) (r .numbers) && payloadsOrdered r
@@ -224,12 +245,17 @@ rule5 p = do
   at 5 (firstInvocation p) (firstBad (invocationKeeps p) (upTo (length (p .invocations))))
   at 5 (firstConnection p) (firstBad (connectionKeeps (p .connections)) (upTo (length (p .connections))))
 
--- Refusals 1 to 5 by rule 6.31: each over the whole plan before the next, and at the lowest place where it applies.
-unfoldable pub readPlan : List ℕ → Res Plan
-readPlan file = do
-  rs ← records planFollows 1 file
+-- Refusals 2 to 5 of a file's records by rule 6.31: each over the whole plan before the next, and at the lowest place where it applies.
+abbrev pub planFrom : List Rec → Res Plan
+planFrom rs = do
   at 2 2 (firstBad (countFits rs) (upTo 6))
   at 3 0 (firstBad (namesAreThere (count rs)) rs)
   at 4 0 (firstBad numbersAreWithin rs)
   rule5 (planOf rs)
   ok (planOf rs)
+
+-- Before them refusal 1, of the bytes.
+unfoldable pub readPlan : List ℕ → Res Plan
+readPlan file = do
+  rs ← records planFollows 1 file
+  planFrom rs

@@ -7,7 +7,7 @@ use lib.ListN.{getD, take, drop}
 use Prim.Native.Nat.{ℕ, zero, suc, _+_}
 use Rattle.laws.specs.Res.{Res, ok, refuse}
 use Rattle.laws.specs.Numbers.{number}
-use Rattle.rules.specs.Limits.{fastestBus, mostOverhead, mostPayload, mostGap, coarsest, longestTime, largestMessage, mostRate}
+use Rattle.rules.specs.Limits.{fastestBus, mostOverhead, mostPayload, mostGap, coarsest, fewestByteBits, mostByteBits, longestTime, largestMessage, mostRate}
 
 -- What a number of a body is: the name of a thing of a kind (u8); a number with a width and a range; a number with a width, free.
 pub data Field : Type 0 where
@@ -21,12 +21,18 @@ width (names kind) = 1
 width (ranges wide low high) = wide
 width (free wide) = wide
 
+-- The numbers that both kinds of bus begin with, and what follows them.
+abbrev pub busThen : List Field → List Field
+busThen fs =
+    ranges 4 1 fastestBus ∷ ranges 2 0 mostOverhead ∷ ranges 2 0 mostPayload ∷ ranges 2 1 mostPayload ∷ ranges 2 0 mostGap
+    ∷ ranges 4 1 coarsest ∷ fs
+
 -- Rule 2.4: for each kind 0 to 18 the numbers of its body, or that the kind is unknown. Ranges are those of rule 3.2; the number
 -- of nodes has none here, since its range is refusal 2's (reading 7).
 unfoldable pub kinds : List (Option (List Field))
 kinds =
     some []  -- 0 end
-    ∷ some (ranges 4 1 fastestBus ∷ ranges 2 0 mostOverhead ∷ ranges 2 0 mostPayload ∷ ranges 2 1 mostPayload ∷ ranges 2 0 mostGap ∷ ranges 4 1 coarsest ∷ [])  -- 1 bus
+    ∷ some (busThen [])  -- 1 bus
     ∷ some (free 1 ∷ [])  -- 2 number of nodes
     ∷ some (names 2 ∷ [])  -- 3 module
     ∷ some (names 3 ∷ ranges 4 1 longestTime ∷ ranges 4 1 longestTime ∷ [])  -- 4 mode
@@ -34,7 +40,7 @@ kinds =
     ∷ some (names 4 ∷ names 5 ∷ ranges 2 1 mostRate ∷ [])  -- 6 invocation
     ∷ some (names 5 ∷ names 5 ∷ [])  -- 7 connection
     ∷ none
-    ∷ none
+    ∷ some (busThen (ranges 1 fewestByteBits mostByteBits ∷ []))  -- 9 bus with the bits of a byte
     ∷ none
     ∷ none
     ∷ none
@@ -70,12 +76,16 @@ widths (f ∷ fs) = width f + widths fs
 unfoldable pub bodyLength : ℕ → ℕ
 bodyLength kind = widths (fields kind)
 
--- Rule 2.5: whether a kind may stand behind another in a plan. At the front, which is written 0 here, only the bus may stand;
+-- the two kinds of bus
+unfoldable pub isBus : ℕ → Bool
+isBus kind = eqb kind 1 || eqb kind 9
+
+-- Rule 2.5: whether a kind may stand behind another in a plan. At the front, which is written 0 here, only a bus may stand;
 -- behind the bus the nodes; then kinds from 3 to 7, none below the one before; the end behind any of these and the nodes.
 unfoldable pub planFollows : ℕ → ℕ → Bool
 planFollows previous kind =
-    cond (eqb previous 0) (eqb kind 1)
-    (cond (eqb previous 1) (eqb kind 2) (eqb kind 0 || (leb 3 kind && (leb previous kind && leb kind 7))))
+    cond (eqb previous 0) (isBus kind)
+    (cond (isBus previous) (eqb kind 2) (eqb kind 0 || (leb 3 kind && (leb previous kind && leb kind 7))))
 
 -- Rule 2.6: the same in a table: its head, control rows, data rows, the end.
 unfoldable pub tableFollows : ℕ → ℕ → Bool

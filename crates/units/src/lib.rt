@@ -37,6 +37,39 @@ impl ByteCount {
     }
 }
 
+// A number of bits, as a plan gives it: the gap.
+pub struct BitCount(pub u32);
+
+// How many bits a byte takes on the bus.
+pub struct ByteBits(pub u8);
+
+impl ByteBits {
+    pub const FEWEST: u8 = 8;
+
+    pub const MOST: u8 = 12;
+
+    // Where the plan does not say (rule 4.10).
+    pub const PLAIN: u8 = 8;
+
+    pub fn fewest() -> ByteBits
+        ensures { λ r. ⌜ r .0 ≡ 8 ⌝ }
+    {
+        ByteBits(ByteBits::FEWEST)
+    }
+
+    pub fn most() -> ByteBits
+        ensures { λ r. ⌜ r .0 ≡ 12 ⌝ }
+    {
+        ByteBits(ByteBits::MOST)
+    }
+
+    pub fn plain() -> ByteBits
+        ensures { λ r. ⌜ r .0 ≡ 8 ⌝ }
+    {
+        ByteBits(ByteBits::PLAIN)
+    }
+}
+
 // The number of a node, counted from 0.
 pub struct NodeNo(pub u8);
 

@@ -14,8 +14,8 @@ use Rattle.control.proofs.control_end.Tie as tie
 
 abbrev Inv-loop : tie.InvT-loop
 Inv-loop p payloads gap nodes next₀ stop₀ n₀ next stop n =
-    (n ≤ nodes) × (nodes ≤ 8) × (next ≡ nextAt (seen p) n) × (stop ≡ stopAt (seen p) n) × (next ≤ n * 2 ^ 48) ×
-    (stop ≤ n * 2 ^ 48)
+    (n ≤ nodes) × (nodes ≤ 8) × (next ≡ nextAt (seen p) n) × (stop ≡ stopAt (seen p) n) × (next ≤ n * 2 ^ 54) ×
+    (stop ≤ n * 2 ^ 54)
 
 abbrev μ-loop : tie.MeasureT-loop
 μ-loop p payloads gap nodes next₀ stop₀ n₀ next stop n = nodes - n

@@ -1,32 +1,15 @@
--- The reads' promises are rewritten; `numbers-laid` says at which offsets the record's numbers stand.
+-- `bus_with` promises the numbers of kind 1, and the bits are those that kind 1 means.
 use borrow.Author.Needs.{needs}
-use mathlib.Core.Path.{sym, ap}
-use mathlib.Core.List.{List}
-use Prim.Native.Nat.{ℕ}
-use Rattle.rules.specs.Records.{fields, kinds}
-use Rattle.rules.specs.Plan.{busOf}
-use Rattle.rules.proofs.BodyNumbers.{numbers-laid}
-use Rattle.plan.specs.Memory.{busLaid}
+use mathlib.Core.Path.{_∙_}
+use Rattle.rules.specs.Records.{recordOf}
+use Rattle.rules.specs.Plan.{busOf, isKind}
+use Rattle.plan.specs.Memory.{withByteBits}
 use Rattle.plan.proofs.bodies.bus.Statement.{statement}
 use Rattle.plan.proofs.bodies.bus.Tie as tie
 
 returns : tie.Need-returns
-unfolding busLaid busOf fields kinds
-returns c =
-    let c1 = c .before .before .before in
-    let a = c1 .before .before .before .before .args in
-    rw (
-      c1 .before .before .read16 .ensures,
-      c1 .before .read162 .ensures,
-      c1 .read163 .ensures,
-      c .before .before .read164 .ensures,
-      c .before .read32 .ensures,
-      c .read322 .ensures,
-    )
-    (ap (λ (b : List ℕ). busLaid (busOf b)) (sym (numbers-laid (a .body .now) 0 1)))
+unfolding withByteBits busOf isKind recordOf
+returns c = c .bus-with .ensures ∙ rw (c .before .plain .ensures)
 
 pub bus-spec : {M : Type 1} → statement M
-bus-spec =
-    tie.close
-    (tie.spec (λ c κs. search needs) (λ c κs. search needs) (λ c κs. search needs) (λ c κs. search needs) (λ c κs. search needs)
-    (λ c. search needs) (λ c. search needs) (λ c. search needs) (λ c. search needs) (λ c κs. search needs) returns)
+bus-spec = tie.close (tie.spec (λ c κs. search needs) (λ c κs. search needs) returns)

@@ -4,7 +4,8 @@ use mathlib.Core.Path.{sym}
 use Rattle.rules.specs.Records.{recordOf, fields, kinds}
 use Rattle.rules.specs.Plan.{namesAreThere, moduleOf, modeOf, taskOf, invocationOf, connectionOf}
 use Rattle.plan.specs.Memory.{moduleLaid, modeLaid, taskLaid, invocationLaid, connectionLaid}
-use Rattle.planrules.proofs.RecordTests.{and-true, no-names}
+use Rattle.laws.proofs.Lists.{and-true}
+use Rattle.planrules.proofs.RecordTests.{no-names}
 use Rattle.planrules.proofs.numbers.names_are_there.Statement.{statement}
 use Rattle.planrules.proofs.numbers.names_are_there.Tie as tie
 
