@@ -28,7 +28,8 @@ fn main() -> Result<(), Box<dyn Error>> {
 
 /// The first mode of each module, in a plan that is known to be good: modes are the records of kind 4.
 fn first_modes(plan: &[u8]) -> [Option<u8>; MODULES] {
-    let lengths = [1, 17, 2, 2, 10, 7, 5, 3];
+    // By kind; there is no kind 8.
+    let lengths = [1, 17, 2, 2, 10, 7, 5, 3, 0, 18];
     let (mut modes, mut at, mut mode) = ([None; MODULES], 0, 0);
     while at < plan.len() {
         if plan[at] == 4 {

@@ -46,7 +46,7 @@ pub fn derive(plan: &Plan, rows: &mut [FrameRow]) -> Result<Bus, Refusal> {
     let frames = list_frames(plan, &runs, period, rows).ok_or(Refusal::new(9, 0))?;
     let payloads = control_payloads(plan, modules);
     refuse_if(10, payload_too_large(plan, tasks, &payloads))?;
-    let gap = plan.bits.gap_time();
+    let gap = plan.bits.gap().ticks;
     let control = control_rows(&plan.bits, &payloads, gap);
     let control_end = control.last().map_or(0, |row| row.stop + gap);
     refuse_if(11, control_end > period)?;
@@ -212,7 +212,7 @@ fn control_rows(
     let sending = (0..).zip(payloads).filter(|&(_, &payload)| payload > 0);
     sending
         .map(|(node, &payload)| {
-            let row = ControlRow { node, start, stop: start + bits.sending_time(payload) };
+            let row = ControlRow { node, start, stop: start + bits.sending(payload).ticks };
             start = row.stop + gap;
             row
         })
@@ -222,7 +222,7 @@ fn control_rows(
 fn sending_times(plan: &Plan) -> [u32; MOST_TASKS] {
     let mut by_size = [0; 9];
     for (time, size) in by_size.iter_mut().zip(0..) {
-        *time = plan.bits.sending_time(size);
+        *time = plan.bits.sending(size).ticks;
     }
     let mut by_task = [0; MOST_TASKS];
     for (time, task) in by_task.iter_mut().zip(plan.tasks.iter()) {
@@ -231,18 +231,27 @@ fn sending_times(plan: &Plan) -> [u32; MOST_TASKS] {
     by_task
 }
 
+/// What a frame or a gap takes of the bus: its bits, and their time.
+#[derive(Clone, Copy, Debug, PartialEq, Eq)]
+pub struct Sending {
+    pub bits: u32,
+    pub ticks: u32,
+}
+
 impl Bits {
-    pub fn sending_time(&self, payload: u32) -> u32 {
+    /// Of a frame with a payload of so many bytes.
+    pub fn sending(&self, payload: u32) -> Sending {
         let bytes = u32::from(self.overhead) + payload.max(u32::from(self.least_payload));
-        self.bit_time(8 * bytes)
+        self.sending_bits(self.bits_in_byte() * bytes)
     }
 
-    pub fn gap_time(&self) -> u32 {
-        self.bit_time(u32::from(self.gap_bits))
+    pub fn gap(&self) -> Sending {
+        self.sending_bits(u32::from(self.gap_bits))
     }
 
     /// Up to a whole tick, then up to the resolution.
-    fn bit_time(&self, bits: u32) -> u32 {
-        (bits * 1_000).div_ceil(self.kbits).next_multiple_of(self.resolution)
+    fn sending_bits(&self, bits: u32) -> Sending {
+        let ticks = (bits * 1_000).div_ceil(self.kbits).next_multiple_of(self.resolution);
+        Sending { bits, ticks }
     }
 }

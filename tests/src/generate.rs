@@ -12,7 +12,8 @@ pub use damage::{break_plan_rule, break_table_rule, damage_bytes};
 pub use draft::{Draft, TableDraft, job_a, job_j};
 pub use histories::{History, Tick, broken_starting_modes, starting_modes};
 pub use plans::{
-    Size, also_in_modes, longest_table, near_limit_plan, plan_with_rates, quick_runs, valid_plan,
+    Size, also_in_modes, any_bits, longest_table, near_limit_plan, plan_with_rates, quick_runs,
+    valid_plan,
 };
 pub use random::Rng;
 pub use tables::{Made, made_plan, move_rows, playable_plan};

@@ -45,6 +45,8 @@ pub struct Bits {
     pub largest_payload: u16,
     pub gap_bits: u16,
     pub resolution: u32,
+    /// Kind 9 says it, kind 1 does not.
+    pub byte_bits: Option<u8>,
 }
 
 #[derive(Clone, Copy, Debug, Default, PartialEq, Eq)]
@@ -131,9 +133,10 @@ fn gather(file: &[u8]) -> Result<Plan, Refusal> {
     })
 }
 
+/// Kind 9 is kind 1 with one number more.
 fn read_bits(record: &[u8]) -> Bits {
-    let body = record.last_chunk::<{ record_length(BUS) - 1 }>().unwrap_or(&[0; 16]);
-    let &[k0, k1, k2, k3, o0, o1, l0, l1, m0, m1, g0, g1, r0, r1, r2, r3] = body;
+    let (numbers, more) = record.split_first_chunk().unwrap_or((&[0; record_length(BUS)], &[]));
+    let &[_, k0, k1, k2, k3, o0, o1, l0, l1, m0, m1, g0, g1, r0, r1, r2, r3] = numbers;
     Bits {
         kbits: u32::from_le_bytes([k0, k1, k2, k3]),
         overhead: u16::from_le_bytes([o0, o1]),
@@ -141,6 +144,7 @@ fn read_bits(record: &[u8]) -> Bits {
         largest_payload: u16::from_le_bytes([m0, m1]),
         gap_bits: u16::from_le_bytes([g0, g1]),
         resolution: u32::from_le_bytes([r0, r1, r2, r3]),
+        byte_bits: more.first().copied(),
     }
 }
 
@@ -165,6 +169,11 @@ fn read_connection(&[_, producer, consumer]: &[u8; record_length(CONNECTION)]) -
 }
 
 impl Bits {
+    /// Kind 1 means 8.
+    pub fn bits_in_byte(&self) -> u32 {
+        self.byte_bits.map_or(8, u32::from)
+    }
+
     fn in_range(&self) -> bool {
         (1..=100_000).contains(&self.kbits)
             && self.overhead <= 64
@@ -173,6 +182,7 @@ impl Bits {
             && self.least_payload <= self.largest_payload
             && self.gap_bits <= 1_000
             && (1..=1_000).contains(&self.resolution)
+            && (8..=12).contains(&self.bits_in_byte())
     }
 }
 

@@ -11,6 +11,7 @@ pub const BODY_LENGTHS: [Option<usize>; 19] = {
     lengths[TASK as usize] = Some(6);
     lengths[INVOCATION as usize] = Some(4);
     lengths[CONNECTION as usize] = Some(2);
+    lengths[BUS_WITH_BYTE_BITS as usize] = Some(17);
     lengths[TABLE as usize] = Some(7);
     lengths[CONTROL_ROW as usize] = Some(9);
     lengths[DATA_ROW as usize] = Some(13);
@@ -25,6 +26,7 @@ pub const MODE: u8 = 4;
 pub const TASK: u8 = 5;
 pub const INVOCATION: u8 = 6;
 pub const CONNECTION: u8 = 7;
+pub const BUS_WITH_BYTE_BITS: u8 = 9;
 pub const TABLE: u8 = 16;
 pub const CONTROL_ROW: u8 = 17;
 pub const DATA_ROW: u8 = 18;
@@ -37,16 +39,19 @@ pub const fn record_length(kind: u8) -> usize {
     }
 }
 
-/// A sort of file: kinds that stand once, in this order, then kinds that may repeat, never descending.
+/// A sort of file: records that stand once, in this order, each of one of the kinds of its place; then
+/// kinds that may repeat, never descending.
 pub struct Sort<const ONCE: usize, const REPEATED: usize> {
-    once: [u8; ONCE],
+    once: [&'static [u8]; ONCE],
     repeated: [u8; REPEATED],
 }
 
-pub const PLAN_FILE: Sort<2, 5> =
-    Sort { once: [BUS, NODES], repeated: [MODULE, MODE, TASK, INVOCATION, CONNECTION] };
+pub const PLAN_FILE: Sort<2, 5> = Sort {
+    once: [&[BUS, BUS_WITH_BYTE_BITS], &[NODES]],
+    repeated: [MODULE, MODE, TASK, INVOCATION, CONNECTION],
+};
 
-pub const TABLE_FILE: Sort<1, 2> = Sort { once: [TABLE], repeated: [CONTROL_ROW, DATA_ROW] };
+pub const TABLE_FILE: Sort<1, 2> = Sort { once: [&[TABLE]], repeated: [CONTROL_ROW, DATA_ROW] };
 
 /// A well-formed file cut into its records that stand once and its runs of records of one kind.
 pub struct Outline<'a, const ONCE: usize, const REPEATED: usize> {
@@ -61,8 +66,8 @@ pub fn outline<'a, const ONCE: usize, const REPEATED: usize>(
 ) -> Result<Outline<'a, ONCE, REPEATED>, usize> {
     let mut at = 0;
     let mut once = [file; ONCE];
-    for (record, &kind) in once.iter_mut().zip(&sort.once) {
-        *record = one_record(file, at, kind)?;
+    for (record, kinds) in once.iter_mut().zip(&sort.once) {
+        *record = one_record(file, at, kinds)?;
         at += record.len();
     }
     let mut repeated = [file; REPEATED];
@@ -75,11 +80,11 @@ pub fn outline<'a, const ONCE: usize, const REPEATED: usize>(
 }
 
 /// A wrong kind goes before a cut body.
-fn one_record(file: &[u8], at: usize, kind: u8) -> Result<&[u8], usize> {
+fn one_record<'a>(file: &'a [u8], at: usize, kinds: &[u8]) -> Result<&'a [u8], usize> {
     match file.get(at) {
         None => Err(file.len()),
-        Some(&found) if found != kind => Err(at),
-        Some(_) => file.get(at..at + record_length(kind)).ok_or(file.len()),
+        Some(kind) if !kinds.contains(kind) => Err(at),
+        Some(&kind) => file.get(at..at + record_length(kind)).ok_or(file.len()),
     }
 }
 

@@ -1,4 +1,4 @@
-//! Files that the repository keeps for its programs: the example plan, what a program reads, what it
+//! Files that the repository keeps for its programs: example plans, what a program reads, what it
 //! must write. `cargo run --release --bin store` writes them; a test holds them against what stands there.
 
 mod cases;
@@ -27,6 +27,7 @@ pub fn all() -> Vec<Stored> {
     let table = table_of(&plan);
     let mut files = vec![
         stored("docs/examples/job-a.plan", plan.clone()),
+        stored("docs/examples/job-a-ten-bits.plan", job_a().with_byte_bits(Some(10)).bytes()),
         stored("crates/bustable/stdin", plan.clone()),
         stored("crates/bustable/stdout", table.clone()),
     ];

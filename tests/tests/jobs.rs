@@ -1,6 +1,7 @@
 //! The jobs of docs/RULES.md.
 
-use reference::generate::{Draft, PLENTY, job_a, job_j};
+use reference::bus::{ControlRow, Sending};
+use reference::generate::{Draft, PLENTY, TableDraft, job_a, job_j};
 use reference::plan::Connection;
 use reference::{FrameRow, MOST_FRAMES, Refusal, Row, Station, check, make};
 
@@ -59,6 +60,22 @@ fn b_worst_time() {
     plan.tasks[0].worst_time = 19_894;
     assert!(made(&plan).is_ok());
     plan.tasks[0].worst_time = 19_895;
+    assert_eq!(made(&plan), refused(12, 3));
+}
+
+#[test]
+fn a_and_b_with_ten_bits_to_the_byte() {
+    let mut plan = job_a().with_byte_bits(Some(10));
+    assert_eq!(plan.bits.sending(1), Sending { bits: 90, ticks: 90 });
+    assert_eq!(plan.bits.sending(4), Sending { bits: 120, ticks: 120 });
+    let table = TableDraft::read(&made(&plan).unwrap()).unwrap();
+    assert_eq!(table.control, [ControlRow { node: 0, start: 0, stop: 90 }]);
+    let times: Vec<(u32, u32)> = table.data.iter().map(|row| (row.start, row.stop)).collect();
+    let expected = [(19_880, 20_000), (29_880, 30_000), (39_880, 40_000), (59_870, 59_990)];
+    assert_eq!(times, expected);
+    plan.tasks[0].worst_time = 19_870;
+    assert!(made(&plan).is_ok());
+    plan.tasks[0].worst_time = 19_871;
     assert_eq!(made(&plan), refused(12, 3));
 }
 

@@ -1,6 +1,7 @@
 //! Both sides of single limits, from job A.
 
 use reference::generate::{PLENTY, also_in_modes, job_a, longest_table, plan_with_rates};
+use reference::records::{NODES, TABLE, record_length};
 use reference::{FrameRow, MOST_FRAMES, Refusal, check, make};
 
 fn made(plan: &[u8]) -> Result<Vec<u8>, Refusal> {
@@ -44,7 +45,7 @@ fn messages() {
 #[test]
 fn control_frames() {
     let mut plan = job_a();
-    let control = plan.bits.sending_time(1);
+    let control = plan.bits.sending(1).ticks;
     for mode in &mut plan.modes {
         (mode.period, mode.switch_period) = (600, 600);
     }
@@ -68,31 +69,77 @@ fn payloads() {
 }
 
 #[test]
-fn cut_files() {
-    let plan = job_a().bytes();
-    let table = made(&plan).unwrap();
-    let checked = |table: &[u8]| check(&plan, table, &mut [FrameRow::default(); MOST_FRAMES]);
-    for length in 0..plan.len() {
-        assert_eq!(made(&plan[..length]), refused(1, length));
+fn bits_of_a_byte() {
+    for bits in 0..=255 {
+        let answer = made(&job_a().with_byte_bits(Some(bits)).bytes());
+        match bits {
+            8..=12 => assert!(answer.is_ok(), "{bits}"),
+            _ => assert_eq!(answer, refused(4, 0), "{bits}"),
+        }
     }
-    for length in 0..table.len() {
-        assert_eq!(checked(&table[..length]), refused(20, length));
-    }
-    assert_eq!(made(&[plan.as_slice(), &[0]].concat()), refused(1, plan.len()));
-    assert_eq!(checked(&[table.as_slice(), &[0]].concat()), refused(20, table.len()));
 }
 
-/// A wrong kind goes before a cut body; the plan's kinds are wrong in a table, and the other way round.
+/// One with a bus record of kind 1, one with kind 9.
+fn plans() -> [Vec<u8>; 2] {
+    [job_a().bytes(), job_a().with_byte_bits(Some(10)).bytes()]
+}
+
+fn checked(plan: &[u8], table: &[u8]) -> Result<(), Refusal> {
+    check(plan, table, &mut [FrameRow::default(); MOST_FRAMES])
+}
+
+#[test]
+fn cut_files() {
+    for plan in plans() {
+        let table = made(&plan).unwrap();
+        for length in 0..plan.len() {
+            assert_eq!(made(&plan[..length]), refused(1, length));
+        }
+        for length in 0..table.len() {
+            assert_eq!(checked(&plan, &table[..length]), refused(20, length));
+        }
+        assert_eq!(made(&[plan.as_slice(), &[0]].concat()), refused(1, plan.len()));
+        assert_eq!(checked(&plan, &[table.as_slice(), &[0]].concat()), refused(20, table.len()));
+    }
+}
+
+/// Of a right kind the body is missing.
+fn cut_if(right: bool, number: u32, at: usize) -> Refusal {
+    Refusal { number, place: at + usize::from(right) }
+}
+
+/// A wrong kind goes before a cut body; a bus record of either kind stands first, and there alone.
 #[test]
 fn wrong_kinds() {
-    let bus_and_nodes = &job_a().bytes()[..19];
+    for plan in plans() {
+        let nodes = record_length(plan[0]);
+        let modules = nodes + record_length(NODES);
+        for kind in 0..=255 {
+            let behind = |records: usize| made(&[&plan[..records], &[kind]].concat());
+            assert_eq!(behind(0), Err(cut_if([1, 9].contains(&kind), 1, 0)));
+            assert_eq!(behind(nodes), Err(cut_if(kind == 2, 1, nodes)));
+            let expected = match kind {
+                0 => refused(2, 3),
+                _ => Err(cut_if((3..8).contains(&kind), 1, modules)),
+            };
+            assert_eq!(behind(modules), expected);
+        }
+    }
+}
+
+/// The plan's kinds are wrong in a table.
+#[test]
+fn wrong_kinds_of_rows() {
+    let plan = job_a().bytes();
+    let table = made(&plan).unwrap();
+    let header = &table[..record_length(TABLE)];
     for kind in 0..=255 {
+        assert_eq!(checked(&plan, &[kind]), Err(cut_if(kind == 16, 20, 0)));
         let expected = match kind {
-            0 => refused(2, 3),
-            3..8 => refused(1, 20),
-            _ => refused(1, 19),
+            0 => refused(21, 0),
+            _ => Err(cut_if([17, 18].contains(&kind), 20, header.len())),
         };
-        assert_eq!(made(&[bus_and_nodes, &[kind]].concat()), expected);
+        assert_eq!(checked(&plan, &[header, &[kind]].concat()), expected);
     }
 }
 

@@ -1,13 +1,14 @@
 //! Seeded cases: every refusal is reached, and the answers agree with each other and with sections 4
 //! and 5 of docs/RULES.md taken word by word.
 
-use reference::bus::{Bus, derive};
+use reference::bus::{Bus, Sending, derive};
 use reference::checker::DataRow;
 use reference::generate::{
-    self, CheckCase, Draft, History, Made, MakeCase, PLENTY, PlayCase, Rng, Size, break_table_rule,
-    made_plan, move_rows, playable_plan, starting_modes, valid_plan,
+    self, CheckCase, Draft, History, Made, MakeCase, PLENTY, PlayCase, Rng, Size, any_bits,
+    break_table_rule, made_plan, move_rows, playable_plan, starting_modes, valid_plan,
 };
-use reference::plan::{self, Connection, Plan};
+use reference::plan::{self, Bits, Connection, Plan};
+use reference::records::{BUS, BUS_WITH_BYTE_BITS, record_length};
 use reference::{FrameRow, MOST_CONNECTIONS, MOST_FRAMES, Refusal, Row, Station, check, make};
 use std::collections::BTreeMap;
 
@@ -43,26 +44,35 @@ fn checked(plan: &[u8], table: &[u8]) -> Result<(), Refusal> {
     check(plan, table, &mut [OLD_ROW; MOST_FRAMES])
 }
 
+type Rows = Vec<FrameRow>;
+
+/// The answer, and what is lent as it is afterwards.
+fn make_into(plan: &[u8], rows: usize, room: usize) -> (Result<usize, Refusal>, Rows, Vec<u8>) {
+    let (mut rows, mut buffer) = (vec![OLD_ROW; rows], vec![OLD_BYTE; room]);
+    let answer = make(plan, &mut rows, &mut buffer);
+    (answer, rows, buffer)
+}
+
+fn check_into(plan: &[u8], table: &[u8], rows: usize) -> (Result<(), Refusal>, Rows) {
+    let mut rows = vec![OLD_ROW; rows];
+    let answer = check(plan, table, &mut rows);
+    (answer, rows)
+}
+
 #[test]
 fn make_cases() {
     let mut counts = Counts::new();
     for seed in 0..MAKE_CASES {
         let MakeCase { plan, rows, room } = generate::make_case(&mut Rng::new(seed));
-        let (mut rows, mut buffer) = (vec![OLD_ROW; rows], vec![OLD_BYTE; room]);
-        let made = make(&plan, &mut rows, &mut buffer);
+        let (made, rows, buffer) = make_into(&plan, rows, room);
         count(&mut counts, &made);
         let unchanged = made.unwrap_or(0);
         assert!(buffer[unchanged..].iter().all(|&byte| byte == OLD_BYTE), "seed {seed}");
         match made {
             Err(refusal) => assert_rows_refused(&rows, refusal),
             Ok(length) => {
-                let mut checked_rows = vec![OLD_ROW; rows.len()];
-                assert_eq!(
-                    check(&plan, &buffer[..length], &mut checked_rows),
-                    Ok(()),
-                    "seed {seed}"
-                );
-                assert_eq!(rows, checked_rows, "seed {seed}");
+                let checked = check_into(&plan, &buffer[..length], rows.len());
+                assert_eq!(checked, (Ok(()), rows), "seed {seed}");
             }
         }
     }
@@ -74,8 +84,7 @@ fn check_cases() {
     let mut counts = Counts::new();
     for seed in 0..CHECK_CASES {
         let CheckCase { plan, table, rows } = generate::check_case(&mut Rng::new(seed));
-        let mut rows = vec![OLD_ROW; rows];
-        let answer = check(&plan, &table, &mut rows);
+        let (answer, rows) = check_into(&plan, &table, rows);
         count(&mut counts, &answer);
         if let Err(refusal) = answer {
             assert_rows_refused(&rows, refusal);
@@ -169,9 +178,82 @@ fn without_doubtful(connections: &[Connection]) -> (Vec<Connection>, Option<usiz
     (good, first)
 }
 
+/// Kind 9 with 8 bits is kind 1: the same rows and bytes, and the same refusal at the same place; only
+/// offsets in the plan lie a byte further.
+#[test]
+fn eight_bits_said() {
+    let (mut made, mut checked) = (Counts::new(), Counts::new());
+    for seed in 0..20_000 {
+        let MakeCase { plan, rows, room } = generate::make_case(&mut Rng::new(seed));
+        if let Some([unsaid, said]) = with_eight_bits(&plan) {
+            let (answer, rows_then, buffer) = make_into(&unsaid, rows, room);
+            count(&mut made, &answer);
+            let expected = (answer.map_err(a_byte_further), rows_then, buffer);
+            assert_eq!(make_into(&said, rows, room), expected, "seed {seed}");
+        }
+        let CheckCase { plan, table, rows } = generate::check_case(&mut Rng::new(seed));
+        if let Some([unsaid, said]) = with_eight_bits(&plan) {
+            let (answer, rows_then) = check_into(&unsaid, &table, rows);
+            count(&mut checked, &answer);
+            let expected = (answer.map_err(a_byte_further), rows_then);
+            assert_eq!(check_into(&said, &table, rows), expected, "seed {seed}");
+        }
+    }
+    assert_reached(&made, (0..=13).chain([19]));
+    assert_reached(&checked, (0..=11).chain([19]).chain(20..=28));
+}
+
+/// The file with a bus record of kind 1, and with one of kind 9 that says 8; `None` where it does not
+/// begin with a whole bus record.
+fn with_eight_bits(file: &[u8]) -> Option<[Vec<u8>; 2]> {
+    let &kind = file.first().filter(|kind| [BUS, BUS_WITH_BYTE_BITS].contains(kind))?;
+    let (bus, behind) = file.split_at_checked(record_length(kind))?;
+    let numbers = &bus[1..record_length(BUS)];
+    let unsaid = [&[BUS], numbers, behind].concat();
+    Some([unsaid, [&[BUS_WITH_BYTE_BITS], numbers, &[8], behind].concat()])
+}
+
+fn a_byte_further(refusal: Refusal) -> Refusal {
+    let further = usize::from(refusal.number == 1);
+    Refusal { place: refusal.place + further, ..refusal }
+}
+
+/// For any number of bits in a byte, also one that no plan may have, a larger payload takes no fewer bits
+/// and no fewer ticks. The gap is the same for all.
+#[test]
+fn larger_payloads() {
+    for seed in 0..2_000 {
+        let rng = &mut Rng::new(seed);
+        let bits = any_bits(rng);
+        for byte_bits in (8..=12).chain([rng.below(256) as u8]) {
+            let bits = Bits { byte_bits: Some(byte_bits), ..bits };
+            let sendings: Vec<Sending> = (0..=254).map(|payload| bits.sending(payload)).collect();
+            for (payload, sending) in (0..).zip(&sendings) {
+                let bytes = bits.overhead + bits.least_payload.max(payload);
+                assert_eq!(sending.bits, u32::from(byte_bits) * u32::from(bytes), "seed {seed}");
+                assert_least_ticks(&bits, sending);
+            }
+            for pair in sendings.windows(2) {
+                assert!(pair[0].bits <= pair[1].bits && pair[0].ticks <= pair[1].ticks, "{pair:?}");
+            }
+            assert_eq!(bits.gap().bits, u32::from(bits.gap_bits), "seed {seed}");
+            assert_least_ticks(&bits, &bits.gap());
+        }
+    }
+}
+
+/// Both roundings together: the ticks are the least multiple of the resolution that holds the bits.
+fn assert_least_ticks(bits: &Bits, sending: &Sending) {
+    let Sending { bits: sent, ticks } = *sending;
+    let holds = |ticks: u32| u64::from(ticks) * u64::from(bits.kbits) >= u64::from(sent) * 1_000;
+    assert!(ticks.is_multiple_of(bits.resolution) && holds(ticks), "{bits:?}, {sending:?}");
+    let fewer = ticks.checked_sub(bits.resolution);
+    assert!(!fewer.is_some_and(holds), "{bits:?}, {sending:?}");
+}
+
 #[test]
 fn frames_and_rule_word_by_word() {
-    let mut compared = 0;
+    let mut compared: BTreeMap<Option<u8>, usize> = BTreeMap::new();
     for seed in 0..20_000 {
         let rng = &mut Rng::new(seed);
         let plan = generate::plan_file(rng);
@@ -187,10 +269,12 @@ fn frames_and_rule_word_by_word() {
             }
             Ok(placed) => assert_eq!(rows[..bus.frames], placed, "seed {seed}"),
         }
-        compared += 1;
+        *compared.entry(read.bits.byte_bits).or_default() += 1;
     }
-    println!("{compared} plans compared");
-    assert!(compared > 1_000);
+    println!("plans compared, by the bits of a byte: {compared:?}");
+    for byte_bits in [None].into_iter().chain((8..=12).map(Some)) {
+        assert!(compared.get(&byte_bits).is_some_and(|&plans| plans > 100), "{byte_bits:?}");
+    }
 }
 
 /// All messages, one frame for each pair, with the greatest of the releases.
@@ -353,7 +437,9 @@ fn any_bytes() {
         let _ = checked(&generate::job_a().bytes(), &file);
         let _ = Station::begin(&file, &file, [Some(0); 16]);
     }
-    let many_modules = [[1; 17].as_slice(), &[2, 1], &[3; 2_000_000], &[0]].concat();
-    let refusal = Refusal { number: 2, place: 3 };
-    assert_eq!(make(&many_modules, &mut [OLD_ROW; MOST_FRAMES], &mut []), Err(refusal));
+    for bus in [[BUS; 17].as_slice(), &[BUS_WITH_BYTE_BITS; 18]] {
+        let many_modules = [bus, &[2, 1], &[3; 2_000_000], &[0]].concat();
+        let refusal = Refusal { number: 2, place: 3 };
+        assert_eq!(make(&many_modules, &mut [OLD_ROW; MOST_FRAMES], &mut []), Err(refusal));
+    }
 }

@@ -1,21 +1,23 @@
 //! Faults: in bytes, and against one rule at a time.
 
-use super::draft::Draft;
+use super::draft::{Draft, bus_record};
+use super::plans::any_bits;
 use super::random::Rng;
 use super::tables::Made;
 use crate::checker::DataRow;
 use crate::plan::{Connection, Mode};
-use crate::records::BODY_LENGTHS;
+use crate::records::{BODY_LENGTHS, BUS_WITH_BYTE_BITS, NODES, record_length};
 use crate::{MOST_CONNECTIONS, MOST_INVOCATIONS, MOST_MODES, MOST_MODULES, MOST_TASKS};
 
-/// Flips, cuts, insertions; whole records taken out, doubled or given another kind.
+/// Flips, cuts, insertions; whole records taken out, doubled or given another kind; a bus record in front
+/// of another record or in its place.
 pub fn damage_bytes(rng: &mut Rng, file: &mut Vec<u8>) {
     let starts = record_starts(file);
-    let record = rng.below(starts.len());
+    let record = below_or_few(rng, starts.len(), 3);
     let start = starts[record];
     let stop = starts.get(record + 1).copied().unwrap_or(file.len());
-    let at = rng.below(file.len() + 1);
-    match rng.below(8) {
+    let at = below_or_few(rng, file.len() + 1, FIRST_BYTES);
+    match rng.below(10) {
         0 => flip(rng, file),
         1 => file.truncate(at),
         2 => file.insert(at, rng.number() as u8),
@@ -26,8 +28,18 @@ pub fn damage_bytes(rng: &mut Rng, file: &mut Vec<u8>) {
             let copy = file[start..stop].to_vec();
             drop(file.splice(start..start, copy));
         }
+        7 | 8 => drop(file.splice(start..rng.pick(&[start, stop]), bus_record(&any_bits(rng)))),
         _ => file[start..stop].iter_mut().take(1).for_each(|kind| *kind = rng.below(22) as u8),
     }
+}
+
+/// The longest bus record and the nodes.
+const FIRST_BYTES: usize = record_length(BUS_WITH_BYTE_BITS) + record_length(NODES);
+
+/// Long files, too, are damaged near their beginning.
+fn below_or_few(rng: &mut Rng, limit: usize, few: usize) -> usize {
+    let limit = if rng.one_in(2) { limit.min(few) } else { limit };
+    rng.below(limit)
 }
 
 fn flip(rng: &mut Rng, file: &mut [u8]) {
@@ -120,7 +132,7 @@ fn unknown_name(rng: &mut Rng, draft: &mut Draft) {
 fn number_out_of_range(rng: &mut Rng, draft: &mut Draft) {
     let period = rng.pick(&[0, 1_000_001, u32::MAX]);
     let bits = &mut draft.bits;
-    match rng.below(12) {
+    match rng.below(13) {
         0 => bits.kbits = rng.pick(&[0, 100_001, u32::MAX]),
         1 => bits.overhead = rng.pick(&[65, u16::MAX]),
         2 => bits.least_payload = rng.pick(&[255, u16::MAX]),
@@ -135,6 +147,7 @@ fn number_out_of_range(rng: &mut Rng, draft: &mut Draft) {
             change(rng, &mut draft.tasks, |task| task.size = size);
         }
         10 => change(rng, &mut draft.tasks, |task| task.worst_time = period),
+        11 => bits.byte_bits = Some(rng.pick(&[0, 7, 13, 255])),
         _ => change(rng, &mut draft.invocations, |run| run.rate = 0),
     }
 }

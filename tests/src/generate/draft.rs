@@ -2,10 +2,10 @@
 
 use crate::bus::ControlRow;
 use crate::checker::{DataRow, read_control_row, read_data_row};
-use crate::plan::{Bits, Connection, Invocation, Mode, Module, Plan, Task};
+use crate::plan::{Bits, Connection, Invocation, Mode, Module, Task};
 use crate::records::{
-    BUS, CONNECTION, CONTROL_ROW, DATA_ROW, END, INVOCATION, MODE, MODULE, NODES, TABLE,
-    TABLE_FILE, TASK, outline,
+    BUS, BUS_WITH_BYTE_BITS, CONNECTION, CONTROL_ROW, DATA_ROW, END, INVOCATION, MODE, MODULE,
+    NODES, TABLE, TABLE_FILE, TASK, outline,
 };
 
 #[derive(Clone, Debug, Default)]
@@ -22,7 +22,7 @@ pub struct Draft {
 impl Draft {
     pub fn bytes(&self) -> Vec<u8> {
         let mut file = Vec::with_capacity(1_024);
-        self.write_bits(&mut file);
+        file.extend(bus_record(&self.bits));
         file.extend([NODES, self.nodes]);
         self.modules.iter().for_each(|module| file.extend([MODULE, module.node]));
         for mode in &self.modes {
@@ -45,14 +45,9 @@ impl Draft {
         file
     }
 
-    fn write_bits(&self, file: &mut Vec<u8>) {
-        file.push(BUS);
-        file.extend(self.bits.kbits.to_le_bytes());
-        file.extend(self.bits.overhead.to_le_bytes());
-        file.extend(self.bits.least_payload.to_le_bytes());
-        file.extend(self.bits.largest_payload.to_le_bytes());
-        file.extend(self.bits.gap_bits.to_le_bytes());
-        file.extend(self.bits.resolution.to_le_bytes());
+    pub fn with_byte_bits(mut self, byte_bits: Option<u8>) -> Draft {
+        self.bits.byte_bits = byte_bits;
+        self
     }
 
     pub fn node_of_task(&self, task: usize) -> u8 {
@@ -60,18 +55,17 @@ impl Draft {
     }
 }
 
-impl From<&Plan> for Draft {
-    fn from(plan: &Plan) -> Draft {
-        Draft {
-            bits: plan.bits,
-            nodes: plan.nodes,
-            modules: plan.modules.to_vec(),
-            modes: plan.modes.to_vec(),
-            tasks: plan.tasks.to_vec(),
-            invocations: plan.invocations.to_vec(),
-            connections: plan.connections.to_vec(),
-        }
-    }
+/// Of kind 9 where a byte's bits are said, else of kind 1.
+pub fn bus_record(bits: &Bits) -> Vec<u8> {
+    let mut record = vec![if bits.byte_bits.is_some() { BUS_WITH_BYTE_BITS } else { BUS }];
+    record.extend(bits.kbits.to_le_bytes());
+    record.extend(bits.overhead.to_le_bytes());
+    record.extend(bits.least_payload.to_le_bytes());
+    record.extend(bits.largest_payload.to_le_bytes());
+    record.extend(bits.gap_bits.to_le_bytes());
+    record.extend(bits.resolution.to_le_bytes());
+    record.extend(bits.byte_bits);
+    record
 }
 
 #[derive(Clone, Debug, Default, PartialEq, Eq)]
@@ -130,6 +124,7 @@ pub fn job_a() -> Draft {
             largest_payload: 254,
             gap_bits: 10,
             resolution: 1,
+            byte_bits: None,
         },
         nodes: 2,
         modules: vec![Module { node: 0 }, Module { node: 1 }],
@@ -156,6 +151,7 @@ pub fn job_j() -> Draft {
             largest_payload: 254,
             gap_bits: 0,
             resolution: 1,
+            byte_bits: None,
         },
         nodes: 4,
         modules: (0..4).map(|node| Module { node }).collect(),

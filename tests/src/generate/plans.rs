@@ -191,7 +191,13 @@ fn loose_bits() -> Bits {
         largest_payload: 254,
         gap_bits: 0,
         resolution: 1,
+        byte_bits: None,
     }
+}
+
+/// Kind 9 as often as kind 1, and 8 bits in both.
+fn any_byte_bits(rng: &mut Rng) -> Option<u8> {
+    rng.one_in(2).then(|| rng.often_extreme(8, 12) as u8)
 }
 
 /// A bus that is loaded from little to a bit too much.
@@ -202,20 +208,18 @@ fn fitting_bits(rng: &mut Rng, draft: &Draft) -> Bits {
     let rows = (asked.frames + asked.control.len()) as u32;
     let room = asked.period / rows;
     let time = (room * rng.pick(&[1, 2, 4, 7, 9]) / 10).max(1);
-    let resolution = resolution_within(rng, asked.period, time);
-    let least_payload = rng.pick(&[0, 0, 1, 4, 8]);
-    let overhead = rng.pick(&[0, 0, 1, 8, 64]);
-    let bytes = u32::from(overhead) + u32::from(least_payload.max(8));
-    let kbits = (8_000 * bytes).div_ceil(time).clamp(1, 100_000);
-    let gap_time = rng.pick(&[0, 0, time / 8, time / 3]);
-    Bits {
-        kbits,
-        overhead,
-        least_payload,
+    let bits = Bits {
+        overhead: rng.pick(&[0, 0, 1, 8, 64]),
+        least_payload: rng.pick(&[0, 0, 1, 4, 8]),
         largest_payload: rng.pick(&[254, 254, 64, 16]),
-        gap_bits: (u64::from(kbits) * u64::from(gap_time) / 1_000).min(1_000) as u16,
-        resolution,
-    }
+        resolution: resolution_within(rng, asked.period, time),
+        byte_bits: any_byte_bits(rng),
+        ..loose_bits()
+    };
+    let kbits = (1_000 * bits.sending(8).bits).div_ceil(time).clamp(1, 100_000);
+    let gap_time = rng.pick(&[0, 0, time / 8, time / 3]);
+    let gap_bits = (u64::from(kbits) * u64::from(gap_time) / 1_000).min(1_000) as u16;
+    Bits { kbits, gap_bits, ..bits }
 }
 
 fn resolution_within(rng: &mut Rng, period: u32, time: u32) -> u32 {
@@ -299,7 +303,7 @@ fn frames_near_limit(rng: &mut Rng) -> Draft {
     let frames =
         if rng.one_in(3) { rng.between(257, most) } else { rng.between(most - 2, most + 2) };
     let rates = rates_for(rng, frames);
-    let mut draft = plan_with_rates(DIVISIBLE, &rates);
+    let mut draft = plan_with_rates(DIVISIBLE, &rates).with_byte_bits(any_byte_bits(rng));
     if rng.one_in(2) {
         draft = on_all_nodes(draft);
     }
@@ -325,49 +329,57 @@ fn rates_for(rng: &mut Rng, frames: u32) -> Vec<u16> {
     rates
 }
 
-fn extreme_bits(rng: &mut Rng) -> Draft {
-    let mut draft = plan_with_rates(DIVISIBLE, &[1, 2, 3]);
+/// Each number anywhere in its range, often at an end of it.
+pub fn any_bits(rng: &mut Rng) -> Bits {
     let largest_payload = rng.often_extreme(1, 254);
-    draft.bits = Bits {
+    Bits {
         kbits: rng.often_extreme(1, 100_000),
         overhead: rng.often_extreme(0, 64) as u16,
         least_payload: rng.often_extreme(0, largest_payload) as u16,
         largest_payload: largest_payload as u16,
         gap_bits: rng.often_extreme(0, 1_000) as u16,
-        resolution: rng.pick(&[1, 1, 3, 7, 13, 720, 1_000]),
-    };
+        resolution: rng.often_extreme(1, 1_000),
+        byte_bits: any_byte_bits(rng),
+    }
+}
+
+fn extreme_bits(rng: &mut Rng) -> Draft {
+    let mut draft = plan_with_rates(DIVISIBLE, &[1, 2, 3]);
+    draft.bits = any_bits(rng);
+    draft.bits.resolution = rng.pick(&[1, 1, 3, 7, 13, 720, 1_000]);
     draft.tasks[0].size = rng.between(1, 8) as u8;
     draft
 }
 
 /// Job B: the sending time just fits between worst time and deadline, or just not.
 fn tight_window(rng: &mut Rng) -> Draft {
-    let mut draft = job_a();
-    draft.tasks[0].worst_time = rng.between(19_902, 19_907);
+    let mut draft = job_a().with_byte_bits(any_byte_bits(rng));
     draft.bits.resolution = rng.pick(&[1, 1, 2, 4, 8]);
     draft.bits.gap_bits = rng.pick(&[0, 10, 1_000]);
+    let size = u32::from(draft.tasks[0].size);
+    let taken = draft.bits.sending(size).ticks + draft.bits.gap().ticks;
+    draft.tasks[0].worst_time = rng.between(19_998, 20_003) - taken;
     draft
 }
 
 /// C is the bus period, or one tick beside it.
 fn control_near_period(rng: &mut Rng) -> Draft {
-    let mut draft = job_a();
-    let period = rng.pick(&[72, 100, 240, 600, 1_000]);
+    let mut draft = job_a().with_byte_bits(any_byte_bits(rng));
+    let left: u16 = rng.pick(&[0, 28, 168, 528, 928]);
+    let period = draft.bits.sending(1).ticks + u32::from(left);
     for mode in &mut draft.modes {
         (mode.period, mode.switch_period) = (period, period);
     }
     draft.invocations.iter_mut().for_each(|run| run.rate = 1);
     draft.tasks.iter_mut().for_each(|task| task.worst_time = 1);
-    let control = draft.bits.sending_time(1);
-    let left = period.saturating_sub(control);
-    draft.bits.gap_bits = rng.pick(&[left.saturating_sub(1), left, left + 1]).min(1_000) as u16;
+    draft.bits.gap_bits = rng.pick(&[left.saturating_sub(1), left, left + 1]);
     draft
 }
 
 /// Periods whose common multiple does not fit into a machine number.
 fn long_common_multiple(rng: &mut Rng) -> Draft {
     let primes = [999_983, 999_979, 999_961, 999_959, 999_953, 999_931, 65_537, 65_536];
-    let mut draft = plan_with_rates(DIVISIBLE, &[1; 8]);
+    let mut draft = plan_with_rates(DIVISIBLE, &[1; 8]).with_byte_bits(any_byte_bits(rng));
     draft.nodes = 2;
     draft.modules = (0..9).map(|module| Module { node: u8::from(module == 8) }).collect();
     draft.modes = (0..9)
@@ -401,7 +413,7 @@ fn any_quick_runs(rng: &mut Rng) -> Draft {
     let all_alike = rng.one_in(3);
     let mut rate = || if all_alike { quickest } else { rng.pick(&rates) };
     let rates: Vec<u16> = (0..tasks).map(|_| rate()).collect();
-    quick_runs(period, &rates)
+    quick_runs(period, &rates).with_byte_bits(any_byte_bits(rng))
 }
 
 /// As many frames as may be, or almost, in a cycle that is short enough to be played: all tasks send in
@@ -409,7 +421,8 @@ fn any_quick_runs(rng: &mut Rng) -> Draft {
 pub fn crowded_cycle(rng: &mut Rng) -> Draft {
     let tasks = rng.pick(&[8, 16, MOST_TASKS - 1]);
     let often = MOST_FRAMES / tasks;
-    quick_runs(((tasks + 2) * often) as u32, &vec![often as u16; tasks])
+    let period = ((tasks + 2) * often) as u32;
+    quick_runs(period, &vec![often as u16; tasks]).with_byte_bits(any_byte_bits(rng))
 }
 
 /// A full plan with one list a thing shorter or longer.

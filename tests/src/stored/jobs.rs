@@ -31,6 +31,9 @@ fn made() -> Vec<Case> {
         Case::make(&[], MOST_FRAMES, PLENTY).called("D"),
         make("E", &off_the_resolution),
         make("J", &job_j()),
+        make("A with 10 bits to the byte", &a.with_byte_bits(Some(10))),
+        make("B with 10 bits and 19870", &with_worst_time(19_870).with_byte_bits(Some(10))),
+        make("B with 10 bits and 19871", &with_worst_time(19_871).with_byte_bits(Some(10))),
     ]
 }
 

@@ -7,7 +7,8 @@ const VECTORS: &str = include_str!("../../vectors/make.txt");
 /// Our own plans, each behind its length in four bytes: the empty file and every other proper prefix of
 /// job A's plan; files that break the order of kinds, with known and unknown kinds; each count, name,
 /// number and rule of refusals 2 to 5 within its limit and beyond it; plans with several faults; noise
-/// of 70,000 bytes, 34,990 modules, and job A's plan with one byte changed.
+/// of 70,000 bytes, 34,990 modules, and job A's plan with one byte changed; of a bus record of kind 9,
+/// cuts, places and numbers.
 const OWN: &[u8] = include_bytes!("../../vectors/plans");
 
 pub fn own() -> Vec<Case> {
