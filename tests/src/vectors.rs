@@ -16,10 +16,11 @@ use crate::{FrameRow, MOST_MODULES, MOST_NODES, MOST_TASKS, Refusal};
 const ASK_02: &str = include_str!("../vectors/ask-02.txt");
 pub const ASK_03: &str = include_str!("../vectors/ask-03.txt");
 const ASK_07: &str = include_str!("../vectors/ask-07.txt");
+const ASK_08: &str = include_str!("../vectors/ask-08.txt");
 const ASK_11: &str = include_str!("../vectors/ask-11.txt");
 
 /// A file for each request that has landed, in the order of landing.
-pub const REQUESTS: [&str; 4] = [ASK_03, ASK_02, ASK_11, ASK_07];
+pub const REQUESTS: [&str; 5] = [ASK_03, ASK_02, ASK_11, ASK_07, ASK_08];
 
 const OLD_BYTE: u8 = 0xa5;
 const OLD_ROW: FrameRow = FrameRow { task: 7, release: 77, deadline: 777, start: 7_777 };
