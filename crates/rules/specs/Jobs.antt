@@ -173,16 +173,20 @@ tableA =
     ∷ 0x12 ∷ 0x00 ∷ 0x60 ∷ 0xEA ∷ 0x00 ∷ 0x00 ∷ 0xF6 ∷ 0xE9 ∷ 0x00 ∷ 0x00 ∷ 0x56 ∷ 0xEA ∷ 0x00 ∷ 0x00
     ∷ 0x00 ∷ []
 
--- job A's table as records, and with one record put in another's place
-unfoldable pub rowsA : List Rec
-rowsA =
+-- its table as records, where the control row and each data row take so long, with these starts
+unfoldable pub rowsOf : ℕ → ℕ → ℕ → ℕ → ℕ → ℕ → List Rec
+rowsOf control time first second third fourth =
     rec 16 (60000 ∷ 1 ∷ 4 ∷ [])
-    ∷ rec 17 (0 ∷ 0 ∷ 72 ∷ [])
-    ∷ rec 18 (0 ∷ 20000 ∷ 19904 ∷ 20000 ∷ [])
-    ∷ rec 18 (0 ∷ 30000 ∷ 29904 ∷ 30000 ∷ [])
-    ∷ rec 18 (0 ∷ 40000 ∷ 39904 ∷ 40000 ∷ [])
-    ∷ rec 18 (0 ∷ 60000 ∷ 59894 ∷ 59990 ∷ [])
+    ∷ rec 17 (0 ∷ 0 ∷ control ∷ [])
+    ∷ rec 18 (0 ∷ 20000 ∷ first ∷ (first + time) ∷ [])
+    ∷ rec 18 (0 ∷ 30000 ∷ second ∷ (second + time) ∷ [])
+    ∷ rec 18 (0 ∷ 40000 ∷ third ∷ (third + time) ∷ [])
+    ∷ rec 18 (0 ∷ 60000 ∷ fourth ∷ (fourth + time) ∷ [])
     ∷ []
+
+-- job A's, and with one record put in another's place
+unfoldable pub rowsA : List Rec
+rowsA = rowsOf 72 96 19904 29904 39904 59894
 
 unfoldable pub tableAWith : ℕ → Rec → List ℕ
 tableAWith k r = file (set rowsA k r)
@@ -199,15 +203,7 @@ unfoldable pub planTen : List ℕ
 planTen = file (recordsAOf 10)
 
 unfoldable pub tableTen : List ℕ
-tableTen =
-    file
-    (rec 16 (60000 ∷ 1 ∷ 4 ∷ [])
-    ∷ rec 17 (0 ∷ 0 ∷ 90 ∷ [])
-    ∷ rec 18 (0 ∷ 20000 ∷ 19880 ∷ 20000 ∷ [])
-    ∷ rec 18 (0 ∷ 30000 ∷ 29880 ∷ 30000 ∷ [])
-    ∷ rec 18 (0 ∷ 40000 ∷ 39880 ∷ 40000 ∷ [])
-    ∷ rec 18 (0 ∷ 60000 ∷ 59870 ∷ 59990 ∷ [])
-    ∷ [])
+tableTen = file (rowsOf 90 120 19880 29880 39880 59870)
 
 -- Job J: X, Y, Z and what consumes them (reading 36), and the table that passes though the rule refuses.
 unfoldable pub recordsJ : List Rec
@@ -414,51 +410,19 @@ tableEqual =
 
 -- job A at 7,000 kbit/s: every time is rounded up to a tick, and ten bits of gap are two
 unfoldable pub tableRounded : List ℕ
-tableRounded =
-    file
-    (rec 16 (60000 ∷ 1 ∷ 4 ∷ [])
-    ∷ rec 17 (0 ∷ 0 ∷ 11 ∷ [])
-    ∷ rec 18 (0 ∷ 20000 ∷ 19986 ∷ 20000 ∷ [])
-    ∷ rec 18 (0 ∷ 30000 ∷ 29986 ∷ 30000 ∷ [])
-    ∷ rec 18 (0 ∷ 40000 ∷ 39986 ∷ 40000 ∷ [])
-    ∷ rec 18 (0 ∷ 60000 ∷ 59984 ∷ 59998 ∷ [])
-    ∷ [])
+tableRounded = file (rowsOf 11 14 19986 29986 39986 59984)
 
 -- job A with a least payload of 10 bytes
 unfoldable pub tableLeast : List ℕ
-tableLeast =
-    file
-    (rec 16 (60000 ∷ 1 ∷ 4 ∷ [])
-    ∷ rec 17 (0 ∷ 0 ∷ 144 ∷ [])
-    ∷ rec 18 (0 ∷ 20000 ∷ 19856 ∷ 20000 ∷ [])
-    ∷ rec 18 (0 ∷ 30000 ∷ 29856 ∷ 30000 ∷ [])
-    ∷ rec 18 (0 ∷ 40000 ∷ 39856 ∷ 40000 ∷ [])
-    ∷ rec 18 (0 ∷ 60000 ∷ 59846 ∷ 59990 ∷ [])
-    ∷ [])
+tableLeast = file (rowsOf 144 144 19856 29856 39856 59846)
 
 -- job A with every row as early as its release and the row before it allow: a passing table whose rows stop long before their deadlines
 unfoldable pub tableEarly : List ℕ
-tableEarly =
-    file
-    (rec 16 (60000 ∷ 1 ∷ 4 ∷ [])
-    ∷ rec 17 (0 ∷ 0 ∷ 72 ∷ [])
-    ∷ rec 18 (0 ∷ 20000 ∷ 1000 ∷ 1096 ∷ [])
-    ∷ rec 18 (0 ∷ 30000 ∷ 1106 ∷ 1202 ∷ [])
-    ∷ rec 18 (0 ∷ 40000 ∷ 21000 ∷ 21096 ∷ [])
-    ∷ rec 18 (0 ∷ 60000 ∷ 41000 ∷ 41096 ∷ [])
-    ∷ [])
+tableEarly = file (rowsOf 72 96 1000 1106 21000 41000)
 
 -- two rows at fault: record 2 stops late, record 5 starts before its release
 unfoldable pub tableTwoFaults : List ℕ
-tableTwoFaults =
-    file
-    (rec 16 (60000 ∷ 1 ∷ 4 ∷ [])
-    ∷ rec 17 (0 ∷ 0 ∷ 72 ∷ [])
-    ∷ rec 18 (0 ∷ 20000 ∷ 19905 ∷ 20001 ∷ [])
-    ∷ rec 18 (0 ∷ 30000 ∷ 29904 ∷ 30000 ∷ [])
-    ∷ rec 18 (0 ∷ 40000 ∷ 39904 ∷ 40000 ∷ [])
-    ∷ rec 18 (0 ∷ 60000 ∷ 40999 ∷ 41095 ∷ [])
-    ∷ [])
+tableTwoFaults = file (rowsOf 72 96 19905 29904 39904 40999)
 
 -- a first row that begins inside the gap behind the control row, and a last row that stops at P
 unfoldable pub tableInGap : List ℕ
