@@ -503,12 +503,8 @@ ownEntries =
     ∷ notMade (planAJoined ((0 ∷ 1 ∷ []) ∷ (0 ∷ 2 ∷ []) ∷ [])) plenty 3 14  -- 3 goes before 5
     ∷ notMade (planAWith 3 0 0) plenty 6 0  -- 6
     ∷ notMade (planAWith 5 2 20000) plenty 7 0  -- 7
-    ∷ notMade (file (recordsMany 1024)) plenty 9 0  -- 9
-    ∷ notMade (file (recordsMany 1023)) plenty 12 1022  -- 1,024 pairs are allowed
     ∷ walks planA 4 5  -- a step for each message
     ∷ walks (file recordsJ) 4 4  -- three tasks at one deadline
-    ∷ walks (file (recordsMany 65535)) 1025 1025  -- one pair too many ends it, whatever P
-    ∷ walks (file (changed (changed (changed recordsA 7 2 1) 9 2 60000) 10 2 60000 ++ (rec 7 (1 ∷ 0 ∷ []) ∷ []))) 1025 2050  -- two runs end at each deadline
     ∷ notMade (planAWith 0 3 3) plenty 10 0  -- 10: a message
     ∷ notMade (file (changed (recordsS 0 1 1 4) 0 3 1)) plenty 10 0  -- 10: a control payload, of two sending modules
     ∷ notMade (file (changed (recordsMany 5) 0 1 5)) plenty 11 0  -- 11
@@ -567,5 +563,15 @@ byteEntries =
     ∷ fails planTen (9 ∷ []) 20 0  -- no kind of a table
     ∷ []
 
+-- The entries with more than a thousand frames, which take the longest to compute; `longjobs` has them, so that no edit of a rule waits for them.
+unfoldable pub longEntries : List Entry
+longEntries =
+    notMade (file (recordsMany 1024)) plenty 9 0  -- 9
+    ∷ notMade (file (recordsMany 1023)) plenty 12 1022  -- 1,024 pairs are allowed
+    ∷ walks (file (recordsMany 65535)) 1025 1025  -- one pair too many ends it, whatever P
+    ∷ walks (file (changed (changed (changed recordsA 7 2 1) 9 2 60000) 10 2 60000 ++ (rec 7 (1 ∷ 0 ∷ []) ∷ []))) 1025 2050  -- two runs end at each deadline
+    ∷ []
+
+-- All others.
 unfoldable pub entries : List Entry
 entries = documentJobs ++ (limits ++ (ownEntries ++ byteEntries))

@@ -75,7 +75,7 @@ isBusRecord r = isBus (r .kind)
 abbrev pub numbersOf : Rec → List ℕ
 numbersOf r = r .numbers
 
--- A bus of either kind. Only kind 9 says how many bits a byte takes.
+-- A bus of either kind. Kind 9 says how many bits a byte takes; kind 1 means 8.
 unfoldable pub busOf : Rec → Bus
 busOf r =
     let b = r .numbers in
