@@ -14,7 +14,7 @@ use Rattle.rules.specs.Direct.{deadlineAfter, isStillAhead, nextOf, next
 use Rattle.rules.specs.LatestRelease.{numberedFrom, withDeadline, greatestDeadline, isCandidate, isLater, latestOf, isOther, lowered, taken, startOf, fits, place, timeAlone, latestRelease}
 use Rattle.rules.specs.Table.{recordBytes, heldIn, pairsIn, alone, isNumber, dataRow, headerBytes, controlBytes, dataBytes, tableBytes, startFor, rowsFrom, rowsThenZero, madeTable, tableFor, make}
 use Rattle.rules.specs.Checker.{controlRowOf, dataRowOf, tableOf, headerRight, controlAt, rowAt, sameControl, controlKept, nameOf, rowOf, isPairOf, sameName, heldBefore, isNew, namedIn, pairsOfRow, namesNew, timeKept, isReleasedBy, releaseKept, isDueFrom, deadlineKept, gapKept, lastKept, firstRow, lastRow, rowsKeep, shaped, timed, judged, checkFiles, holdsPair, rowHolding, checkedRow, check}
-use Rattle.rules.specs.Jobs.{lentRows, lentBytes, zeroRows, bytesOf, file, changed, recordsA, planA, planAWith, planAJoined, framesFrom, framesA, tableA, rowsOf, rowsA, tableAWith, framesB, recordsAOf, planTen, tableTen, recordsJ, tableJ, framesJ, recordsS, recordsMany, joins, recordsCounted, plenty, documentJobs, limits, tableAtC, tableCoarse, tableGap, tableEqual, tableRounded, tableLeast, tableEarly, tableTwoFaults, tableInGap, tableOff, framesOfFour, framesAtC, ownEntries, byteEntries, longEntries, entries, holds}
+use Rattle.rules.specs.Jobs.{lentRows, lentBytes, zeroRows, bytesOf, file, changed, recordsA, planA, planAWith, planAJoined, framesFrom, framesA, tableA, rowsOf, rowsA, tableAWith, framesB, busOfA, recordsAOf, planTen, tableTen, recordsJ, tableJ, framesJ, recordsS, recordsMany, joins, recordsCounted, plenty, documentJobs, limits, tableAtC, tableCoarse, tableGap, tableEqual, tableRounded, tableLeast, tableEarly, tableTwoFaults, tableInGap, tableOff, framesOfFour, framesAtC, ownEntries, byteEntries, longEntries, entries, holds}
 
 -- all that the jobs compute with
 unfoldable pub everything : Unit {0}
@@ -30,7 +30,7 @@ unfolding euclid gcd lcm ceil up down kinds known fields bodyLength isBus planFo
     rowsThenZero madeTable tableFor make controlRowOf dataRowOf tableOf headerRight controlAt rowAt sameControl controlKept
     nameOf rowOf isPairOf sameName heldBefore isNew namedIn pairsOfRow namesNew timeKept isReleasedBy releaseKept isDueFrom deadlineKept gapKept lastKept firstRow lastRow rowsKeep shaped timed judged checkFiles
     holdsPair rowHolding checkedRow check lentRows lentBytes zeroRows bytesOf file changed recordsA planA planAWith planAJoined framesFrom framesA tableA rowsOf rowsA tableAWith
-    framesB recordsAOf planTen tableTen recordsJ tableJ framesJ recordsS recordsMany joins recordsCounted plenty documentJobs limits tableAtC tableCoarse tableGap tableEqual tableRounded tableLeast tableEarly tableTwoFaults tableInGap
+    framesB busOfA recordsAOf planTen tableTen recordsJ tableJ framesJ recordsS recordsMany joins recordsCounted plenty documentJobs limits tableAtC tableCoarse tableGap tableEqual tableRounded tableLeast tableEarly tableTwoFaults tableInGap
     tableOff framesOfFour framesAtC ownEntries byteEntries longEntries entries
 everything = tt
 

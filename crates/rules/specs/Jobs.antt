@@ -195,9 +195,12 @@ tableAWith k r = file (set rowsA k r)
 unfoldable pub framesB : List FrameRow
 framesB = framesFrom 19894 19904 29904 39904 59894
 
--- Job A with a bus of kind 9 whose bytes take so many bits, and its table with ten (section 16).
+-- Job A with a bus of kind 9 whose bytes take so many bits, and its table with ten (rule 16.4).
+unfoldable pub busOfA : ℕ → Rec
+busOfA bits = rec 9 (1000 ∷ 8 ∷ 0 ∷ 254 ∷ 10 ∷ 1 ∷ bits ∷ [])
+
 unfoldable pub recordsAOf : ℕ → List Rec
-recordsAOf bits = set recordsA 0 (rec 9 (1000 ∷ 8 ∷ 0 ∷ 254 ∷ 10 ∷ 1 ∷ bits ∷ []))
+recordsAOf bits = set recordsA 0 (busOfA bits)
 
 unfoldable pub planTen : List ℕ
 planTen = file (recordsAOf 10)
@@ -542,6 +545,7 @@ byteEntries =
     made planTen 75 tableTen (framesA 19880 29880 39880 59870)  -- A with ten bits
     ∷ made (file (changed (recordsAOf 10) 7 2 19870)) 75 tableTen (framesFrom 19870 19880 29880 39880 59870)  -- B with ten bits
     ∷ notMade (file (changed (recordsAOf 10) 7 2 19871)) 75 12 3
+    ∷ sends (busOfA 10) 1 90 90 ∷ sends (busOfA 10) 4 120 120  -- A's control row, A's data rows
     ∷ passes planTen tableTen (framesA 19880 29880 39880 59870)
     ∷ fails planTen tableA 22 1  -- the table of eight bits
     ∷ sends (rec 1 (1000 ∷ 8 ∷ 0 ∷ 254 ∷ 10 ∷ 1 ∷ [])) 4 96 96  -- kind 1 means eight
