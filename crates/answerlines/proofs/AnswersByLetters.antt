@@ -2,13 +2,13 @@
 use mathlib.Core.Path.{_≡_, refl}
 use mathlib.Core.List.{[], _∷_}
 use lib.ListN.{replicate, set}
-use Rattle.text.specs.Text.{decimal, digits}
+use Rattle.text.specs.Text.{decimal, digits, numberedLine, texts}
 use Rattle.stationnodes.specs.Nodes.{zeroNode}
-use Rattle.answerlines.specs.Writing.{texts, shownAt, nodeShown, shownLine, numberedLine, afterLine, unreadableLine}
+use Rattle.answerlines.specs.Writing.{shownAt, nodeShown, shownLine, afterLine}
 
 -- everything that the examples open
 everything : Unit {0}
-unfolding decimal digits texts shownAt nodeShown shownLine numberedLine afterLine unreadableLine
+unfolding decimal digits texts shownAt nodeShown shownLine numberedLine afterLine
 everything = tt
 
 -- `shown -`
@@ -25,8 +25,3 @@ two-shown = refl
 after-some : afterLine 29499 ≡ 97 ∷ 102 ∷ 116 ∷ 101 ∷ 114 ∷ 32 ∷ 50 ∷ 57 ∷ 52 ∷ 57 ∷ 57 ∷ 10 ∷ []
 unfolding everything
 after-some = refl
-
--- `unreadable line 3`
-unreadable-third : unreadableLine 3 ≡ 117 ∷ 110 ∷ 114 ∷ 101 ∷ 97 ∷ 100 ∷ 97 ∷ 98 ∷ 108 ∷ 101 ∷ 32 ∷ 108 ∷ 105 ∷ 110 ∷ 101 ∷ 32 ∷ 51 ∷ 10 ∷ []
-unfolding everything
-unreadable-third = refl

@@ -6,22 +6,13 @@ use lib.ListN.{getD}
 use Prim.Native.Nat.{ℕ, zero, suc}
 use Rattle.laws.specs.Lists.{all, upTo}
 use Rattle.rules.specs.Limits.{mostNodes, mostTasks}
-use Rattle.text.specs.Text.{decimal, lineFeed, refusedLine}
+use Rattle.text.specs.Text.{lineFeed, marked, numberedLine, refusedLine, texts}
 use Rattle.answers.specs.Refusals.{numberOf, placeOf}
 use Rattle.answers.specs.declared.Refusal.{Refusal}
 use Rattle.stationmoves.specs.declared.Said.{Said}
 use Rattle.stationmoves.specs.declared.Said.the-variants.{Control, Data, Quiet, Refused}
 use Rattle.stationnodes.specs.Nodes.{noNode}
 use Rattle.stationnodes.specs.declared.Node.{Node}
-
--- the texts f 0, .., f (n - 1), one behind the other
-unfoldable pub texts : (ℕ → List ℕ) → ℕ → List ℕ
-texts f zero = []
-texts f (suc n) = texts f n ++ f n
-
--- a number behind a mark
-abbrev pub marked : List ℕ → ℕ → List ℕ
-marked mark x = mark ++ decimal x
 
 -- ` NODE/TASK=VALUE`
 abbrev pub placeText : ℕ → ℕ → ℕ → List ℕ
@@ -65,18 +56,9 @@ tickedLine (Data row) nodes = shownLine nodes
 tickedLine Quiet nodes = shownLine nodes
 tickedLine (Refused why) nodes = refusalLine why
 
--- a word, a number and the line's end
-unfoldable pub numberedLine : List ℕ → ℕ → List ℕ
-numberedLine word n = marked word n ++ lineFeed
-
 -- `after K`
 unfoldable pub afterLine : ℕ → List ℕ
 afterLine k = numberedLine (97 ∷ 102 ∷ 116 ∷ 101 ∷ 114 ∷ 32 ∷ []) k
-
--- `unreadable line L`
-unfoldable pub unreadableLine : ℕ → List ℕ
-unreadableLine l =
-    numberedLine (117 ∷ 110 ∷ 114 ∷ 101 ∷ 97 ∷ 100 ∷ 97 ∷ 98 ∷ 108 ∷ 101 ∷ 32 ∷ 108 ∷ 105 ∷ 110 ∷ 101 ∷ 32 ∷ []) l
 
 -- `begun`
 unfoldable pub begunLine : List ℕ

@@ -5,26 +5,18 @@ ghost use lib.ListN.{length};
 ghost use lib.Seq.{sets};
 ghost use Rattle.laws.specs.Lists.{all, upTo};
 ghost use Rattle.rules.specs.Limits.{mostNodes, mostTasks};
-ghost use Rattle.answerlines.specs.Writing.{afterLine, begunLine, marked, nodeShown, numberedLine, placeShown, refusalLine, sameOn, samePlace, shownAt, shownLine, texts, tickedLine, unreadableLine};
+ghost use Rattle.text.specs.Text.{texts};
+ghost use Rattle.answerlines.specs.Writing.{afterLine, begunLine, nodeShown, placeShown, refusalLine, sameOn, samePlace, shownAt, shownLine, tickedLine};
 use answers::Refusal;
 use figures::both;
 use stationmoves::Said;
 use stationnodes::Node;
 use text::put_bytes;
-use text::put_decimal;
+use text::put_marked;
+use text::put_numbered;
 use text::put_refused;
 use units::NodeNo;
 use units::TaskNo;
-
-// A number behind a mark.
-fn put_marked(out: &mut [u8], at: usize, mark: &[u8], x: u64) -> usize
-    requires { ⌜ at + (length (now mark) + 20) ≤ 18446744073709551615 ⌝ }
-    ensures { λ r. ⌜ (now (out .exit) ≡ sets (now (out .entry)) at (marked (now (mark .entry)) x)) × (r ≡ at + length (marked (now (mark .entry)) x)) ⌝ }
-    ensures few { λ r. ⌜ r ≤ at + (length (now (mark .entry)) + 20) ⌝ }
-{
-    let number_at = put_bytes(&mut *out, at, mark);
-    put_decimal(&mut *out, number_at, x)
-}
 
 // A place, where it is not zero, with at most 63 bytes.
 fn put_place(out: &mut [u8], at: usize, n: usize, t: usize, value: u64) -> usize
@@ -103,29 +95,12 @@ pub fn put_ticked(out: &mut [u8], said: Said, nodes: [Node; NodeNo::MOST]) -> us
     }
 }
 
-fn put_numbered(out: &mut [u8], word: &[u8], number: u64) -> usize
-    requires { ⌜ length (now word) ≤ 20 ⌝ }
-    ensures { λ r. ⌜ (now (out .exit) ≡ sets (now (out .entry)) 0 (numberedLine (now (word .entry)) number)) × (r ≡ length (numberedLine (now (word .entry)) number)) ⌝ }
-    ensures few { λ r. ⌜ r ≤ 41 ⌝ }
-{
-    let end = put_marked(&mut *out, 0, word, number);
-    put_bytes(&mut *out, end, b"\n")
-}
-
 // The line `after K`.
 pub fn put_after(out: &mut [u8], ticks: u64) -> usize
     ensures { λ r. ⌜ (now (out .exit) ≡ sets (now (out .entry)) 0 (afterLine ticks)) × (r ≡ length (afterLine ticks)) ⌝ }
     ensures few { λ r. ⌜ r ≤ 41 ⌝ }
 {
     put_numbered(out, b"after ", ticks)
-}
-
-// The line `unreadable line L`.
-pub fn put_unreadable(out: &mut [u8], line: u64) -> usize
-    ensures { λ r. ⌜ (now (out .exit) ≡ sets (now (out .entry)) 0 (unreadableLine line)) × (r ≡ length (unreadableLine line)) ⌝ }
-    ensures few { λ r. ⌜ r ≤ 41 ⌝ }
-{
-    put_numbered(out, b"unreadable line ", line)
 }
 
 // The line `begun`.

@@ -18,17 +18,17 @@ use Rattle.linetable.specs.declared.Answer.the-variants.{Made, Refused}
 use Rattle.maker.specs.Making.{lentFor}
 use Rattle.linetable.specs.Making.{Making, Makes, heardMade, lengthOf, bufferLeft}
 use Rattle.linetable.proofs.Ways.{table-stored}
-use Rattle.text.specs.Text.{refusedLine, tooLongLine}
+use Rattle.text.specs.Text.{isShort, refusedLine, tooLongLine}
 use Rattle.text.proofs.Decimals.{refused-line-most}
 use Rattle.text.proofs.Fronts.{Front, front-counts}
 use Rattle.bustable.specs.Answer.{written, answerFor}
 
 pub too-long : (room : ℕ) (input : List ℕ) → 65536 < length input → answerFor room input ≡ tooLongLine
-unfolding answerFor
+unfolding answerFor isShort
 too-long room input h = rw (lt-leb (length input) 65536 h)
 
 not-too-long : (room : ℕ) (input : List ℕ) → length input ≤ 65536 → answerFor room input ≡ written (tableFor input room)
-unfolding answerFor
+unfolding answerFor isShort
 not-too-long room input h = rw (le-leb (length input) 65536 h)
 
 -- a table has room in what was lent for it

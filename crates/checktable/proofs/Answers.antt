@@ -1,10 +1,8 @@
 -- The three answers: the line for a long file, the line `passed`, the line for a refusal.
-use mathlib.Core.Bool.{Bool, true, false, _&&_}
 use mathlib.Core.List.{List}
 use mathlib.Core.Path.{_≡_, refl, sym, ap, ap₂, _∙_}
 use native.Mathlib.Omega.{arith}
 use lib.ListN.{length}
-use borrow.Author.Tests.{le-leb, lt-leb}
 use Prim.Native.Nat.{ℕ, _≤_, _<_}
 use Rattle.rules.specs.Limits.{mostFrames}
 use Rattle.io.specs.Counts.{Counts}
@@ -20,16 +18,12 @@ use Rattle.answers.specs.Refusals.{heard}
 use Rattle.checked.proofs.Rules.{enough-is}
 use Rattle.text.specs.Text.{passedLine, refusedLine, tooLongLine}
 use Rattle.text.proofs.Decimals.{refused-line-most}
-use Rattle.text.proofs.Fronts.{Front, front-counts}
-use Rattle.checktable.specs.Answer.{lineFor, isShort, answerFor}
+use Rattle.text.proofs.Fronts.{Front, first-long, front-counts, neither-long, second-long}
+use Rattle.checktable.specs.Answer.{lineFor, answerFor}
 
 -- what `respond` says of its result
 abbrev Responds : List ℕ → List ℕ → List ℕ → List ℕ → ℕ → Type 0
 Responds plan table old out n = Front (answerFor plan table) old out n × (53 ≤ length old → Counts n out)
-
-both-false : (a : Bool) → (a && false) ≡ false
-both-false true = refl
-both-false false = refl
 
 module _ (plan table old out : List ℕ) (n : ℕ) where
   too-long : answerFor plan table ≡ tooLongLine → Front tooLongLine old out n → Responds plan table old out n
@@ -37,17 +31,17 @@ module _ (plan table old out : List ℕ) (n : ℕ) where
   too-long e a = (rw e a, λ room. front-counts tooLongLine old out n a (omega arith))
 
   pub long-plan : 65536 < length plan → Front tooLongLine old out n → Responds plan table old out n
-  unfolding answerFor isShort
-  long-plan h a = too-long (rw (lt-leb (length plan) 65536 h)) a
+  unfolding answerFor
+  long-plan h a = too-long (first-long 65536 plan table (lineFor (checkFiles plan table)) h) a
 
   pub long-table : 65536 < length table → Front tooLongLine old out n → Responds plan table old out n
-  unfolding answerFor isShort
-  long-table h a = too-long (rw (lt-leb (length table) 65536 h, both-false)) a
+  unfolding answerFor
+  long-table h a = too-long (second-long 65536 plan table (lineFor (checkFiles plan table)) h) a
 
   module _ (p : length plan ≤ 65536) (t : length table ≤ 65536) (r : Checked) (h : Checks r (lentPassed plan table mostFrames)) where
     short : answerFor plan table ≡ lineFor (checkFiles plan table)
-    unfolding answerFor isShort
-    short = rw (le-leb (length plan) 65536 p, le-leb (length table) 65536 t)
+    unfolding answerFor
+    short = neither-long 65536 plan table (lineFor (checkFiles plan table)) p t
 
     says : heard (r .answer) ≡ verdict (checkFiles plan table)
     says = h .answered ∙ ap verdict (enough-is plan table mostFrames (omega arith))

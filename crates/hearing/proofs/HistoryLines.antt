@@ -1,78 +1,16 @@
 -- The lines of a history, one after the other.
-use mathlib.Core.Path.{_≡_, refl, sym, ap, _∙_}
-use mathlib.Core.Bool.{Bool, true, false, cond, not}
-use mathlib.Core.List.{List, [], _∷_}
-use native.Mathlib.Omega.{arith}
-use borrow.Author.Tests.{ltb-false}
-use lib.Dec.{eqb, ltb}
-use lib.ListN.{length, drop, take, length-drop}
-use lib.Seq.{drop-length, drop-drop}
-use Prim.Native.Nat.{ℕ, zero, suc, _+_, _-_, _≤_, _<_}
-use Rattle.text.specs.Text.{runOn}
-use Rattle.history.specs.Reading.{oneLine, lineEnd}
+use mathlib.Core.Path.{_≡_, refl, ap, _∙_}
+use mathlib.Core.Bool.{Bool, true, false, cond}
+use mathlib.Core.List.{List}
+use lib.ListN.{length, drop, take}
+use Prim.Native.Nat.{ℕ, _-_, _≤_, _<_}
+use Rattle.text.specs.Lines.{oneLine, lineEnd, linesOf, behindEnd}
+use Rattle.text.proofs.Runs.{drop-all, line-part, lines-here}
 use Rattle.station.specs.declared.Station.{Station}
 use Rattle.hearing.specs.declared.Heard.{Heard}
-use Rattle.hearing.specs.Heard.{inFront, orFeed, linesOf, behindEnd, heardLine, afterLines}
+use Rattle.hearing.specs.Heard.{heardLine, afterLines}
 
--- the first line, and those behind its line feed
-pub lines-more : (l : List ℕ) → 0 < length l → linesOf l ≡ oneLine l ∷ linesOf (drop (suc (length (oneLine l))) l)
-unfolding linesOf
-lines-more [] h = absurd (omega arith)
-lines-more (b ∷ l) h = feed (eqb b 10) (λ w. lines-more l w)
-  where
-    behind : (l : List ℕ) → (0 < length l → linesOf l ≡ oneLine l ∷ linesOf (drop (suc (length (oneLine l))) l))
-        → inFront b (linesOf l) ≡ (b ∷ oneLine l) ∷ linesOf (drop (suc (length (oneLine l))) l)
-    behind [] more = refl
-    behind (x ∷ l) more = ap (inFront b) (more (omega arith))
-
-    feed : (t : Bool) → (0 < length l → linesOf l ≡ oneLine l ∷ linesOf (drop (suc (length (oneLine l))) l))
-        → orFeed t b (linesOf l) ≡ runOn (not t) b (oneLine l) ∷ linesOf (drop (suc (length (runOn (not t) b (oneLine l)))) (b ∷ l))
-    feed true more = refl
-    feed false more = behind l more
-
--- the bytes of the first line stand at the front
-line-front : (l : List ℕ) → take (length (oneLine l)) l ≡ oneLine l
-line-front [] = refl
-line-front (b ∷ l) = feed (eqb b 10) (line-front l)
-  where
-    feed : (t : Bool) → take (length (oneLine l)) l ≡ oneLine l
-        → take (length (runOn (not t) b (oneLine l))) (b ∷ l) ≡ runOn (not t) b (oneLine l)
-    feed true e = refl
-    feed false e = ap (λ (r : List ℕ). b ∷ r) e
-
-pub line-part : (s : List ℕ) (at : ℕ) → take (lineEnd s at - at) (drop at s) ≡ oneLine (drop at s)
-unfolding lineEnd
-line-part s at =
-    let n : (at + length (oneLine (drop at s))) - at ≡ length (oneLine (drop at s)) = omega arith in
-    rw n (line-front (drop at s))
-
-drop-all : (i : ℕ) (l : List ℕ) → length l ≤ i → drop i l ≡ []
-drop-all zero [] h = refl
-drop-all zero (x ∷ l) h = absurd (omega arith)
-drop-all (suc i) [] h = refl
-drop-all (suc i) (x ∷ l) h = drop-all i l (omega arith)
-
-behind-end : (s : List ℕ) (end : ℕ) → drop (behindEnd s end) s ≡ drop (suc end) s
-behind-end s end = go (ltb end (length s)) refl
-  where
-    go : (b : Bool) → ltb end (length s) ≡ b → drop (cond b (suc end) (length s)) s ≡ drop (suc end) s
-    go true e = refl
-    go false e =
-        let h : length s ≤ end = ltb-false end (length s) e in
-        drop-length s ∙ sym (drop-all (suc end) s (omega arith))
-
-pub lines-here : (s : List ℕ) (at : ℕ) → at < length s → linesOf (drop at s) ≡ oneLine (drop at s) ∷ linesOf (drop (behindEnd s (lineEnd s at)) s)
-unfolding lineEnd
-lines-here s at h =
-    let some : 0 < length (drop at s) = rw (length-drop at s) (omega arith) in
-    let further : at + suc (length (oneLine (drop at s))) ≡ suc (at + length (oneLine (drop at s))) = omega arith in
-    lines-more (drop at s) some
-    ∙ ap (λ (l : List ℕ). oneLine (drop at s) ∷ linesOf l)
-    (drop-drop (suc (length (oneLine (drop at s)))) at s
-    ∙ ap (λ (k : ℕ). drop k s) further
-    ∙ sym (behind-end s (at + length (oneLine (drop at s)))))
-
--- ---- the loop: the lines from here on give the station after all of them
+-- the loop: the lines from here on give the station after all of them
 
 pub record Hearing (s : List ℕ) (first : Station) (from : ℕ) (st : Station) (at : ℕ) : Type 0 where
   pub same : afterLines (linesOf (drop at s)) st ≡ afterLines (linesOf (drop from s)) first
@@ -104,11 +42,3 @@ module _ {s : List ℕ} {first : Station} {from : ℕ} {st : Station} {at : ℕ}
   hearing-end w =
       let whole = g .same in
       rw (drop-all at s w) at whole
-
--- the next line begins further on
-pub behind-later : (s : List ℕ) {at end next : ℕ} → at < length s → at ≤ end → next ≡ behindEnd s end → at < next
-behind-later s {at} {end} {next} w h e = go (ltb end (length s)) e
-  where
-    go : (b : Bool) → next ≡ cond b (suc end) (length s) → at < next
-    go true q = omega arith
-    go false q = omega arith

@@ -1,8 +1,6 @@
--- The lines of a history's bytes, and the station after each.
+-- The lines of a history, and the station after each.
 use mathlib.Core.Bool.{Bool, true, false, cond}
 use mathlib.Core.List.{List, [], _∷_}
-use lib.Dec.{eqb, ltb}
-use lib.ListN.{length}
 use Prim.Native.Nat.{ℕ, zero, suc}
 use Rattle.stationruns.specs.Inputs.{noInput}
 use Rattle.stationruns.specs.declared.Input.{Input}
@@ -44,20 +42,3 @@ onward h rest = cond (h .goes) (rest (h .station)) (h .station)
 unfoldable pub afterLines : List (List ℕ) → Station → Station
 afterLines [] st = st
 afterLines (s ∷ lines) st = onward (heardLine st s) (afterLines lines)
-
--- each line ends with a line feed; the last may lack it
-abbrev pub inFront : ℕ → List (List ℕ) → List (List ℕ)
-inFront b [] = (b ∷ []) ∷ []
-inFront b (s ∷ lines) = (b ∷ s) ∷ lines
-
-abbrev pub orFeed : Bool → ℕ → List (List ℕ) → List (List ℕ)
-orFeed true b lines = [] ∷ lines
-orFeed false b lines = inFront b lines
-
-unfoldable pub linesOf : List ℕ → List (List ℕ)
-linesOf [] = []
-linesOf (b ∷ s) = orFeed (eqb b 10) b (linesOf s)
-
--- the place behind a line that ends at a place: a line feed stands there, or nothing
-abbrev pub behindEnd : List ℕ → ℕ → ℕ
-behindEnd s end = cond (ltb end (length s)) (suc end) (length s)

@@ -4,22 +4,24 @@ ghost use mathlib.Core.Path.{_≡_};
 ghost use Prim.Native.Nat.{_≤_};
 ghost use lib.ListN.{drop};
 ghost use Rattle.station.specs.Answers.{isRefused};
-ghost use Rattle.hearing.specs.Heard.{afterLines, afterQuiet, afterTick, behindEnd, heardLine, linesOf};
+ghost use Rattle.text.specs.Lines.{linesOf};
+ghost use Rattle.hearing.specs.Heard.{afterLines, afterQuiet, afterTick, heardLine};
 use answerlines::put_after;
 use answerlines::put_refusal;
 use answerlines::put_ticked;
-use answerlines::put_unreadable;
 use answerlines::same_shown;
 use answers::Refusal;
 use history::What;
 use history::input_of;
-use history::line_end;
 use history::read_line;
 use libc::STDOUT_FILENO;
 use station::Station;
 use stationmoves::Said;
 use stationnodes::Node;
 use stationruns::Input;
+use text::lines::behind_end;
+use text::lines::line_end;
+use text::put_unreadable;
 use units::NodeNo;
 
 // What comes of a line: the station after it, and whether the next one is read.
@@ -145,13 +147,6 @@ fn hear(station: Station, s: &[u8], number: u64) -> Heard
             }
         }
     }
-}
-
-// The place behind a line that ends at a place: behind its line feed, which the last line may lack.
-pub fn behind_end(s: &[u8], end: usize) -> usize
-    ensures { λ r. ⌜ r ≡ behindEnd (now (s .entry)) end ⌝ }
-{
-    if end < s.len() { end + 1 } else { s.len() }
 }
 
 // The lines from a place on, behind the first one.

@@ -2,12 +2,13 @@
 use mathlib.Core.Path.{_≡_, refl}
 use mathlib.Core.List.{[], _∷_}
 use Rattle.text.specs.Text.{readDecimal}
-use Rattle.history.specs.Reading.{behindWord, pairAt, isFree, goesOn, pairsAt, listAt, plain, noPlaces, withValue, readLine, lineEnd}
+use Rattle.history.specs.Reading.{pairAt, isFree, goesOn, pairsAt, listAt, plain, noPlaces, withValue, readLine}
+use Rattle.text.specs.Lines.{behindWord}
 use Rattle.history.specs.declared.What.the-variants.{Begin, Tick, Quiet, Unreadable}
 
 -- everything that the examples open
 everything : Unit {0}
-unfolding readDecimal behindWord pairAt isFree goesOn pairsAt listAt readLine lineEnd
+unfolding readDecimal behindWord pairAt isFree goesOn pairsAt listAt readLine
 everything = tt
 
 -- the examples

@@ -10,11 +10,12 @@ use Rattle.text.specs.Text.{isDigit, digitRun, valueFrom, within64, numberAt, r
 use Rattle.text.specs.declared.Number.{Number}
 use Rattle.text.specs.declared.Number.the-variants as number
 use Rattle.text.proofs.Reading.{digit-within}
-use Rattle.history.specs.Reading.{startsWith, behindWord, equalsSign, space, secondOf, behindEquals, behindFirst, pairAt, isFree, fits, withValue, digitAt, goesOn, wrongList, pairsWithin, pairsAt, noPlaces}
+use Rattle.history.specs.Reading.{equalsSign, space, secondOf, behindEquals, behindFirst, pairAt, isFree, fits, withValue, digitAt, goesOn, wrongList, pairsWithin, pairsAt, noPlaces}
 use Rattle.history.specs.declared.Pair.{Pair}
 use Rattle.history.specs.declared.Pair.the-variants as pair
-use Rattle.history.specs.declared.End.{End}
-use Rattle.history.specs.declared.End.the-variants.{At, Wrong}
+use Rattle.text.specs.Lines.{startsWith, behindWord}
+use Rattle.text.specs.declared.lines.End.{End}
+use Rattle.text.specs.declared.lines.End.the-variants.{At, Wrong}
 use Rattle.history.specs.declared.Places.{Places}
 use Rattle.history.specs.declared.Listed.{Listed}
 

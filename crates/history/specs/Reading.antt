@@ -5,7 +5,8 @@ use lib.Dec.{eqb, leb, ltb}
 use lib.ListN.{length, drop, getD, set, replicate}
 use Prim.Native.Nat.{ℕ, zero, suc, _+_, _%_}
 use Rattle.laws.specs.Loops.{stores}
-use Rattle.text.specs.Text.{isDigit, readDecimal, runOn}
+use Rattle.text.specs.Text.{isDigit, readDecimal}
+use Rattle.text.specs.Lines.{behindWord, isEnd}
 use Rattle.text.specs.declared.Number.{Number}
 use Rattle.text.specs.declared.Number.the-variants as number
 use Rattle.places.specs.Flags.{flagAt}
@@ -14,8 +15,8 @@ use Rattle.stationruns.specs.declared.Input.{Input}
 use Rattle.stationruns.specs.declared.Starting.{Starting}
 use Rattle.history.specs.declared.Pair.{Pair}
 use Rattle.history.specs.declared.Pair.the-variants as pair
-use Rattle.history.specs.declared.End.{End}
-use Rattle.history.specs.declared.End.the-variants.{At, Wrong}
+use Rattle.text.specs.declared.lines.End.{End}
+use Rattle.text.specs.declared.lines.End.the-variants.{At, Wrong}
 use Rattle.history.specs.declared.Places.{Places}
 use Rattle.history.specs.declared.Listed.{Listed}
 use Rattle.history.specs.declared.What.{What}
@@ -23,16 +24,6 @@ use Rattle.history.specs.declared.What.the-variants.{Begin, Tick, Quiet,
 use Rattle.history.specs.declared.Line.{Line}
 
 -- ---- words and numbers
-
--- the word stands at the front
-abbrev pub startsWith : List ℕ → List ℕ → Bool
-startsWith [] s = true
-startsWith (w ∷ ws) [] = false
-startsWith (w ∷ ws) (b ∷ s) = eqb b w && startsWith ws s
-
--- the place behind a word, if the word stands at a place
-unfoldable pub behindWord : List ℕ → ℕ → List ℕ → End
-behindWord s at word = cond (startsWith word (drop at s)) (At (at + length word)) Wrong
 
 abbrev pub equalsSign : List ℕ
 equalsSign = 61 ∷ []
@@ -128,10 +119,6 @@ modesAt s at = listAt s mostModules 255 at
 abbrev pub plain : What → Line
 plain what = record { what = what; results = noPlaces; modes = noPlaces }
 
-abbrev pub isEnd : List ℕ → End → Bool
-isEnd s Wrong = false
-isEnd s (At at) = eqb at (length s)
-
 -- modes end a line
 abbrev pub endedBy : List ℕ → What → Places → Listed → Line
 endedBy s what results modes =
@@ -186,15 +173,6 @@ unfoldable pub readLine : List ℕ → Line
 readLine s =
     behindOr (behindWord s 0 tickWord) (tickLine s)
     (behindOr (behindWord s 0 quietWord) (quietLine s) (behindOr (behindWord s 0 beginWord) (beginLine s) (plain Unreadable)))
-
--- the bytes in front of the first line feed
-abbrev pub oneLine : List ℕ → List ℕ
-oneLine [] = []
-oneLine (b ∷ s) = runOn (not (eqb b 10)) b (oneLine s)
-
--- where the line that begins at a place ends: at a line feed, or at the end
-unfoldable pub lineEnd : List ℕ → ℕ → ℕ
-lineEnd s from = from + length (oneLine (drop from s))
 
 -- ---- what a tick and a beginning are given by a line
 

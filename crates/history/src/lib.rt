@@ -1,10 +1,9 @@
 // A history's lines as they are read (docs/HISTORY.md); the answers are written by `answerlines`.
 ghost use mathlib.Core.Path.{_≡_};
-ghost use Prim.Native.Nat.{_≤_};
-ghost use lib.ListN.{length, replicate};
+ghost use lib.ListN.{replicate};
 ghost use Rattle.laws.specs.Loops.{stores};
 ghost use Rattle.rules.specs.Limits.{mostModules};
-ghost use Rattle.history.specs.Reading.{behindWord, beginLine, endedBy, fits, flagIn, goesOn, inputFrom, isEnd, isFree, lineEnd, listAt, modeIn, modesAt, noPlaces, pairAt, pairsAt, plain, quietLine, readLine, resultsAt, startingFrom, tickLine, withValue, wrongList};
+ghost use Rattle.history.specs.Reading.{beginLine, endedBy, fits, flagIn, goesOn, inputFrom, isFree, listAt, modeIn, modesAt, noPlaces, pairAt, pairsAt, plain, quietLine, readLine, resultsAt, startingFrom, tickLine, withValue, wrongList};
 use figures::both;
 use places::byte_at;
 use places::flag_at;
@@ -12,6 +11,9 @@ use places::flag_byte;
 use stationruns::Input;
 use stationruns::Starting;
 use text::Number;
+use text::lines::End;
+use text::lines::behind;
+use text::lines::is_end;
 use units::ModuleNo;
 use units::TaskNo;
 
@@ -24,12 +26,6 @@ const LARGEST_MODE: u64 = 255;
 pub enum Pair {
     Named { place: u64, value: u64, next: usize },
     None,
-}
-
-// The place behind a part of a line, if that part is there.
-pub enum End {
-    At(usize),
-    Wrong,
 }
 
 // What a list gives: at each place a value, which counts where its flag is set. A list of modules uses the first places.
@@ -83,25 +79,6 @@ impl Places {
         }
         self
     }
-}
-
-// The place behind a word, if the word stands at a place.
-fn behind(s: &[u8], at: usize, word: &[u8]) -> End
-    ensures { λ r. ⌜ r ≡ behindWord (now (s .entry)) at (now (word .entry)) ⌝ }
-{
-    let mut next = at;
-    let mut i = 0;
-    while i < word.len() {
-        if s.len() <= next {
-            return End::Wrong;
-        }
-        if s[next] != word[i] {
-            return End::Wrong;
-        }
-        next += 1;
-        i += 1;
-    }
-    End::At(next)
 }
 
 fn pair_at(s: &[u8], at: usize) -> Pair
@@ -225,15 +202,6 @@ fn without_lists(what: What) -> Line
     }
 }
 
-fn is_end(s: &[u8], end: End) -> bool
-    ensures { λ r. ⌜ r ≡ isEnd (now (s .entry)) end ⌝ }
-{
-    match end {
-        End::Wrong => false,
-        End::At(next) => next == s.len(),
-    }
-}
-
 // A line that ends with its modes.
 fn ended_by(s: &[u8], at: usize, what: What, results: Places) -> Line
     ensures { λ r. ⌜ r ≡ endedBy (now (s .entry)) what results (modesAt (now (s .entry)) at) ⌝ }
@@ -304,21 +272,6 @@ pub fn read_line(s: &[u8]) -> Line
             },
         },
     }
-}
-
-// Where the line that begins at a place ends: at a line feed, or at the end.
-pub fn line_end(s: &[u8], from: usize) -> usize
-    ensures { λ r. ⌜ r ≡ lineEnd (now (s .entry)) from ⌝ }
-    ensures within { λ r. ⌜ (from ≤ length (now (s .entry)) → r ≤ length (now (s .entry))) × (from ≤ r) ⌝ }
-{
-    let mut at = from;
-    while at < s.len() {
-        if s[at] == 10 {
-            return at;
-        }
-        at += 1;
-    }
-    at
 }
 
 // A mode has 8 bits, as `modes` reads it: the remainder is the value itself.

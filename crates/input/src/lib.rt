@@ -18,8 +18,8 @@ pub fn file_room() -> [u8; 65537]
     [0; 65537]
 }
 
-// The same for a history.
-pub fn history_room() -> [u8; 262145]
+// The same for a text: a history, or a sheet.
+pub fn text_room() -> [u8; 262145]
     ensures { λ r. ⌜ (r ≡ zeros 262145) × (262145 ≡ length r) ⌝ }
 {
     [0; 262145]

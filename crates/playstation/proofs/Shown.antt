@@ -16,7 +16,7 @@ use Rattle.beginning.specs.Begins.{stationLaid}
 use Rattle.beginning.proofs.Shown.{shows-told, history-allowed}
 use Rattle.history.specs.Reading.{readLine, startingFrom}
 use Rattle.history.specs.declared.What.the-variants.{Begin}
-use Rattle.hearing.specs.Heard.{linesOf}
+use Rattle.text.specs.Lines.{linesOf}
 use Rattle.hearing.proofs.Calls.{callsOf, after-lines}
 use Rattle.playstation.specs.Played.{played}
 

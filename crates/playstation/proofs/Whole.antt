@@ -11,13 +11,14 @@ use Rattle.stationruns.specs.declared.Starting.{Starting}
 use Rattle.station.specs.Memory.{notBegun}
 use Rattle.station.specs.declared.Station.{Station}
 use Rattle.beginning.specs.Begins.{stationFor}
-use Rattle.history.specs.Reading.{oneLine, readLine, lineEnd, startingFrom}
+use Rattle.history.specs.Reading.{readLine, startingFrom}
 use Rattle.history.specs.declared.Line.{Line}
 use Rattle.history.specs.declared.What.{What}
 use Rattle.history.specs.declared.What.the-variants.{Begin, Tick, Quiet, Unreadable}
 use Rattle.playstation.specs.Played.{begunBy, playedLines, played}
-use Rattle.hearing.specs.Heard.{afterLines, linesOf, behindEnd}
-use Rattle.hearing.proofs.HistoryLines.{line-part, lines-here}
+use Rattle.hearing.specs.Heard.{afterLines}
+use Rattle.text.specs.Lines.{oneLine, lineEnd, linesOf, behindEnd}
+use Rattle.text.proofs.Runs.{line-part, lines-here}
 
 pub played-empty : (plan table s : List ℕ) {st : Station} → length s ≡ 0 → st ≡ notBegun → st ≡ played plan table s
 unfolding played linesOf

@@ -6,7 +6,8 @@ use Rattle.stationruns.specs.Inputs.{startingAt}
 use Rattle.station.specs.Memory.{notBegun}
 use Rattle.station.specs.declared.Station.{Station}
 use Rattle.beginning.specs.Begins.{stationFor}
-use Rattle.hearing.specs.Heard.{afterLines, linesOf}
+use Rattle.hearing.specs.Heard.{afterLines}
+use Rattle.text.specs.Lines.{linesOf}
 use Rattle.history.specs.Reading.{readLine, startingFrom}
 use Rattle.history.specs.declared.Line.{Line}
 use Rattle.history.specs.declared.What.{What}

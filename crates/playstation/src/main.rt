@@ -6,23 +6,23 @@ ghost use Rattle.playstation.specs.Played.{played};
 use answerlines::put_begun;
 use answers::Verdict;
 use figures::both;
-use hearing::behind_end;
 use hearing::hear_lines;
 use hearing::say_refusal;
 use hearing::say_unreadable;
 use history::What;
-use history::line_end;
 use history::read_line;
 use history::starting_of;
 use input::Input;
 use input::file_room;
-use input::history_room;
 use input::read_argument;
 use input::read_open;
+use input::text_room;
 use libc::STDERR_FILENO;
 use libc::STDIN_FILENO;
 use libc::STDOUT_FILENO;
 use station::Station;
+use text::lines::behind_end;
+use text::lines::line_end;
 
 fn say_begun() {
     let mut out = [0u8; 64];
@@ -97,7 +97,7 @@ fn main() {
     let Input::Bytes(m) = read_argument(2, b"TABLE", &mut table) else {
         return;
     };
-    let mut history = history_room();
+    let mut history = text_room();
     let Input::Bytes(k) = read_open(STDIN_FILENO, b"standard input", &mut history) else {
         return;
     };

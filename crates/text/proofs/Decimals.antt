@@ -10,7 +10,8 @@ use borrow.Author.Tests.{le-leb}
 use Prim.Native.Nat.{ℕ, zero, suc, _+_, _-_, _*_, _/_, _%_, _^_, _≤_, _<_}
 use Rattle.laws.specs.Lists.{all}
 use Rattle.laws.proofs.Lists.{all-snoc}
-use Rattle.text.specs.Text.{digitsWithin, digits, decimal, atWord, lineFeed, refusedLine, isDigit, runOn, digitRun, valueFrom}
+use Rattle.text.specs.Text.{digitsWithin, digits, decimal, atWord, lineFeed, numberedLine, refusedLine, unreadableLine, isDigit, digitRun, valueFrom}
+use Rattle.text.proofs.Runs.{front-over}
 
 -- any bound that is large enough gives the same digits
 enough : (m k n : ℕ) → n ≤ m → n ≤ k → digitsWithin m n ≡ digitsWithin k n
@@ -65,6 +66,20 @@ pub decimal-most : (n : ℕ) → n < 18446744073709551616 → length (decimal n)
 decimal-most zero h = rw decimal-zero (omega arith)
 decimal-most (suc n) h = rw (decimal-digits (suc n) (omega arith)) (digits-most (suc n) h)
 
+pub decimal-long : (n : ℕ) → 0 < length (decimal n)
+decimal-long zero = rw decimal-zero (omega arith)
+decimal-long (suc n) = rw (decimal-digits (suc n) (omega arith), digits-count (suc n) (omega arith)) (omega arith)
+
+-- one digit, or one more than without the last
+pub decimal-one : (n : ℕ) → n < 10 → length (decimal n) ≡ 1
+decimal-one zero h = rw decimal-zero
+decimal-one (suc n) h =
+    let none : suc n / 10 ≡ 0 = omega arith in
+    rw (decimal-digits (suc n) (omega arith), digits-count (suc n) (omega arith), none, digits-none)
+
+pub decimal-more : (n : ℕ) → 10 ≤ n → length (decimal n) ≡ suc (length (decimal (n / 10)))
+decimal-more n h = rw (decimal-digits n (omega arith), digits-count n (omega arith), decimal-digits (n / 10) (omega arith))
+
 -- so the line has at most 53 bytes
 pub refused-line-most : (n p : ℕ) → n < 18446744073709551616 → p < 18446744073709551616 → length (refusedLine n p) ≤ 53
 unfolding refusedLine
@@ -111,23 +126,14 @@ all-digits (suc most) (suc n) =
     all-snoc isDigit (digitsWithin most (suc n / 10)) (48 + suc n % 10)
     ∙ rw (all-digits most (suc n / 10), digit-is (suc n))
 
-all-decimal : (n : ℕ) → all isDigit (decimal n) ≡ true
+pub all-decimal : (n : ℕ) → all isDigit (decimal n) ≡ true
 unfolding decimal digits
 all-decimal zero = refl
 all-decimal (suc n) = all-digits (suc n) (suc n)
 
-run-over : (l m : List ℕ) → all isDigit l ≡ true → digitRun (l ++ m) ≡ l ++ digitRun m
-run-over [] m h = refl
-run-over (b ∷ l) m h = over (isDigit b) h (λ e. run-over l m e)
-  where
-    over : (t : Bool) → (t && all isDigit l) ≡ true → (all isDigit l ≡ true → digitRun (l ++ m) ≡ l ++ digitRun m)
-        → runOn t b (digitRun (l ++ m)) ≡ b ∷ l ++ digitRun m
-    over true e f = ap (λ (r : List ℕ). b ∷ r) (f e)
-    over false e f = absurd (true≢false (sym e))
-
 -- a number's text is the longest run of digits where no digit stands behind it
 pub run-decimal : (n b : ℕ) (l : List ℕ) → isDigit b ≡ false → digitRun (decimal n ++ b ∷ l) ≡ decimal n
-run-decimal n b l h = run-over (decimal n) (b ∷ l) (all-decimal n) ∙ rw h (append-nil (decimal n))
+run-decimal n b l h = front-over isDigit (decimal n) (b ∷ l) (all-decimal n) ∙ rw h (append-nil (decimal n))
 
 -- so what stands behind two texts that go on alike goes on alike too
 decimal-then : (m n b c : ℕ) (l k : List ℕ) → isDigit b ≡ false → isDigit c ≡ false → decimal m ++ b ∷ l ≡ decimal n ++ c ∷ k
@@ -159,3 +165,7 @@ refused-one-at-end = refl
 pub decimal-of-zero : refusedLine 6 0 ≡ 114 ∷ 101 ∷ 102 ∷ 117 ∷ 115 ∷ 101 ∷ 100 ∷ 32 ∷ 54 ∷ 32 ∷ 97 ∷ 116 ∷ 32 ∷ 48 ∷ 10 ∷ []
 unfolding refusedLine decimal digits
 decimal-of-zero = refl
+
+pub unreadable-third : unreadableLine 3 ≡ 117 ∷ 110 ∷ 114 ∷ 101 ∷ 97 ∷ 100 ∷ 97 ∷ 98 ∷ 108 ∷ 101 ∷ 32 ∷ 108 ∷ 105 ∷ 110 ∷ 101 ∷ 32 ∷ 51 ∷ 10 ∷ []
+unfolding unreadableLine numberedLine decimal digits
+unreadable-third = refl

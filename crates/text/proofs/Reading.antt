@@ -11,7 +11,7 @@ use borrow.Author.Tests.{lt-ltb, le-ltb}
 use Prim.Native.Nat.{ℕ, zero, suc, _+_, _-_, _*_, _^_, _≤_, _<_}
 use Rattle.text.specs.declared.Number.the-variants.{Digits, None}
 use Rattle.text.specs.Text.{decimal, isDigit, runOn, digitRun, valueFrom, numberAt, readDecimal}
-use Rattle.text.proofs.Decimals.{decimal-zero, decimal-digits, digits-count, value-decimal, run-decimal}
+use Rattle.text.proofs.Decimals.{decimal-long, value-decimal, run-decimal}
 
 -- a digit does not stand behind the end
 pub digit-within : (s : List ℕ) (k : ℕ) → isDigit (getD s k 0) ≡ true → k < length s
@@ -68,9 +68,7 @@ module _ (R : List ℕ) (at : ℕ) where
 -- ---- what was written is read back
 
 decimal-some : (n at : ℕ) → at + length (decimal n) ≡ at → ⊥
-decimal-some zero at e = absurd (omega (arith, ap length decimal-zero))
-decimal-some (suc n) at e =
-    absurd (omega (arith, ap length (decimal-digits (suc n) (omega arith)), digits-count (suc n) (omega arith)))
+decimal-some n at e = absurd (omega (arith, decimal-long n))
 
 -- a number behind any text and in front of what is no digit
 pub read-back : (before : List ℕ) (n b : ℕ) (l : List ℕ) → n < 2 ^ 64 → isDigit b ≡ false

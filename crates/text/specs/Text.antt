@@ -1,8 +1,9 @@
--- What the programs write and read as text: lists of ASCII codes.
+-- What the programs write and read as text: lists of ASCII codes. Numbers, and the lines that several programs write; how text is parted
+-- into lines and words is in Lines.antt.
 use mathlib.Core.Bool.{Bool, true, false, _&&_}
 use mathlib.Core.List.{List, [], _∷_, _++_}
 use lib.Dec.{leb, ltb}
-use lib.ListN.{length, drop}
+use lib.ListN.{length, drop, replicate}
 use Prim.Native.Nat.{ℕ, zero, suc, _+_, _-_, _*_, _/_, _%_, _^_}
 use Rattle.text.specs.declared.Number.{Number}
 use Rattle.text.specs.declared.Number.the-variants.{Digits, None}
@@ -41,9 +42,47 @@ refusedLine number place = refusedWord ++ (decimal number ++ (atWord ++ (decimal
 unfoldable pub tooLongLine : List ℕ
 tooLongLine = 116 ∷ 111 ∷ 111 ∷ 32 ∷ 108 ∷ 111 ∷ 110 ∷ 103 ∷ lineFeed
 
+-- a file that is not longer than is read; the answer to it, and to one that is longer
+unfoldable pub isShort : ℕ → List ℕ → Bool
+isShort most file = leb (length file) most
+
+abbrev pub unlessLong : Bool → List ℕ → List ℕ
+unlessLong true answer = answer
+unlessLong false answer = tooLongLine
+
 -- the line `passed`, of a table that passes (rule 7.3)
 unfoldable pub passedLine : List ℕ
 passedLine = 112 ∷ 97 ∷ 115 ∷ 115 ∷ 101 ∷ 100 ∷ lineFeed
+
+-- ---- pieces of lines
+
+-- the texts f 0, .., f (n - 1), one behind the other
+unfoldable pub texts : (ℕ → List ℕ) → ℕ → List ℕ
+texts f zero = []
+texts f (suc n) = texts f n ++ f n
+
+-- a number behind a mark
+abbrev pub marked : List ℕ → ℕ → List ℕ
+marked mark x = mark ++ decimal x
+
+-- a word, a number and the line's end
+unfoldable pub numberedLine : List ℕ → ℕ → List ℕ
+numberedLine word n = marked word n ++ lineFeed
+
+-- `unreadable line L`
+unfoldable pub unreadableLine : ℕ → List ℕ
+unreadableLine l =
+    numberedLine (117 ∷ 110 ∷ 114 ∷ 101 ∷ 97 ∷ 100 ∷ 97 ∷ 98 ∷ 108 ∷ 101 ∷ 32 ∷ 108 ∷ 105 ∷ 110 ∷ 101 ∷ 32 ∷ []) l
+
+abbrev pub spaces : ℕ → List ℕ
+spaces n = replicate n 32
+
+-- a word at the right end of n columns, and at their left end; one that is longer is not cut
+unfoldable pub padLeft : ℕ → List ℕ → List ℕ
+padLeft n w = spaces (n - length w) ++ w
+
+unfoldable pub padRight : ℕ → List ℕ → List ℕ
+padRight n w = w ++ spaces (n - length w)
 
 -- ---- reading
 
@@ -51,15 +90,19 @@ passedLine = 112 ∷ 97 ∷ 115 ∷ 115 ∷ 101 ∷ 100 ∷ lineFeed
 abbrev pub isDigit : ℕ → Bool
 isDigit b = leb 48 b && leb b 57
 
--- one digit more, if it is one
+-- one byte more, if it passes
 abbrev pub runOn : Bool → ℕ → List ℕ → List ℕ
 runOn true b run = b ∷ run
 runOn false b run = []
 
+-- the longest run at the front of bytes that pass a test
+abbrev pub front : (ℕ → Bool) → List ℕ → List ℕ
+front p [] = []
+front p (b ∷ bs) = runOn (p b) b (front p bs)
+
 -- the longest run of digits at the front
 abbrev pub digitRun : List ℕ → List ℕ
-digitRun [] = []
-digitRun (b ∷ bs) = runOn (isDigit b) b (digitRun bs)
+digitRun s = front isDigit s
 
 -- the number that digits stand for, behind digits that stand for v
 abbrev pub valueFrom : ℕ → List ℕ → ℕ

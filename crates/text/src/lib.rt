@@ -4,7 +4,9 @@ ghost use mathlib.Core.Path.{_≡_};
 ghost use Prim.Native.Nat.{_+_, _-_, _≤_};
 ghost use lib.ListN.{length, getD, set};
 ghost use lib.Seq.{sets};
-ghost use Rattle.text.specs.Text.{digits, decimal, refusedLine, tooLongLine, passedLine, isDigit, readDecimal};
+ghost use Rattle.text.specs.Text.{digits, decimal, marked, numberedLine, refusedLine, spaces, tooLongLine, unreadableLine, passedLine, isDigit, readDecimal};
+
+pub mod lines;
 
 // A number read: its value and the place behind its digits.
 pub enum Number {
@@ -81,6 +83,61 @@ pub fn put_passed(buf: &mut [u8]) -> usize
     ensures { λ r. ⌜ (now (buf .exit) ≡ sets (now (buf .entry)) 0 passedLine) × (r ≡ length passedLine) ⌝ }
 {
     put_bytes(&mut *buf, 0, b"passed\n")
+}
+
+// A number behind a mark.
+pub fn put_marked(out: &mut [u8], at: usize, mark: &[u8], x: u64) -> usize
+    requires { ⌜ at + (length (now mark) + 20) ≤ 18446744073709551615 ⌝ }
+    ensures { λ r. ⌜ (now (out .exit) ≡ sets (now (out .entry)) at (marked (now (mark .entry)) x)) × (r ≡ at + length (marked (now (mark .entry)) x)) ⌝ }
+    ensures few { λ r. ⌜ r ≤ at + (length (now (mark .entry)) + 20) ⌝ }
+{
+    let number_at = put_bytes(&mut *out, at, mark);
+    put_decimal(&mut *out, number_at, x)
+}
+
+// A line of a word and a number at the front of the buffer.
+pub fn put_numbered(out: &mut [u8], word: &[u8], number: u64) -> usize
+    requires { ⌜ length (now word) ≤ 20 ⌝ }
+    ensures { λ r. ⌜ (now (out .exit) ≡ sets (now (out .entry)) 0 (numberedLine (now (word .entry)) number)) × (r ≡ length (numberedLine (now (word .entry)) number)) ⌝ }
+    ensures few { λ r. ⌜ r ≤ 41 ⌝ }
+{
+    let end = put_marked(&mut *out, 0, word, number);
+    put_bytes(&mut *out, end, b"\n")
+}
+
+// The line `unreadable line L` at the front of the buffer.
+pub fn put_unreadable(out: &mut [u8], line: u64) -> usize
+    ensures { λ r. ⌜ (now (out .exit) ≡ sets (now (out .entry)) 0 (unreadableLine line)) × (r ≡ length (unreadableLine line)) ⌝ }
+    ensures few { λ r. ⌜ r ≤ 41 ⌝ }
+{
+    put_numbered(out, b"unreadable line ", line)
+}
+
+// So many spaces from `at` on; the place behind them.
+pub fn put_spaces(buf: &mut [u8], at: usize, n: usize) -> usize
+    requires { ⌜ at + n ≤ 18446744073709551615 ⌝ }
+    ensures { λ r. ⌜ (now (buf .exit) ≡ sets (now (buf .entry)) at (spaces n)) × (r ≡ at + length (spaces n)) ⌝ }
+    ensures few { λ r. ⌜ r ≡ at + n ⌝ }
+{
+    let mut i = 0;
+    while i < n {
+        store(&mut *buf, at + i, 32);
+        i += 1;
+    }
+    at + i
+}
+
+// How many bytes the number x is written with.
+pub fn decimal_length(x: u64) -> usize
+    ensures { λ r. ⌜ (r ≡ length (decimal x)) × (r ≤ 20) ⌝ }
+{
+    let mut rest = x;
+    let mut count = 1;
+    while rest >= 10 {
+        rest = rest / 10;
+        count += 1;
+    }
+    count
 }
 
 // Behind the end stands 0, which is no digit.

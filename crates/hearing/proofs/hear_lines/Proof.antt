@@ -1,5 +1,6 @@
 -- Invariant: the lines left lead to the same last station (`Hearing`), and the count of lines is at most the place.
-use Rattle.hearing.proofs.HistoryLines.{Hearing, hearing-none, hearing-turn, hearing-stops, hearing-end, behind-later}
+use Rattle.hearing.proofs.HistoryLines.{Hearing, hearing-none, hearing-turn, hearing-stops, hearing-end}
+use Rattle.text.proofs.Runs.{behind-later}
 use lib.ListN.{length}
 use Prim.Native.Nat.{_-_, _≤_}
 use borrow.Author.Tests.{not-true, not-false}

@@ -1,6 +1,6 @@
 -- Five exits: no byte, or one of four cases of the first line; each is one law, `played-empty` to `played-unreadable`.
 use Rattle.playstation.proofs.Whole.{played-empty, played-begin, played-tick, played-quiet, played-unreadable}
-use Rattle.hearing.proofs.HistoryLines.{behind-later}
+use Rattle.text.proofs.Runs.{behind-later}
 use lib.Seq.{length-take-le}
 use native.Mathlib.Omega.{arith}
 use native.Mathlib.Nat.{pos-of-ne-zero}

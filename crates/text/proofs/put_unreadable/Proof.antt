@@ -1,8 +1,8 @@
 -- `unreadableLine` unfolds into the numbered line that `put_numbered` promises.
-use Rattle.answerlines.specs.Writing.{unreadableLine}
+use Rattle.text.specs.Text.{unreadableLine}
 use borrow.Author.Needs.{needs}
-use Rattle.answerlines.proofs.put_unreadable.Statement.{statement}
-use Rattle.answerlines.proofs.put_unreadable.Tie as tie
+use Rattle.text.proofs.put_unreadable.Statement.{statement}
+use Rattle.text.proofs.put_unreadable.Tie as tie
 
 returns : tie.Need-returns
 unfolding unreadableLine

@@ -3,8 +3,8 @@ use lib.ListN.{length}
 use borrow.Author.Tests.{lt-ltb, le-ltb}
 use native.Mathlib.Numerals.{add-one}
 use borrow.Author.Needs.{needs}
-use Rattle.hearing.proofs.behind_end.Statement.{statement}
-use Rattle.hearing.proofs.behind_end.Tie as tie
+use Rattle.text.proofs.lines.behind_end.Statement.{statement}
+use Rattle.text.proofs.lines.behind_end.Tie as tie
 
 returns : tie.Need-returns
 returns c = let a = c .before .args in rw (lt-ltb (a .end) (length (a .s .now)) (c .if1 .taken)) (add-one (a .end))

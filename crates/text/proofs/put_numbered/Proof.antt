@@ -1,9 +1,9 @@
 -- `numbered-put` joins the marked number and the line feed; arithmetic counts the bytes.
-use Rattle.answerlines.proofs.Lines.{numbered-put}
+use Rattle.text.proofs.Putting.{numbered-put}
 use native.Mathlib.Omega.{arith}
 use borrow.Author.Needs.{needs}
-use Rattle.answerlines.proofs.put_numbered.Statement.{statement}
-use Rattle.answerlines.proofs.put_numbered.Tie as tie
+use Rattle.text.proofs.put_numbered.Statement.{statement}
+use Rattle.text.proofs.put_numbered.Tie as tie
 
 returns : tie.Need-returns
 returns c =

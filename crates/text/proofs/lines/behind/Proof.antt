@@ -1,10 +1,10 @@
 -- Invariant: the first i bytes match, and what is left of the word decides (`Matched`); each exit is one law of it.
-use Rattle.history.proofs.Words.{Matched, matched-none, matched-turn, matched-short, matched-wrong, matched-end}
+use Rattle.text.proofs.Runs.{Matched, matched-none, matched-turn, matched-short, matched-wrong, matched-end}
 use lib.ListN.{length}
 use Prim.Native.Nat.{_-_, _≤_}
 use borrow.Author.Needs.{needs}
-use Rattle.history.proofs.behind.Statement.{statement}
-use Rattle.history.proofs.behind.Tie as tie
+use Rattle.text.proofs.lines.behind.Statement.{statement}
+use Rattle.text.proofs.lines.behind.Tie as tie
 
 abbrev Inv-loop : tie.InvT-loop
 Inv-loop s at word next₀ i₀ next i = (i ≤ length word) × Matched s word at next i

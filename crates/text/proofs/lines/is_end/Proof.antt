@@ -1,7 +1,7 @@
 -- Both cases compute; where there is an end, the case is rewritten into the definition.
 use borrow.Author.Needs.{needs}
-use Rattle.history.proofs.is_end.Statement.{statement}
-use Rattle.history.proofs.is_end.Tie as tie
+use Rattle.text.proofs.lines.is_end.Statement.{statement}
+use Rattle.text.proofs.lines.is_end.Tie as tie
 
 returns-2 : tie.Need-returns-2
 returns-2 c = rw (c .before .end .given .1)

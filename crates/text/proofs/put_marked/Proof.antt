@@ -1,10 +1,10 @@
 -- The mark and the number, put one behind the other, are one text (`both-put`); `marked-few` counts its bytes.
-use Rattle.answerlines.proofs.Lines.{marked-few}
+use Rattle.text.proofs.Putting.{marked-few}
 use Rattle.text.proofs.Putting.{both-put}
 use native.Mathlib.Omega.{arith}
 use borrow.Author.Needs.{needs}
-use Rattle.answerlines.proofs.put_marked.Statement.{statement}
-use Rattle.answerlines.proofs.put_marked.Tie as tie
+use Rattle.text.proofs.put_marked.Statement.{statement}
+use Rattle.text.proofs.put_marked.Tie as tie
 
 returns : tie.Need-returns
 returns c =
