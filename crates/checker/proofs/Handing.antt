@@ -103,7 +103,7 @@ module _ (p : Plan) (line : Line) (pairTasks releases pairDeadlines : List ℕ)
 -- ---- by a plan file
 
 -- what the reading refuses
-read-refused : (n at : ℕ) (rule : Res rules.Plan) → plans.verdict rule ≡ refuse n at → rule ≡ refuse n at
+pub read-refused : (n at : ℕ) (rule : Res rules.Plan) → plans.verdict rule ≡ refuse n at → rule ≡ refuse n at
 read-refused n at (ok p) e = refuse≢ok (sym e)
 read-refused n at (refuse m k) e = rw (refuse-number e, refuse-place e)
 

@@ -130,7 +130,7 @@ plan-refused plan table n at e =
 
 -- ---- a table that was read
 
-reading-broken : {C : Type 0} (m : Res (List Rec)) (r : ReadTable) (at : Offset) → r ≡ readingOf m → r .outcome ≡ Broken at
+pub reading-broken : {C : Type 0} (m : Res (List Rec)) (r : ReadTable) (at : Offset) → r ≡ readingOf m → r .outcome ≡ Broken at
     → ((n : ℕ) → m ≡ refuse n (at .0) → C) → C
 reading-broken (ok rs) r at e q go =
     let z : Whole ≡ Broken at = sym (ap (λ (x : ReadTable). x .outcome) e) ∙ q in
@@ -139,7 +139,7 @@ reading-broken (refuse n p) r at e q go =
     let z : Broken (record { 0 = p }) ≡ Broken at = sym (ap (λ (x : ReadTable). x .outcome) e) ∙ q in
     let same : record { 0 = p } ≡ at = cc in go n (ap (λ (x : Offset). refuse n (x .0)) same)
 
-reading-whole : {C : Type 0} (m : Res (List Rec)) (r : ReadTable) → r ≡ readingOf m → r .outcome ≡ Whole
+pub reading-whole : {C : Type 0} (m : Res (List Rec)) (r : ReadTable) → r ≡ readingOf m → r .outcome ≡ Whole
     → ((rs : List Rec) → m ≡ ok rs → r .table ≡ layOut (tableOf rs) → C) → C
 reading-whole (ok rs) r e q go = go rs refl (ap (λ (x : ReadTable). x .table) e)
 reading-whole (refuse n p) r e q go =

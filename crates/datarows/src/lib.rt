@@ -83,7 +83,7 @@ pub fn first_mistimed<'a>(
     Found::Nothing
 }
 
-fn release_of(releases: &[u32; Frame::MOST], frame: FrameNo) -> Ticks
+pub fn release_of(releases: &[u32; Frame::MOST], frame: FrameNo) -> Ticks
     ensures { λ r. ⌜ r .0 ≡ lookIn mostFrames (now (releases .entry)) (frame .0) ⌝ }
 {
     let k = frame.0;

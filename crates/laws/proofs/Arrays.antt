@@ -5,13 +5,13 @@ use mathlib.Core.List.{List, [], _∷_, _++_, map}
 use native.Mathlib.Nat.{zero-add, add-zero, add-suc, suc-add}
 use native.Mathlib.Omega.{arith}
 use lib.Dec.{ltb}
-use lib.ListN.{length, getD, set, List·getD-map}
+use lib.ListN.{length, getD, set, length-map, List·getD-map}
 use lib.Seq.{ext-getD, set-out}
 use borrow.Author.Tests.{ltb-false}
 use Prim.Native.Nat.{ℕ, zero, suc, _+_, _<_}
 use Rattle.laws.specs.Lists.{tab, lastD}
 use Rattle.laws.specs.Loops.{padTo, placed}
-use Rattle.laws.proofs.Lists.{length-tab, getD-tab, length-padTo, getD-padTo, padTo-snoc}
+use Rattle.laws.proofs.Lists.{map-snoc, length-tab, getD-tab, length-padTo, getD-padTo, padTo-snoc}
 
 module _ {A : Type 0} where
   -- a list is what its places hold
@@ -40,6 +40,13 @@ module _ {A : Type 0} (room : ℕ) (old : List A) (k : ℕ) (x : A) where
 -- one element more, in an array that is filled up
 pub placed-snoc : {A : Type 0} (room : ℕ) (z : A) (l : List A) (x : A) → placed room (padTo room z l) (length l) x ≡ padTo room z (l ++ (x ∷ []))
 placed-snoc room z l x = placed-set room (padTo room z l) (length l) x (length-padTo room z l) ∙ sym (padTo-snoc room z l x)
+
+-- the same of a number of each element
+pub placed-column : {A : Type 0} (room : ℕ) (f : A → ℕ) (l : List A) (x : A)
+    → placed room (padTo room 0 (map f l)) (length l) (f x) ≡ padTo room 0 (map f (l ++ (x ∷ [])))
+placed-column room f l x =
+    ap (λ (k : ℕ). placed room (padTo room 0 (map f l)) k (f x)) (sym (length-map l f))
+    ∙ placed-snoc room 0 (map f l) (f x) ∙ ap (padTo room 0) (sym (map-snoc f l x))
 
 -- ---- the last of a row of places
 

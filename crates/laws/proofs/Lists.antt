@@ -2,7 +2,7 @@
 -- so each has a law for `l ++ (x ∷ [])` and for `take (i + 1) l`; a theorem reads places, so each has a law by `getD`.
 use mathlib.Core.Path.{_≡_, refl, sym, ap, _∙_}
 use mathlib.Core.Bool.{Bool, true, false, cond, _&&_, _||_}
-use mathlib.Core.List.{List, [], _∷_, _++_, map}
+use mathlib.Core.List.{List, [], _∷_, _++_, map, append-assoc, append-nil}
 use mathlib.Core.Logic.{_⊎_, inl, inr}
 use native.Mathlib.Nat.{not-suc-le-zero, le-of-suc-le-suc, eq-or-lt-of-le, zero-add, add-zero, add-suc, suc-add}
 use native.Mathlib.Numerals.{add-one}
@@ -199,6 +199,15 @@ module _ {A : Type 0} (p : A → Bool) where
   all-true (x ∷ l) d (suc i) e h = all-true l d i (both-right (p x) (all p l) e) (le-of-suc-le-suc h)
 
 -- a test of what was kept is a test asked only of what passes
+-- lists one behind the other
+module _ {A : Type 0} where
+  pub joined-append : (ls ms : List (List A)) → joined (ls ++ ms) ≡ joined ls ++ joined ms
+  joined-append [] ms = refl
+  joined-append (l ∷ ls) ms = ap (λ (r : List A). l ++ r) (joined-append ls ms) ∙ sym (append-assoc l (joined ls) (joined ms))
+
+  pub joined-snoc : (ls : List (List A)) (l : List A) → joined (ls ++ (l ∷ [])) ≡ joined ls ++ l
+  joined-snoc ls l = joined-append ls (l ∷ []) ∙ ap (λ (r : List A). joined ls ++ r) (append-nil l)
+
 pub any-joined : {A B : Type 0} (p : B → Bool) (f : A → List B) (l : List A) → any p (joined (map f l)) ≡ any (λ x. any p (f x)) l
 any-joined p f [] = refl
 any-joined p f (x ∷ l) = any-append p (f x) (joined (map f l)) ∙ rw (any-joined p f l)

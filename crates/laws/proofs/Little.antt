@@ -1,16 +1,32 @@
 -- Little-endian numbers: a window of a list read as a number, a number stored as a window, and the way there and back.
 use mathlib.Core.Path.{_≡_, refl, sym, ap, _∙_}
-use mathlib.Core.List.{List, [], _∷_}
+use mathlib.Core.List.{List, [], _∷_, _++_}
 use Prim.Native.Nat.{ℕ, zero, suc, _+_, _*_, _/_, _%_, _^_, _<_}
 use native.Mathlib.Nat.{add-zero, add-suc, pow-zero, pow-succ'}
 use native.Mathlib.Omega.{arith}
-use lib.ListN.{length, getD, take, drop, set}
-use lib.Seq.{take-nil, sets}
+use lib.ListN.{length, getD, take, drop, set, take-append-drop}
+use lib.Seq.{take-nil, sets, getD-drop}
 use Rattle.laws.specs.Numbers.{number, bytes}
 
 -- each element is a byte
 abbrev pub Bytes : List ℕ → Type 0
 Bytes l = (i : ℕ) → getD l i 0 < 256
+
+-- parts of bytes are bytes
+pub bytes-left : (l m : List ℕ) → Bytes (l ++ m) → Bytes l
+bytes-left [] m h i = omega arith
+bytes-left (b ∷ l) m h zero = h zero
+bytes-left (b ∷ l) m h (suc i) = bytes-left l m (λ j. h (suc j)) i
+
+pub bytes-right : (l m : List ℕ) → Bytes (l ++ m) → Bytes m
+bytes-right [] m h = h
+bytes-right (b ∷ l) m h = bytes-right l m (λ i. h (suc i))
+
+pub bytes-take : (n : ℕ) (l : List ℕ) → Bytes l → Bytes (take n l)
+bytes-take n l h = bytes-left (take n l) (drop n l) (rw (take-append-drop n l) h)
+
+pub bytes-drop : (n : ℕ) (l : List ℕ) → Bytes l → Bytes (drop n l)
+bytes-drop n l h i = rw (getD-drop n l i 0) (h (n + i))
 
 -- one byte read, whether it stands in the list or behind its end
 pub number-step : (w : ℕ) (s : List ℕ) (at : ℕ)

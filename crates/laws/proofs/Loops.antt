@@ -80,10 +80,10 @@ pub record Bad {A : Type 0} (p : A → Bool) (l : List A) (d : A) (k : ℕ) : Ty
   pub fails : p (getD l k d) ≡ false
   pub before : (j : ℕ) → j < k → p (getD l j d) ≡ true
 
-none-some : {A B : Type 0} {a : A} → _≡_ {A = Option A} none (some a) → B
+pub none-some : {A B : Type 0} {a : A} → _≡_ {A = Option A} none (some a) → B
 none-some e = let z : _≡_ {A = ℕ} 0 1 = cc in absurd (omega arith)
 
-some-injective : {A : Type 0} {a b : A} → some a ≡ some b → a ≡ b
+pub some-injective : {A : Type 0} {a b : A} → some a ≡ some b → a ≡ b
 some-injective e = cc
 
 orNext-none : (b : Bool) (r : Option ℕ) → orNext b r ≡ none → (b ≡ true) × (r ≡ none)

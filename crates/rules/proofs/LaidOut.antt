@@ -3,11 +3,11 @@
 use mathlib.Core.Path.{_≡_, refl, ap}
 use mathlib.Core.Bool.{true}
 use mathlib.Core.List.{List, [], _∷_}
-use native.Mathlib.Nat.{le-refl, dvd-trans, dvd-sub, dvd-mul-left, le-of-dvd, pos-of-dvd-of-pos, div-mul-le-self, mul-le-mul-right}
+use native.Mathlib.Nat.{le-refl, dvd-trans, dvd-sub, dvd-mul-left, le-of-dvd, pos-of-dvd-of-pos, div-mul-le-self, mul-le-mul-right, suc-mul}
 use native.Mathlib.Omega.{arith}
 use borrow.Author.Tests.{eqb-true, eq-eqb}
 use lib.ListN.{length}
-use Prim.Native.Nat.{ℕ, suc, _+_, _*_, _/_, _≤_, _<_, _∣_, zero-le, suc-le-suc}
+use Prim.Native.Nat.{ℕ, zero, suc, _+_, _-_, _*_, _/_, _≤_, _<_, _∣_, zero-le, suc-le-suc}
 use Rattle.laws.specs.Res.{ok}
 use Rattle.laws.specs.Lists.{keep, any, lastD, upTo}
 use Rattle.laws.specs.Numbers.{ceil, up}
@@ -136,6 +136,31 @@ module _ (p : Plan) (k : PlanKept p) where
 
   pub pairs-kept : All (PairKept p) (pairs p)
   pairs-kept = all-of-members (pairs p) (λ f m. all-member {P = PairKept p} (all-map pairOf messages-kept) (plan-pairs p .comes f m))
+
+-- a pair is released by its deadline, since a task needs no longer than its period
+released-first : (r : Run) → r .worst ≤ r .period → (i : ℕ) → 1 ≤ i → message r i .release ≤ message r i .deadline
+unfolding message
+released-first r w zero h = absurd (omega arith)
+released-first r w (suc j) h =
+    let less : suc j - 1 ≡ j = omega arith in
+    rw (less, suc-mul j (r .period)) (omega arith)
+
+module _ (p : Plan) (k : PlanKept p) where
+  runs-short : All (λ r. r .worst ≤ r .period) (busRuns p)
+  unfolding busRuns runOf
+  runs-short = all-map (runOf p) (all-weaker (λ i h. h .worst) (all-keep (ofBusTask p) (k .invocations)))
+
+  messages-released : All (λ m. pairOf m .release ≤ pairOf m .deadline) (basic p .messages)
+  unfolding basic messages messagesOf pairOf
+  messages-released =
+      all-joined
+      (all-map (messagesOf (busPeriod p))
+      (all-weaker (λ r w. all-tab (message r) 1 (busPeriod p / r .period) (λ i a b. released-first r w i a)) runs-short))
+
+  pub pairs-released : All (λ f. f .release ≤ f .deadline) (pairs p)
+  pairs-released =
+      all-of-members (pairs p)
+      (λ f m. all-member {P = λ f. f .release ≤ f .deadline} (all-map pairOf messages-released) (plan-pairs p .comes f m))
 
 -- ---- control rows
 

@@ -8,6 +8,7 @@ pub mod Gaps
 pub mod Grid
 pub mod Jobs
 pub mod LaidOut
+pub mod Located
 pub mod MadePasses
 pub mod NamedAlike
 pub mod PairRows
@@ -32,6 +33,7 @@ pub mod StationPlaces
 pub mod StationRanges
 pub mod StationStays
 pub mod TableBytes
+pub mod TableFile
 pub mod TableLength
 pub mod Top
 pub mod Transparent

@@ -1,5 +1,5 @@
 -- Which refusals each part can give: reading a plan 1 to 5, laying it out 6 to 11, the latest-release rule 12, reading a table 20, judging
--- it 21 to 28.
+-- it 21 to 28: its shape 21 to 24, its times 25 to 28.
 use mathlib.Core.Bool.{Bool}
 use mathlib.Core.List.{List}
 use native.Mathlib.Omega.{arith}
@@ -94,18 +94,18 @@ layout-gives p =
 pub rule-gives : (l : Layout) → Gives 12 12 (latestRelease l)
 rule-gives l = record { number = λ n p e. let same = rule-twelve l n p e in (omega (arith, same), omega (arith, same)) }
 
-rows-give : (n : ℕ) (t : TableRead) (test : ℕ → Bool) → T (leb 21 n) → T (leb n 28) → Gives 21 28 (rowsKeep n t test)
+rows-give : {low high : ℕ} (n : ℕ) (t : TableRead) (test : ℕ → Bool) → T (leb low n) → T (leb n high) → Gives low high (rowsKeep n t test)
 unfolding rowsKeep
 rows-give n t test a b = gives-at n (firstRow t) (firstBad test (upTo (length (t .rows)))) (lit≤ a) (lit≤ b)
 
-shaped-gives : (l : Layout) (t : TableRead) → Gives 21 28 (shaped l t)
+pub shaped-gives : (l : Layout) (t : TableRead) → Gives 21 24 (shaped l t)
 unfolding shaped
 shaped-gives l t =
     gives-then (gives-unless 21 0 (headerRight l t) (lit≤ tt) (lit≤ tt))
     (gives-then (gives-at 22 1 (firstBad (controlKept l t) (upTo (length (t .control)))) (lit≤ tt) (lit≤ tt))
     (gives-then (rows-give 23 t (namesNew l t) tt tt) (rows-give 24 t (timeKept l t) tt tt)))
 
-timed-gives : (l : Layout) (t : TableRead) → Gives 21 28 (timed l t)
+pub timed-gives : (l : Layout) (t : TableRead) → Gives 25 28 (timed l t)
 unfolding timed
 timed-gives l t =
     gives-then (rows-give 25 t (releaseKept l t) tt tt)
@@ -114,7 +114,8 @@ timed-gives l t =
 
 pub judged-gives : (l : Layout) (t : TableRead) → Gives 21 28 (judged l t)
 unfolding judged
-judged-gives l t = gives-then (shaped-gives l t) (timed-gives l t)
+judged-gives l t =
+    gives-then (gives-within (lit≤ tt) (lit≤ tt) (shaped-gives l t)) (gives-within (lit≤ tt) (lit≤ tt) (timed-gives l t))
 
 -- behind a plan that is read
 abbrev passing : Plan → Layout → TableRead → Res Passed

@@ -1,11 +1,12 @@
 -- TableBytes: reading back what was written. Records written with numbers that fit their fields are read as these records; a table
--- written by `tableBytes` is read as the header, the control rows and the data rows that it was written from.
-use mathlib.Core.Path.{_≡_, refl, ap, _∙_}
+-- written by `tableOfRows` is read as the header, the control rows and the data rows that it was written from, and so is one written by
+-- `tableBytes`, which is the same of the rows placed.
+use mathlib.Core.Path.{_≡_, refl, ap, _∙_, subst}
 use mathlib.Core.Bool.{Bool, true, false}
 use mathlib.Core.List.{List, [], _∷_, _++_, map, append-assoc, append-nil}
 use native.Mathlib.Omega.{arith}
 use lib.Dec.{eqb}
-use lib.ListN.{length, length-append}
+use lib.ListN.{length, length-append, length-map}
 use lib.Seq.{take-at, drop-at}
 use Prim.Native.Nat.{ℕ, _<_, _^_}
 use Rattle.laws.specs.Res.{ok}
@@ -19,7 +20,7 @@ use Rattle.rules.specs.Plan.{isKind, numbersOf, things, only}
 use Rattle.rules.specs.Frames.{ControlRow, Layout}
 use Rattle.rules.proofs.RecordsExact.{records-exact}
 use Rattle.rules.specs.Obeys.{MayStand, AreRecords, theEnd, oneMore}
-use Rattle.rules.specs.Table.{encoded, recordBytes, DataRow, PlacedRow, dataRow, headerBytes, controlBytes, dataBytes, tableBytes}
+use Rattle.rules.specs.Table.{encoded, recordBytes, DataRow, PlacedRow, dataRow, headerBytes, controlBytes, dataBytes, tableOfRows, tableBytes}
 use Rattle.rules.specs.Checker.{rowOf, TableRead, tableOf, controlRowOf, dataRowOf}
 
 -- every number fits its field
@@ -96,13 +97,13 @@ pub record DataFits (r : DataRow) : Type 0 where
   pub start : r .start < 4294967296
   pub stop : r .stop < 4294967296
 
--- every number of the table fits its field
-pub record TableFits (l : Layout) (placed : List PlacedRow) : Type 0 where
-  pub period : l .period < 4294967296
-  pub controls : length (l .control) < 256
-  pub datas : length placed < 65536
-  pub control : All ControlFits (l .control)
-  pub rows : All DataFits (map (dataRow l) placed)
+-- every number of a table of these rows fits its field
+pub record RowsFit (period : ℕ) (control : List ControlRow) (rows : List DataRow) : Type 0 where
+  pub periodFits : period < 4294967296
+  pub controls : length control < 256
+  pub datas : length rows < 65536
+  pub controlFits : All ControlFits control
+  pub rowsFit : All DataFits rows
 
 -- the rows of a kind among the rows of both
 all-rows : {A : Type 0} (k kind : ℕ) (numbersOf : A → List ℕ) (b : Bool) → eqb kind k ≡ b → (l : List A)
@@ -132,48 +133,102 @@ kept-18 c d =
     rw (append-nil (map dataRec d)) (keep-append (isKind 18) (map controlRec c) (map dataRec d)
     ∙ rw (keep-nothing (isKind 18) (all-rows 18 17 controlNumbers false refl c), keep-all (isKind 18) (all-rows 18 18 dataNumbers true refl d)))
 
-module _ (l : Layout) (rows : List PlacedRow) where
+control-fit : (r : ControlRow) → ControlFits r → Fit (fields 17) (controlNumbers r)
+unfolding fields kinds
+control-fit r h = fit (h .node) (fit (h .start) (fit (h .stop) fit-none))
+
+data-fit : (r : DataRow) → DataFits r → Fit (fields 18) (dataNumbers r)
+unfolding fields kinds
+data-fit r h = fit (h .task) (fit (h .deadline) (fit (h .start) (fit (h .stop) fit-none)))
+
+stands : {previous kind : ℕ} → known kind ≡ true → tableFollows previous kind ≡ true → MayStand tableFollows previous kind
+stands k f = record { isKnown = k; isNext = f }
+
+-- a head that counts the rows, and the rows
+module _ (period : ℕ) (control : List ControlRow) (rows : List DataRow) where
   abbrev headerNumbers : List ℕ
-  headerNumbers = l .period ∷ length (l .control) ∷ length rows ∷ []
+  headerNumbers = period ∷ length control ∷ length rows ∷ []
 
   -- the records of the table
-  abbrev pub tableRecords : List Rec
-  tableRecords =
-      record { kind = 16; numbers = headerNumbers } ∷ map controlRec (l .control) ++ (map dataRec (map (dataRow l) rows) ++ [])
+  abbrev pub rowsRecords : List Rec
+  rowsRecords = record { kind = 16; numbers = headerNumbers } ∷ map controlRec control ++ (map dataRec rows ++ [])
 
-  control-fit : (r : ControlRow) → ControlFits r → Fit (fields 17) (controlNumbers r)
+  header-fit : RowsFit period control rows → Fit (fields 16) headerNumbers
   unfolding fields kinds
-  control-fit r h = fit (h .node) (fit (h .start) (fit (h .stop) fit-none))
+  header-fit h = fit (h .periodFits) (fit (h .controls) (fit (h .datas) fit-none))
 
-  data-fit : (r : DataRow) → DataFits r → Fit (fields 18) (dataNumbers r)
-  unfolding fields kinds
-  data-fit r h = fit (h .task) (fit (h .deadline) (fit (h .start) (fit (h .stop) fit-none)))
-
-  header-fit : TableFits l rows → Fit (fields 16) headerNumbers
-  unfolding fields kinds
-  header-fit h = fit (h .period) (fit (h .controls) (fit (h .datas) fit-none))
-
-  stands : {previous kind : ℕ} → known kind ≡ true → tableFollows previous kind ≡ true → MayStand tableFollows previous kind
-  stands k f = record { isKnown = k; isNext = f }
-
-  data-written : {previous : ℕ} → MayStand tableFollows previous 18 → MayStand tableFollows previous 0 → TableFits l rows
-      → AreRecords tableFollows previous (joined (map (bytesOf 18 dataNumbers) (map (dataRow l) rows)) ++ (0 ∷ []))
-      (map dataRec (map (dataRow l) rows) ++ [])
+  data-written : {previous : ℕ} → MayStand tableFollows previous 18 → MayStand tableFollows previous 0 → RowsFit period control rows
+      → AreRecords tableFollows previous (joined (map (bytesOf 18 dataNumbers) rows) ++ (0 ∷ [])) (map dataRec rows ++ [])
   unfolding known kinds tableFollows
   data-written s e t =
-      rows-written tableFollows 18 dataNumbers (omega arith) (stands refl refl) s (all-weaker data-fit (t .rows)) (theEnd e refl)
+      rows-written tableFollows 18 dataNumbers (omega arith) (stands refl refl) s (all-weaker data-fit (t .rowsFit)) (theEnd e refl)
       (theEnd (stands refl refl) refl)
 
   -- the table's bytes are its records
-  pub table-written : TableFits l rows → AreRecords tableFollows 0 (tableBytes l rows) tableRecords
-  unfolding tableBytes headerBytes controlBytes dataBytes known kinds tableFollows
-  table-written t =
+  pub rows-table-written : RowsFit period control rows → AreRecords tableFollows 0 (tableOfRows period control rows) rowsRecords
+  unfolding tableOfRows headerBytes controlBytes dataBytes known kinds tableFollows
+  rows-table-written t =
       written tableFollows (stands refl refl) (omega arith) (header-fit t)
       (rows-written tableFollows 17 controlNumbers (omega arith) (stands refl refl)
       (stands refl refl)
-      (all-weaker control-fit (t .control))
+      (all-weaker control-fit (t .controlFits))
       (data-written (stands refl refl) (stands refl refl) t)
       (data-written (stands refl refl) (stands refl refl) t))
+
+  pub rows-table-reads : RowsFit period control rows → records tableFollows 20 (tableOfRows period control rows) ≡ ok rowsRecords
+  rows-table-reads t = records-exact tableFollows 20 (tableOfRows period control rows) rowsRecords .1 (rows-table-written t)
+
+  -- the table as it is read back
+  abbrev pub rowsRead : TableRead
+  rowsRead =
+      record { period = period; controls = length control; datas = length rows; control = control; rows = map rowOf rows }
+
+  control-back : map controlRowOf (things 17 rowsRecords) ≡ control
+  unfolding things isKind
+  control-back = rw (kept-17 control rows) (controls-back control)
+
+  rows-back : map dataRowOf (things 18 rowsRecords) ≡ rows
+  unfolding things isKind
+  rows-back = rw (kept-18 control rows) (datas-back rows)
+
+  pub rows-table-read : tableOf rowsRecords ≡ rowsRead
+  unfolding tableOf only things isKind
+  rows-table-read = rw (control-back, rows-back)
+
+-- ---- a table of placed rows, whose number is that of the rows placed
+
+-- every number of the table fits its field
+pub record TableFits (l : Layout) (placed : List PlacedRow) : Type 0 where
+  pub period : l .period < 4294967296
+  pub controls : length (l .control) < 256
+  pub datas : length placed < 65536
+  pub control : All ControlFits (l .control)
+  pub rows : All DataFits (map (dataRow l) placed)
+
+module _ (l : Layout) (rows : List PlacedRow) where
+  abbrev datas : List DataRow
+  datas = map (dataRow l) rows
+
+  counted : length datas ≡ length rows
+  counted = length-map rows (dataRow l)
+
+  fits-rows : TableFits l rows → RowsFit (l .period) (l .control) datas
+  fits-rows t =
+      record { periodFits = t .period; controls = t .controls; datas = rw counted (t .datas); controlFits = t .control; rowsFit = t .rows }
+
+  bytes-rows : tableOfRows (l .period) (l .control) datas ≡ tableBytes l rows
+  unfolding tableOfRows tableBytes
+  bytes-rows = rw counted
+
+  -- the records of the table
+  abbrev pub tableRecords : List Rec
+  tableRecords = rowsRecords (l .period) (l .control) datas
+
+  -- the table's bytes are its records
+  pub table-written : TableFits l rows → AreRecords tableFollows 0 (tableBytes l rows) tableRecords
+  table-written t =
+      subst (λ (file : List ℕ). AreRecords tableFollows 0 file tableRecords) bytes-rows
+      (rows-table-written (l .period) (l .control) datas (fits-rows t))
 
   pub table-reads : TableFits l rows → records tableFollows 20 (tableBytes l rows) ≡ ok tableRecords
   table-reads t = records-exact tableFollows 20 (tableBytes l rows) tableRecords .1 (table-written t)
@@ -186,17 +241,8 @@ module _ (l : Layout) (rows : List PlacedRow) where
         controls = length (l .control);
         datas = length rows;
         control = l .control;
-        rows = map rowOf (map (dataRow l) rows);
+        rows = map rowOf datas;
       }
 
-  control-back : map controlRowOf (things 17 tableRecords) ≡ l .control
-  unfolding things isKind
-  control-back = rw (kept-17 (l .control) (map (dataRow l) rows)) (controls-back (l .control))
-
-  rows-back : map dataRowOf (things 18 tableRecords) ≡ map (dataRow l) rows
-  unfolding things isKind
-  rows-back = rw (kept-18 (l .control) (map (dataRow l) rows)) (datas-back (map (dataRow l) rows))
-
   pub table-read : tableOf tableRecords ≡ tableRead
-  unfolding tableOf only things isKind
-  table-read = rw (control-back, rows-back)
+  table-read = rows-table-read (l .period) (l .control) datas ∙ rw counted

@@ -190,6 +190,15 @@ checkFiles plan table = do
   judged l (tableOf rs)
   ok (record { plan = p; traffic = basic p; layout = l; table = tableOf rs })
 
+-- The same up to 24 (rule 17.1): each row is one that the plan asks for, and takes as long as it has to; whether it stands where it may is not asked.
+unfoldable pub located : List ℕ → List ℕ → Res Passed
+located plan table = do
+  p ← readPlan plan
+  l ← layout p
+  rs ← records tableFollows 20 table
+  shaped l (tableOf rs)
+  ok (record { plan = p; traffic = basic p; layout = l; table = tableOf rs })
+
 -- the row that holds a pair
 unfoldable pub holdsPair : Pair → Row → Bool
 holdsPair f r = any (λ n. isPairOf n f) (r .holds)

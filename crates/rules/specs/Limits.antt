@@ -25,6 +25,10 @@ mostConnections = 64
 abbrev pub mostFrames : ℕ
 mostFrames = 1024
 
+-- Rules 17.7 and 18.5: bytes of a sheet.
+abbrev pub longestSheet : ℕ
+longestSheet = 262144
+
 -- Rule 3.2, of the bus: kbit/s, overhead and payload in bytes, gap in bits, resolution in ticks.
 abbrev pub fastestBus : ℕ
 fastestBus = 100000

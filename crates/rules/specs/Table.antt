@@ -66,6 +66,12 @@ controlBytes r = recordBytes 17 (r .node ∷ r .start ∷ r .stop ∷ [])
 unfoldable pub dataBytes : DataRow → List ℕ
 dataBytes r = recordBytes 18 (r .task ∷ r .deadline ∷ r .start ∷ r .stop ∷ [])
 
+-- Rule 2.6: a head that counts the rows, the control rows, the data rows, the end.
+unfoldable pub tableOfRows : ℕ → List ControlRow → List DataRow → List ℕ
+tableOfRows period control rows =
+    headerBytes period (length control) (length rows)
+    ++ (joined (map controlBytes control) ++ (joined (map dataBytes rows) ++ (0 ∷ [])))
+
 -- Rules 2.6 and 6.34: the head with P and the numbers of rows, the control rows, the data rows by start, the end.
 unfoldable pub tableBytes : Layout → List PlacedRow → List ℕ
 tableBytes l rows =

@@ -4,12 +4,12 @@ use mathlib.Core.Bool.{Bool, true, false, _&&_, _||_}
 use mathlib.Core.List.{List, [], _∷_, _++_, map, append-assoc}
 use native.Mathlib.Omega.{arith}
 use lib.Dec.{eqb, leb}
-use lib.ListN.{length, getD, drop, replicate, length-map}
+use lib.ListN.{length, getD, drop, replicate}
 use borrow.Author.Tests.{ne-eqb, eqb-true, eqb-false, leb-true}
 use Prim.Native.Nat.{_<_, ℕ, zero, suc, _+_, _-_, _≤_}
 use Rattle.laws.specs.Res.{Res, ok, refuse}
 use Rattle.laws.specs.Loops.{padTo}
-use Rattle.laws.proofs.Lists.{map-snoc, length-snoc, both-left, both-right}
+use Rattle.laws.proofs.Lists.{length-snoc, both-left, both-right}
 use Rattle.laws.proofs.Res.{refuse≢ok, ok-injective}
 use Rattle.rules.specs.Limits.{mostNodes, mostFrames}
 use Rattle.rules.specs.Records.{Rec, fields, bodyLength, decoded, recordOf, tableFollows, before, records}
@@ -29,7 +29,7 @@ use Rattle.units.specs.declared.Offset.{Offset}
 use Rattle.table.specs.declared.read.Outcome.the-variants.{Whole, Broken}
 use Rattle.laws.specs.Loops.{placed}
 use Rattle.table.specs.Memory.{ReadTable, headingOf, readWith, controlNodeOf, controlStartOf, controlStopOf, taskOf, deadlineOf, startOf, stopOf, layOut, noTable, emptyTable, tableFrom, headerOf, headerRead, controlRead, rowRead, withHeader, withControl, withRow, withRecord, withRecords, reading, gatheredFrom, readingOf, reported}
-use Rattle.laws.proofs.Arrays.{placed-snoc}
+use Rattle.laws.proofs.Arrays.{placed-column}
 
 -- ---- over lists
 
@@ -59,20 +59,13 @@ append-nothing : {A : Type 0} (l : List A) → l ++ [] ≡ l
 append-nothing [] = refl
 append-nothing {A} (x ∷ l) = ap (λ (r : List A). x ∷ r) (append-nothing l)
 
--- one row more in an array that is filled up
-column : {A : Type 0} (room : ℕ) (f : A → ℕ) (l : List A) (x : A)
-    → placed room (padTo room 0 (map f l)) (length l) (f x) ≡ padTo room 0 (map f (l ++ (x ∷ [])))
-column room f l x =
-    ap (λ (k : ℕ). placed room (padTo room 0 (map f l)) k (f x)) (sym (length-map l f))
-    ∙ placed-snoc room 0 (map f l) (f x) ∙ ap (padTo room 0) (sym (map-snoc f l x))
-
 control-more : (t : TableRead) (b : List ℕ) → withRecord (layOut t) (rec 17 b) ≡ layOut (moreOf t (controlRowOf b ∷ []) [])
 unfolding withRecord withControl tableFrom layOut
 control-more t b =
     rw (
-      column mostNodes controlNodeOf (t .control) (controlRowOf b),
-      column mostNodes controlStartOf (t .control) (controlRowOf b),
-      column mostNodes controlStopOf (t .control) (controlRowOf b),
+      placed-column mostNodes controlNodeOf (t .control) (controlRowOf b),
+      placed-column mostNodes controlStartOf (t .control) (controlRowOf b),
+      placed-column mostNodes controlStopOf (t .control) (controlRowOf b),
       sym (length-snoc (t .control) (controlRowOf b)),
       append-nothing (t .rows),
     )
@@ -81,10 +74,10 @@ row-more : (t : TableRead) (b : List ℕ) → withRecord (layOut t) (rec 18 b) �
 unfolding withRecord withRow tableFrom layOut rowOf nameOf
 row-more t b =
     rw (
-      column mostFrames taskOf (t .rows) (rowOf (dataRowOf b)),
-      column mostFrames deadlineOf (t .rows) (rowOf (dataRowOf b)),
-      column mostFrames startOf (t .rows) (rowOf (dataRowOf b)),
-      column mostFrames stopOf (t .rows) (rowOf (dataRowOf b)),
+      placed-column mostFrames taskOf (t .rows) (rowOf (dataRowOf b)),
+      placed-column mostFrames deadlineOf (t .rows) (rowOf (dataRowOf b)),
+      placed-column mostFrames startOf (t .rows) (rowOf (dataRowOf b)),
+      placed-column mostFrames stopOf (t .rows) (rowOf (dataRowOf b)),
       sym (length-snoc (t .rows) (rowOf (dataRowOf b))),
       append-nothing (t .control),
     )

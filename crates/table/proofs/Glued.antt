@@ -1,6 +1,6 @@
 -- Stores one behind the other are the store of what they make together: numbers a record, rows of one length, a table.
 use mathlib.Core.Path.{_≡_, refl, sym, ap, _∙_}
-use mathlib.Core.List.{List, [], _∷_, _++_, map, append-nil, append-assoc}
+use mathlib.Core.List.{List, [], _∷_, _++_, map, append-assoc}
 use native.Mathlib.Nat.{zero-add}
 use native.Mathlib.Omega.{arith}
 use lib.ListN.{length, length-append}
@@ -9,7 +9,7 @@ use Prim.Native.Nat.{ℕ, _+_, _*_}
 use Rattle.laws.specs.Lists.{tab, joined}
 use Rattle.laws.specs.Numbers.{bytes}
 use Rattle.laws.proofs.Laid.{sets-append}
-use Rattle.laws.proofs.Lists.{tab-more, map-snoc, length-tab}
+use Rattle.laws.proofs.Lists.{joined-snoc, tab-more, map-snoc, length-tab}
 use Rattle.laws.proofs.Little.{length-bytes}
 use Rattle.rules.specs.Records.{Field, width, kinds, fields, bodyLength}
 use Rattle.rules.specs.Table.{DataRow, encoded, recordBytes, headerBytes, controlBytes, dataBytes, recordLength}
@@ -48,10 +48,6 @@ record-put kind xs at b e =
     ∙ sets-next b at (kind ∷ []) (encoded (fields kind) xs) (omega arith)
 
 -- ---- rows of one length
-
-joined-snoc : {A : Type 0} (xss : List (List A)) (xs : List A) → joined (xss ++ (xs ∷ [])) ≡ joined xss ++ xs
-joined-snoc [] xs = append-nil xs
-joined-snoc (ys ∷ xss) xs = ap (λ (r : List _). ys ++ r) (joined-snoc xss xs) ∙ sym (append-assoc ys (joined xss) xs)
 
 module _ {R : Type 0} (bytesOf : R → List ℕ) (wide : ℕ) (widths : (r : R) → length (bytesOf r) ≡ wide) where
   module _ (row : ℕ → R) where

@@ -30,6 +30,15 @@ impl ByteCount {
         ByteCount::LONGEST_TABLE
     }
 
+    // No sheet is longer, and a longer text is not read as one (rules 17.7 and 18.5).
+    pub const LONGEST_SHEET: usize = 262_144;
+
+    pub fn longest_sheet() -> usize
+        ensures { λ r. ⌜ r ≡ 262144 ⌝ }
+    {
+        ByteCount::LONGEST_SHEET
+    }
+
     pub fn count(self) -> usize
         ensures { λ r. ⌜ r ≡ self .0 ⌝ }
     {
