@@ -1,0 +1,8 @@
+pub mod Cells
+pub mod Examples
+pub mod Longest
+pub mod Pinned
+pub mod ReadsBack
+pub mod RowLines
+pub mod Signs
+pub mod Ticks
