@@ -1,0 +1,4 @@
+pub mod Numbering
+pub mod Sayings
+pub mod Gathering
+pub mod Bytes

@@ -1,0 +1,28 @@
+-- What was read stands at the front of its room (`counted`), and the answer at the front of `out`, which has room for the longest table.
+use native.Mathlib.Omega.{arith}
+use Rattle.rules.proofs.TableLength.{longest-is}
+use Rattle.input.proofs.Counted.{counted}
+use borrow.Author.Needs.{needs}
+use Rattle.sheettable.proofs.main.Statement.{statement}
+use Rattle.sheettable.proofs.main.Tie as tie
+
+array-share-prefix-sheet : tie.Need-array-share-prefix-sheet
+array-share-prefix-sheet c = counted _ (c .before .before .before .before .read-open .ensures) (c .before .got .given .1) .0
+
+slice-aggregate-respond : tie.Need-slice-aggregate-respond
+slice-aggregate-respond c = counted _ (c .before .before .before .before .before .read-open .ensures) (c .before .before .got .given .1) .1
+
+respond-requires : tie.Need-respond-requires
+respond-requires c κs = rw longest-is (search needs)
+
+array-share-prefix-out : tie.Need-array-share-prefix-out
+array-share-prefix-out c = c .before .respond .ensures .1 .0
+
+slice-aggregate-write-all : tie.Need-slice-aggregate-write-all
+slice-aggregate-write-all c = c .before .before .respond .ensures .1 .1
+
+pub main-spec : {M : Type 1} → statement M
+main-spec =
+    tie.close
+    (tie.spec (λ c κs. search needs) (λ c. search needs) (λ c. search needs) (λ c κs. search needs) (λ c. search needs) array-share-prefix-sheet slice-aggregate-respond (λ c. search needs) respond-requires array-share-prefix-out
+    slice-aggregate-write-all (λ c κs. search needs) (λ c. search needs) (λ c. search needs) (λ c. search needs))
