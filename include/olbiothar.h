@@ -1,4 +1,4 @@
-/* Olbiothar: bus tables made, checked and played. The functions of libolbiothar.a (x86-64 Linux).
+/* Olbiothar: bus tables made, checked, played, printed and read back. The functions of libolbiothar.a (x86-64 Linux).
  *
  * Every function here is proved: for every value of its parameters it ends, stays within the memory that it is lent, and returns
  * what is said below. There is no state behind the functions, no allocation and no lock: calls on different memory may run at the
@@ -24,7 +24,9 @@ enum {
     OLBIOTHAR_TASKS = 32,
     OLBIOTHAR_FRAMES = 1024,
     /* No table is longer, 14,425 bytes: a header, 8 control rows, 1,024 data rows and an end. */
-    OLBIOTHAR_LONGEST_TABLE = 8 + OLBIOTHAR_NODES * 10 + OLBIOTHAR_FRAMES * 14 + 1
+    OLBIOTHAR_LONGEST_TABLE = 8 + OLBIOTHAR_NODES * 10 + OLBIOTHAR_FRAMES * 14 + 1,
+    /* No sheet is longer, and no longer text is read as one. */
+    OLBIOTHAR_LONGEST_SHEET = 262144
 };
 
 /* The numbers of the refusals, and what the place says. */
@@ -57,7 +59,9 @@ enum {
     OLBIOTHAR_NOT_AWAITED = 41,         /* task */
     OLBIOTHAR_RESULT_TOO_LARGE = 42,    /* task */
     OLBIOTHAR_RESULT_OVERDUE = 43,      /* task */
-    OLBIOTHAR_CHANGE_NOT_ALLOWED = 44   /* module */
+    OLBIOTHAR_CHANGE_NOT_ALLOWED = 44,  /* module */
+    OLBIOTHAR_UNREADABLE = 60,          /* line of the text, counted from 1 */
+    OLBIOTHAR_TEXT_TOO_LONG = 61        /* 262,144, the most bytes that are read */
 };
 
 /* What a call comes to: `number` is 0, or that of the first refusal that applies, at its lowest place. */
@@ -214,6 +218,39 @@ typedef struct olbiothar_tick_answer {
  */
 olbiothar_tick_answer olbiothar_tick(olbiothar_station *station, olbiothar_input input);
 
+/* What a sheet comes to: what olbiothar_check gives for plan and table, and how many bytes of text there are. */
+typedef struct olbiothar_sheet_answer {
+    olbiothar_answer checked;
+    uint64_t length;
+} olbiothar_sheet_answer;
+
+/* Prints a table of a plan as a sheet: a line for each row, with its window and how far it lies from both of its ends. docs/examples has
+ * the sheet of a table that passes and of one that does not.
+ *
+ * `plan`, `table`: any bytes. `text`, `text_length`: lent bytes, with any contents, OLBIOTHAR_LONGEST_SHEET or more. `length` bytes of text
+ * then stand at the front of `text`; the bytes behind them are as they were. There is no zero byte at the end.
+ *
+ * checked.number 0 (`place` is 0): the table passes olbiothar_check, and the text is its sheet.
+ * checked.number 25 to 28: a row stands at a wrong time; the text is the line `refused N at P`, then the sheet.
+ * checked.number 1 to 11 and 20 to 24: the text is that line alone.
+ * checked.number 13 (text_length is below OLBIOTHAR_LONGEST_SHEET, the place; tested before all else): `length` is 0, `text` is as it was.
+ */
+olbiothar_sheet_answer olbiothar_sheet(const uint8_t *plan, size_t plan_length, const uint8_t *table, size_t table_length,
+                                       uint8_t *text, size_t text_length);
+
+/* Reads a sheet back, also one that was changed by hand: spaces, comments, blank lines and line ends are free, and numbers that only tell
+ * need only be numbers. What is proved of a sheet that olbiothar_sheet has printed: it reads back to the bytes of its table. Whether the
+ * rows are right is olbiothar_check's matter.
+ *
+ * `text`: any bytes. `table`, `table_length`: lent bytes, with any contents; OLBIOTHAR_LONGEST_TABLE are always enough.
+ *
+ * number 0: the table stands in the first `place` bytes of `table`; the bytes behind it are as they were.
+ * number 61: text_length is above OLBIOTHAR_LONGEST_SHEET. number 60: the first line that is no line of a sheet, or stands where it may
+ *   not; where the text ends before its cycle, the line behind the last. number 13: the bytes needed are more than table_length. This is
+ *   also the order in which they are tested. `table` is then as it was.
+ */
+olbiothar_answer olbiothar_sheet_table(const uint8_t *text, size_t text_length, uint8_t *table, size_t table_length);
+
 /* The structs lie in memory as the library has them: a compiler for which one of these fails must not call it. */
 #ifdef __cplusplus
 #define OLBIOTHAR_SAME(is, shall) static_assert((is) == (shall), "the library has it at " #shall)
@@ -308,6 +345,10 @@ OLBIOTHAR_AT(olbiothar_row, stop, 12, 4);
 OLBIOTHAR_SIZE(olbiothar_tick_answer, 32, 8);
 OLBIOTHAR_AT(olbiothar_tick_answer, answer, 0, 16);
 OLBIOTHAR_AT(olbiothar_tick_answer, row, 16, 16);
+
+OLBIOTHAR_SIZE(olbiothar_sheet_answer, 24, 8);
+OLBIOTHAR_AT(olbiothar_sheet_answer, checked, 0, 16);
+OLBIOTHAR_AT(olbiothar_sheet_answer, length, 16, 8);
 
 #undef OLBIOTHAR_AT
 #undef OLBIOTHAR_SIZE

@@ -1,4 +1,4 @@
-//! Bus tables made, checked and played by the proved library, `libolbiothar.a`.
+//! Bus tables made, checked, played, printed and read back by the proved library, `libolbiothar.a`.
 //!
 //! The functions below are thin: they lend slices to the library and put its answers into enums.
 //! What is proved, and what not, stands in the repository's README; that the library's functions
@@ -17,6 +17,8 @@ pub const TASKS: usize = 32;
 pub const FRAMES: usize = 1_024;
 /// No table is longer, 14,425 bytes: a header, 8 control rows, 1,024 data rows and an end.
 pub const LONGEST_TABLE: usize = 8 + NODES * 10 + FRAMES * 14 + 1;
+/// No sheet is longer, and no longer text is read as one.
+pub const LONGEST_SHEET: usize = 262_144;
 
 /// A frame, by its number: by deadline, then by task. Times are in ticks of one microsecond.
 #[repr(C)]
@@ -62,6 +64,43 @@ pub fn check(plan: &[u8], table: &[u8], rows: &mut [Frame]) -> Result<(), Refusa
         )
     };
     Refusal::of(answer).map(|_| ())
+}
+
+/// What a sheet comes to.
+#[derive(Clone, Copy, Debug, PartialEq, Eq)]
+pub struct Sheet {
+    /// What [`check`] says of plan and table, or [`Refusal::BufferTooShort`].
+    pub checked: Result<(), Refusal>,
+    /// Bytes of text at the front of what was lent.
+    pub length: usize,
+}
+
+/// Prints a table of a plan as a sheet at the front of `text`, which has [`LONGEST_SHEET`] bytes or more.
+/// A table that passes gives its sheet; one with a row at a wrong time (25 to 28) a line that says so, and
+/// its sheet; any other refusal that line alone.
+pub fn sheet(plan: &[u8], table: &[u8], text: &mut [u8]) -> Sheet {
+    // SAFETY: each pointer leads to as many bytes as the number behind it says.
+    let answer = unsafe {
+        raw::olbiothar_sheet(
+            plan.as_ptr(),
+            plan.len(),
+            table.as_ptr(),
+            table.len(),
+            text.as_mut_ptr(),
+            text.len(),
+        )
+    };
+    Sheet { checked: Refusal::of(answer.checked).map(|_| ()), length: answer.length as usize }
+}
+
+/// Reads a sheet back, also one changed by hand: the table at the front of `table`, and its length. A
+/// refusal leaves `table` as it was.
+pub fn sheet_table(text: &[u8], table: &mut [u8]) -> Result<usize, Refusal> {
+    // SAFETY: each pointer leads to as many bytes as the number behind it says.
+    let answer = unsafe {
+        raw::olbiothar_sheet_table(text.as_ptr(), text.len(), table.as_mut_ptr(), table.len())
+    };
+    Refusal::of(answer).map(|length| length as usize)
 }
 
 /// For each task, nothing or its result.

@@ -125,6 +125,12 @@ pub struct TickAnswer {
     pub row: Row,
 }
 
+#[repr(C)]
+pub struct SheetAnswer {
+    pub checked: Answer,
+    pub length: u64,
+}
+
 /// Asserts, as the header does, that a struct lies in memory as the library has it.
 macro_rules! lies {
     ($type:ty, size $size:literal, alignment $alignment:literal, $($field:ident at $offset:literal),+) => {
@@ -161,6 +167,7 @@ lies!(Input, size 320, alignment 8, results at 0, given at 256, modes at 288, ch
 lies!(Begun, size 27_032, alignment 8, answer at 0, station at 16);
 lies!(Row, size 16, alignment 4, kind at 0, sender at 1, deadline at 4, start at 8, stop at 12);
 lies!(TickAnswer, size 32, alignment 8, answer at 0, row at 16);
+lies!(SheetAnswer, size 24, alignment 8, checked at 0, length at 16);
 
 // SAFETY: these are the functions of the header, which the library exports as C functions; the structs above lie as it has them. All
 // but `olbiothar_tick` are lent memory by pointer and length, so that their callers answer for both; it is lent one reference, and is
@@ -193,4 +200,20 @@ unsafe extern "C" {
     ) -> Begun;
 
     pub safe fn olbiothar_tick(station: &mut Station, input: Input) -> TickAnswer;
+
+    pub fn olbiothar_sheet(
+        plan: *const u8,
+        plan_length: usize,
+        table: *const u8,
+        table_length: usize,
+        text: *mut u8,
+        text_length: usize,
+    ) -> SheetAnswer;
+
+    pub fn olbiothar_sheet_table(
+        text: *const u8,
+        text_length: usize,
+        table: *mut u8,
+        table_length: usize,
+    ) -> Answer;
 }

@@ -1,7 +1,7 @@
 //! The refusals, each with its place in the kind of number that the place is.
 
-use crate::FRAMES;
 use crate::raw::Answer;
+use crate::{FRAMES, LONGEST_SHEET};
 use std::fmt;
 
 /// The first rule that something breaks, at its lowest place.
@@ -31,7 +31,7 @@ pub enum Refusal {
     ControlTooLong,
     /// 12: the maker's rule found no place for this frame. A table may still exist.
     NoRoom { frame: u64 },
-    /// 13: the lent table is too short.
+    /// 13: the lent table, or the lent text of a sheet, is too short.
     BufferTooShort { needed: u64 },
     /// 19: fewer than 1,024 frame rows are lent.
     TooFewRows,
@@ -63,6 +63,10 @@ pub enum Refusal {
     ResultOverdue { task: u64 },
     /// 44: a change to a mode of another module, or at the wrong instant.
     ChangeNotAllowed { module: u64 },
+    /// 60: a line, counted from 1, is no line of a sheet, or stands where it may not.
+    Unreadable { line: u64 },
+    /// 61: a text is longer than any sheet.
+    TextTooLong,
 }
 
 impl Refusal {
@@ -99,6 +103,8 @@ impl Refusal {
             42 => Refusal::ResultTooLarge { task: place },
             43 => Refusal::ResultOverdue { task: place },
             44 => Refusal::ChangeNotAllowed { module: place },
+            60 => Refusal::Unreadable { line: place },
+            61 => Refusal::TextTooLong,
             number => unreachable!("no refusal has the number {number}"),
         })
     }
@@ -134,6 +140,8 @@ impl Refusal {
             Refusal::ResultTooLarge { .. } => 42,
             Refusal::ResultOverdue { .. } => 43,
             Refusal::ChangeNotAllowed { .. } => 44,
+            Refusal::Unreadable { .. } => 60,
+            Refusal::TextTooLong => 61,
         }
     }
 
@@ -166,6 +174,8 @@ impl Refusal {
             Refusal::NotAwaited { task }
             | Refusal::ResultTooLarge { task }
             | Refusal::ResultOverdue { task } => task,
+            Refusal::Unreadable { line } => line,
+            Refusal::TextTooLong => LONGEST_SHEET as u64,
         }
     }
 }

@@ -6,3 +6,4 @@ pub mod FewFrames
 pub mod MakeRules
 pub mod CheckRules
 pub mod Unique
+pub mod Sheets

@@ -1,3 +1,4 @@
 pub mod Lent
 pub mod Playing
 pub mod Scanned
+pub mod Sheets

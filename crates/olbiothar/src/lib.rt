@@ -1,4 +1,5 @@
-// The library for C and Rust: make, check, begin and tick of docs/RULES.md, on byte slices, frame rows and numbers.
+// The library for C and Rust: make, check, begin and tick of docs/RULES.md, and a sheet written and read back, on byte slices, frame rows and
+// numbers.
 // No function has a precondition; an answer is a number and a place, for C has no enums that carry values.
 // The lent frame rows are a slice of structs, and a tick changes a lent station in place. The prover's walk covers no function over a
 // reference to a struct, so these are thin: covered functions answer by value, and the passes of `rows` bring it into the lent rows.
@@ -8,6 +9,7 @@ ghost use Rattle.olbiothar.specs.Scanned.{Scans};
 ghost use Rattle.rules.specs.Station.{begin};
 ghost use Rattle.stationruns.specs.Inputs.{startingAt};
 ghost use Rattle.olbiothar.specs.Playing.{Ticks, begunBy};
+ghost use Rattle.olbiothar.specs.Sheets.{backSaid, hasRoom, isRead, sheetLeft, sheetSaid, tableLeft, tableSaid};
 use checker::CheckedRows;
 use outward::Answer;
 use outward::TickAnswer;
@@ -19,10 +21,12 @@ use rows::passes::fill;
 use rows::passes::some_early;
 use rows::passes::zero_bytes;
 use rows::passes::zero_words;
+use sheetreader::Back;
 use station::Station;
 use station::nodes_after_tick;
 use stationruns::Input;
 use stationruns::Starting;
+use units::ByteCount;
 use units::Frame;
 
 // The table of a plan, at the front of the lent bytes; its length, or refusals 19 and 1 to 13.
@@ -130,4 +134,70 @@ pub extern "C" fn olbiothar_tick(station: &mut Station, input: Input) -> TickAns
         station.nodes = nodes_after_tick(station.nodes, station.fixed, first.part);
     }
     first.tick
+}
+
+// A sheet: what check says of plan and table, and how long the text is.
+#[repr(C)]
+pub struct SheetAnswer {
+    pub checked: Answer,
+    pub length: u64,
+}
+
+// The sheet of a plan and a table, at the front of the lent bytes. Room for the longest sheet is asked for before all else: 13.
+#[no_mangle]
+pub extern "C" fn olbiothar_sheet(plan: &[u8], table: &[u8], text: &mut [u8]) -> SheetAnswer
+    ensures { λ r. ⌜ r ≡ sheetSaid (hasRoom (now (text .entry))) (now (plan .entry)) (now (table .entry)) ⌝ }
+    ensures { λ r. ⌜ now (text .exit) ≡ sheetLeft (hasRoom (now (text .entry))) (now (text .entry)) (now (plan .entry)) (now (table .entry)) ⌝ }
+{
+    if text.len() < ByteCount::LONGEST_SHEET {
+        return SheetAnswer {
+            checked: Answer {
+                number: 13,
+                place: ByteCount::LONGEST_SHEET as u64,
+            },
+            length: 0,
+        };
+    }
+    let written = sheetwriter::write(plan, table, text);
+    let answer = written.answer;
+    SheetAnswer {
+        checked: judged(answer),
+        length: written.length as u64,
+    }
+}
+
+// What reading a sheet back comes to: 60 at the line that cannot be read, 13 at the bytes that the table needs.
+fn read_said(back: Back) -> Answer
+    ensures { λ r. ⌜ r ≡ backSaid back ⌝ }
+{
+    match back {
+        Back::Table(length) => Answer {
+            number: 0,
+            place: length as u64,
+        },
+        Back::Unreadable(line) => Answer {
+            number: 60,
+            place: line,
+        },
+        Back::Needs(bytes) => Answer {
+            number: 13,
+            place: bytes as u64,
+        },
+    }
+}
+
+// The table of a sheet, at the front of the lent bytes; its length, or the refusals 61, 60 and 13.
+#[no_mangle]
+pub extern "C" fn olbiothar_sheet_table(text: &[u8], table: &mut [u8]) -> Answer
+    ensures { λ r. ⌜ r ≡ tableSaid (isRead (now (text .entry))) (now (text .entry)) (now (table .entry)) ⌝ }
+    ensures { λ r. ⌜ now (table .exit) ≡ tableLeft (isRead (now (text .entry))) (now (text .entry)) (now (table .entry)) ⌝ }
+{
+    if ByteCount::LONGEST_SHEET < text.len() {
+        return Answer {
+            number: 61,
+            place: ByteCount::LONGEST_SHEET as u64,
+        };
+    }
+    let back = sheetreader::read_back(text, table);
+    read_said(back)
 }
