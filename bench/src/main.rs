@@ -3,7 +3,7 @@
 //! ratios, and the ratios between which the middle half of the rounds lies.
 
 use bench::{SIZES, TICKS, plan_with, ticks_of};
-use olbiothar::{FRAMES, Frame, LONGEST_TABLE, Refusal, Station};
+use olbiothar::{FRAMES, Frame, LONGEST_SHEET, LONGEST_TABLE, Refusal, Station};
 use reference::FrameRow;
 use reference::generate::quick_runs;
 use std::hint::black_box;
@@ -58,7 +58,7 @@ fn compare<P, R>(
 }
 
 fn line(name: &str, frames: usize) -> String {
-    format!("{name:<6} {frames:>6}")
+    format!("{name:<11} {frames:>6}")
 }
 
 fn compare_make(frames: usize, plan: &[u8]) -> Vec<u8> {
@@ -86,6 +86,34 @@ fn compare_check(frames: usize, plan: &[u8], table: &[u8]) {
         1,
         || olbiothar::check(black_box(plan), table, &mut proved_rows),
         || reference::check(black_box(plan), table, &mut rows),
+    );
+}
+
+fn compare_sheet(frames: usize, plan: &[u8], table: &[u8]) -> Vec<u8> {
+    let (mut proved_text, mut text) = (vec![0; LONGEST_SHEET], vec![0; LONGEST_SHEET]);
+    let printed = reference::sheet(plan, table, &mut text);
+    let proved = olbiothar::sheet(plan, table, &mut proved_text);
+    assert_eq!((proved.checked, proved.length), (Ok(()), printed.length));
+    assert_eq!(proved_text, text);
+    let sheet = text[..printed.length].to_vec();
+    compare(
+        &line("sheet", frames),
+        1,
+        || olbiothar::sheet(black_box(plan), table, &mut proved_text),
+        || reference::sheet(black_box(plan), table, &mut text),
+    );
+    sheet
+}
+
+fn compare_sheet_table(frames: usize, sheet: &[u8], table: &[u8]) {
+    let (mut proved_table, mut rust_table) = ([0; LONGEST_TABLE], [0; LONGEST_TABLE]);
+    assert_eq!(olbiothar::sheet_table(sheet, &mut proved_table), Ok(table.len()));
+    assert_eq!(proved_table[..table.len()], *table);
+    compare(
+        &line("sheet_table", frames),
+        1,
+        || olbiothar::sheet_table(black_box(sheet), &mut proved_table),
+        || reference::sheet_table(black_box(sheet), &mut rust_table),
     );
 }
 
@@ -137,12 +165,14 @@ fn compare_quick(tasks: usize, ticks: u32, period: u32) {
 }
 
 fn main() {
-    println!("       frames    proved ns    Rust ns    ratio   middle half");
+    println!("            frames    proved ns    Rust ns    ratio   middle half");
     for (frames, rates) in SIZES {
         let plan = plan_with(rates).bytes();
         let table = compare_make(frames, &plan);
         compare_check(frames, &plan, &table);
         compare_ticks(frames, &plan, &table);
+        let sheet = compare_sheet(frames, &plan, &table);
+        compare_sheet_table(frames, &sheet, &table);
     }
     println!("\nrefused 9 at 0");
     println!("tasks  ticks          P   messages    proved ns    Rust ns    ratio   middle half");

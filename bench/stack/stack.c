@@ -27,7 +27,8 @@ typedef struct file {
 /* What the calls are given and give: nothing of it stands on the painted stack. */
 static const file *plan, *table;
 static olbiothar_frame rows[OLBIOTHAR_FRAMES];
-static uint8_t room[OLBIOTHAR_LONGEST_TABLE];
+static uint8_t room[OLBIOTHAR_LONGEST_TABLE], text[OLBIOTHAR_LONGEST_SHEET];
+static size_t text_length;
 static olbiothar_starting starting;
 static olbiothar_begun begun;
 static olbiothar_station station;
@@ -67,6 +68,19 @@ static void ticks(void) {
     }
 }
 
+static void sheet(void) {
+    count_from_here();
+    olbiothar_sheet_answer printed = olbiothar_sheet(plan->bytes, plan->length, table->bytes, table->length, text, sizeof text);
+    text_length = printed.length;
+    answer = printed.checked;
+}
+
+/* Of what the sheet has left. */
+static void sheet_table(void) {
+    count_from_here();
+    answer = olbiothar_sheet_table(text, text_length, room, sizeof room);
+}
+
 static _Alignas(16) uint8_t stack[STACK];
 static ucontext_t here, there;
 
@@ -84,7 +98,8 @@ static ptrdiff_t bytes_of(void (*function)(void)) {
     return caller - (stack + painted);
 }
 
-static void (*const functions[])(void) = {make, check, begin, ticks};
+static void (*const functions[])(void) = {make, check, begin, ticks, sheet, sheet_table};
+static const char *const names[] = {"make", "check", "begin", "ticks", "sheet", "sheet_table"};
 enum { FUNCTIONS = sizeof functions / sizeof *functions };
 static ptrdiff_t most[FUNCTIONS];
 
@@ -158,7 +173,9 @@ int main(int count, char **words) {
     if (count != 2) fail("which plan?");
     const file job_a = read_file(words[1]), longest = plan_with(rates), too_many = plan_with(one_more), nothing = {.length = 0};
     const file table_a = table_of(&job_a), longest_table = table_of(&longest), early_table = early(&longest_table);
-    printf("%-36s%8s%13s%13s%13s\n", "bytes of stack (answer)", "make", "check", "begin", "ticks");
+    printf("%-36s", "bytes of stack (answer)");
+    for (size_t k = 0; k < FUNCTIONS; k++) printf("%*s", k == 0 ? 8 : 13, names[k]);
+    puts("");
     line("job A", &job_a, &table_a, of_a);
     line("1,024 frames, the longest table", &longest, &longest_table, of_eight);
     line("refused: no starting modes", &longest, &longest_table, none);
@@ -166,6 +183,8 @@ int main(int count, char **words) {
     line("refused: another plan's table", &longest, &table_a, of_eight);
     line("refused: 1,025 frames", &too_many, &longest_table, of_eight);
     line("refused: an empty plan", &nothing, &nothing, none);
-    printf("%-36s%8td%13td%13td%13td\n", "at most", most[0], most[1], most[2], most[3]);
+    printf("%-36s", "at most");
+    for (size_t k = 0; k < FUNCTIONS; k++) printf("%*td", k == 0 ? 8 : 13, most[k]);
+    puts("");
     return 0;
 }

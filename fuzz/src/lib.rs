@@ -3,8 +3,9 @@
 //! libFuzzer to inputs that go other ways. Memory that the library is lent lies against a page that
 //! nothing may touch, so that a read or a write behind it ends the run.
 //!
-//! An input is a byte that says what is done, a byte for the lent rows, a plan behind its length
-//! (two bytes), and what the rest is for: the table's buffer, a table, or a history.
+//! An input is a byte that says what is done, a byte for the lent rows or bytes, a plan behind its length
+//! (two bytes), and what the rest is for: the table's buffer, a table, or a history. A text that is read
+//! as a sheet has no plan in front.
 
 pub mod input;
 pub mod lent;
@@ -12,7 +13,7 @@ pub mod lent;
 use input::{Input, Tick};
 use lent::Lent;
 use olbiothar::{Frame, Refusal};
-use reference::{FrameRow, MOST_FRAMES};
+use reference::{FrameRow, LONGEST_SHEET, MOST_FRAMES};
 
 /// libFuzzer's entry.
 ///
@@ -29,21 +30,22 @@ pub unsafe extern "C" fn LLVMFuzzerTestOneInput(data: *const u8, size: usize) ->
 pub fn run(bytes: &[u8]) {
     let mut input = Input::new(bytes);
     let what = input.byte();
-    let rows = lent_rows(input.byte());
-    let plan = input.file();
-    match what % 3 {
-        0 => make(plan, rows, input.rest()),
-        1 => check(plan, input.rest(), rows),
-        _ => play(plan, input),
+    let lent = input.byte();
+    match what % 5 {
+        0 => make(input.file(), near(lent, MOST_FRAMES), input.rest()),
+        1 => check(input.file(), input.rest(), near(lent, MOST_FRAMES)),
+        2 => play(input.file(), input),
+        3 => sheet(input.file(), input.rest(), near(lent, LONGEST_SHEET)),
+        _ => sheet_table(input.rest(), usize::from(lent)),
     }
 }
 
 /// As many as must be lent, or some more or fewer.
-fn lent_rows(byte: u8) -> usize {
+fn near(byte: u8, needed: usize) -> usize {
     match byte {
-        0..128 => MOST_FRAMES,
-        128..192 => MOST_FRAMES + usize::from(byte - 128),
-        _ => MOST_FRAMES - usize::from(byte - 191),
+        0..128 => needed,
+        128..192 => needed + usize::from(byte - 128),
+        _ => needed - usize::from(byte - 191),
     }
 }
 
@@ -114,6 +116,39 @@ fn play(plan: &[u8], mut input: Input) {
                 station.shown(node, task) == rust_station.shown(node, task)
             })
         );
+    }
+}
+
+const OLD_BYTE: u8 = 0x5a;
+
+/// What has rows reads back to the table.
+fn sheet(plan: &[u8], table: &[u8], room: usize) {
+    let old = vec![OLD_BYTE; room];
+    let (plan_lent, table_lent) = (Lent::copy(plan), Lent::copy(table));
+    let mut text = Lent::copy(&old);
+    let olbiothar::Sheet { checked, length } = olbiothar::sheet(&plan_lent, &table_lent, &mut text);
+    let mut rust_text = old;
+    let rust_sheet = reference::sheet(plan, table, &mut rust_text);
+    assert_eq!((proved(checked), length), (rust(rust_sheet.checked), rust_sheet.length));
+    assert!(*text == rust_text[..]);
+    assert_eq!((&*plan_lent, &*table_lent), (plan, table));
+    if checked.map_or_else(|refusal| (25..=28).contains(&refusal.number()), |()| true) {
+        let mut back = Lent::copy(&vec![OLD_BYTE; table.len()]);
+        assert_eq!(olbiothar::sheet_table(&text[..length], &mut back), Ok(table.len()));
+        assert_eq!(*back, *table);
+    }
+}
+
+/// Into a room of few bytes, and into one that is always enough.
+fn sheet_table(text: &[u8], few: usize) {
+    let text_lent = Lent::copy(text);
+    for room in [few, olbiothar::LONGEST_TABLE] {
+        let mut table = Lent::copy(&vec![OLD_BYTE; room]);
+        let read = proved(olbiothar::sheet_table(&text_lent, &mut table));
+        let mut rust_table = vec![OLD_BYTE; room];
+        assert_eq!(read, rust(reference::sheet_table(text, &mut rust_table)));
+        assert_eq!(*table, rust_table[..]);
+        assert_eq!(*text_lent, *text);
     }
 }
 

@@ -1,5 +1,5 @@
-/* What the header promises of the boundary itself: parts that are not lent, a station's fields where the header has them, and a
- * station that holds any bytes. The word on the command line is the plan of job A.
+/* What the header promises of the boundary itself: parts that are not lent, a sheet there and back, a station's fields where the header
+ * has them, and a station that holds any bytes. The word on the command line is the plan of job A.
  *
  * That the structs have the sizes, alignments and offsets of the library is asserted in the header, which is compiled here.
  */
@@ -19,7 +19,7 @@ static void holds(int it_does, const char *what, int line) {
 
 enum { LENGTH = 75, MODE = 1, FRAME_STARTS = 19904, FRAME_STOPS = 20000, VALUE = 7 };
 
-static uint8_t plan[256], table[LENGTH];
+static uint8_t plan[256], table[LENGTH], text[OLBIOTHAR_LONGEST_SHEET];
 static size_t plan_length;
 static olbiothar_frame rows[OLBIOTHAR_FRAMES];
 static const olbiothar_starting no_modes;
@@ -37,6 +37,13 @@ static void read_plan(const char *path) {
     fclose(file);
 }
 
+/* What a plan prints with no table. */
+static int prints(const uint8_t *of, size_t length, uint8_t *into, size_t room, uint32_t number, uint64_t place, const char *line) {
+    olbiothar_sheet_answer sheet = olbiothar_sheet(of, length, NULL, 0, into, room);
+    return is(sheet.checked, number, place) && sheet.length == strlen(line) &&
+           (sheet.length == 0 || memcmp(into, line, sheet.length) == 0);
+}
+
 /* NULL with a length of 0, for every lent part of every function. */
 static void nothing_lent(void) {
     HOLDS(is(olbiothar_make(NULL, 0, rows, OLBIOTHAR_FRAMES, NULL, 0), OLBIOTHAR_BAD_RECORDS, 0));
@@ -47,10 +54,27 @@ static void nothing_lent(void) {
     HOLDS(is(olbiothar_check(plan, plan_length, NULL, 0, rows, OLBIOTHAR_FRAMES), OLBIOTHAR_BAD_TABLE_RECORDS, 0));
     HOLDS(is(olbiothar_begin(NULL, 0, NULL, 0, no_modes).answer, OLBIOTHAR_BAD_RECORDS, 0));
     HOLDS(is(olbiothar_begin(plan, plan_length, NULL, 0, two_modes).answer, OLBIOTHAR_BAD_TABLE_RECORDS, 0));
+    HOLDS(prints(NULL, 0, NULL, 0, OLBIOTHAR_BUFFER_TOO_SHORT, OLBIOTHAR_LONGEST_SHEET, ""));
+    HOLDS(prints(NULL, 0, text, sizeof text, OLBIOTHAR_BAD_RECORDS, 0, "refused 1 at 0\n"));
+    HOLDS(prints(plan, plan_length, text, sizeof text, OLBIOTHAR_BAD_TABLE_RECORDS, 0, "refused 20 at 0\n"));
+    HOLDS(is(olbiothar_sheet_table(NULL, 0, NULL, 0), OLBIOTHAR_UNREADABLE, 1));
+    HOLDS(is(olbiothar_sheet_table(NULL, 0, table, LENGTH), OLBIOTHAR_UNREADABLE, 1));
+    HOLDS(is(olbiothar_sheet_table((const uint8_t *)"cycle 0", 7, NULL, 0), OLBIOTHAR_BUFFER_TOO_SHORT, 9));
     /* A caller asks for the bytes needed, and lends so many. */
     olbiothar_answer asked = olbiothar_make(plan, plan_length, rows, OLBIOTHAR_FRAMES, NULL, 0);
     HOLDS(is(asked, OLBIOTHAR_BUFFER_TOO_SHORT, LENGTH));
     HOLDS(is(olbiothar_make(plan, plan_length, rows, OLBIOTHAR_FRAMES, table, asked.place), OLBIOTHAR_DONE, LENGTH));
+}
+
+/* Job A's table, printed and read back. */
+static void printed_and_read(void) {
+    static const char cycle[] = "cycle 60000  # ticks of one microsecond\n";
+    static uint8_t back[OLBIOTHAR_LONGEST_TABLE];
+    olbiothar_sheet_answer sheet = olbiothar_sheet(plan, plan_length, table, LENGTH, text, sizeof text);
+    HOLDS(is(sheet.checked, OLBIOTHAR_DONE, 0));
+    HOLDS(sheet.length > strlen(cycle) && memcmp(text, cycle, strlen(cycle)) == 0);
+    HOLDS(is(olbiothar_sheet_table(text, sheet.length, back, sizeof back), OLBIOTHAR_DONE, LENGTH));
+    HOLDS(memcmp(back, table, LENGTH) == 0);
 }
 
 /* Each field of a station that has begun with job A, read where the header has it; what is not named is 0. */
@@ -199,6 +223,7 @@ int main(int count, char **words) {
     HOLDS(count == 2);
     read_plan(words[1]);
     nothing_lent();
+    printed_and_read();
     fields(&station);
     flags(&station);
     behind_the_pairs(&station);

@@ -4,9 +4,12 @@
  *   check: 'C' plan length u32, table length u32, rows u32, plan, table, rows  ->  answer, rows
  *   begin: 'B' plan length u32, table length u32, plan, table, modes 16 x u8, given 16 x u8  ->  answer
  *   tick:  'T' results 32 x u64, given 32 x u8, modes 16 x u8, changed 16 x u8  ->  answer, row, shown 8 x 32 x u64
+ *   sheet: 'S' plan length u32, table length u32, room u32, old u8, plan, table  ->  answer, length u64, text
+ *   sheet_table: 'R' text length u32, room u32, text, buffer  ->  answer, buffer
  *
  * A row of frames is four u32: task, release, deadline, start; an answer is number u32, place u64; a row of the table that starts is
- * kind u8, sender u8, deadline u32, start u32, stop u32.
+ * kind u8, sender u8, deadline u32, start u32, stop u32. A sheet is lent `room` bytes that are all `old`; that those behind its text still
+ * are is looked at here, so that a quarter of a megabyte need not go there and back for each.
  *
  * All memory that the library is lent ends at a page that nothing may touch, and what stands before it is looked at after each call.
  */
@@ -68,6 +71,11 @@ static void look_before(const arena *of) {
         if (of->lent[at - BEFORE] != MARK) fail("a byte before the lent memory changed");
 }
 
+/* The first byte is the old one, and each is the one before it. */
+static void look_old(const uint8_t *bytes, size_t count, uint8_t old) {
+    if (count > 0 && (bytes[0] != old || memcmp(bytes, bytes + 1, count - 1) != 0)) fail("a byte behind the text changed");
+}
+
 /* A file that the library only reads. */
 typedef struct file {
     arena memory;
@@ -120,7 +128,7 @@ static void give_answer(olbiothar_answer answer) {
     give(&answer.place, sizeof answer.place);
 }
 
-static file plan, table;
+static file plan, table, text;
 static arena row_memory, buffer_memory;
 static olbiothar_station station;
 
@@ -184,9 +192,42 @@ static void tick(void) {
         give(station.nodes[node].shown, sizeof station.nodes[node].shown);
 }
 
+static void sheet(void) {
+    size_t plan_length = take_u32(), table_length = take_u32(), room = take_u32();
+    uint8_t old;
+    take(&old, sizeof old);
+    take_file(&plan, plan_length);
+    take_file(&table, table_length);
+    uint8_t *buffer = lend(&buffer_memory, room);
+    memset(buffer, old, room);
+    olbiothar_sheet_answer answer =
+        olbiothar_sheet(plan.memory.lent, plan_length, table.memory.lent, table_length, buffer, room);
+    look_unchanged(&plan);
+    look_unchanged(&table);
+    look_before(&buffer_memory);
+    if (answer.length > room) fail("a text is longer than its room");
+    look_old(buffer + answer.length, room - answer.length, old);
+    give_answer(answer.checked);
+    give(&answer.length, sizeof answer.length);
+    give(buffer, answer.length);
+}
+
+static void sheet_table(void) {
+    size_t text_length = take_u32(), room = take_u32();
+    take_file(&text, text_length);
+    uint8_t *buffer = lend(&buffer_memory, room);
+    take(buffer, room);
+    olbiothar_answer answer = olbiothar_sheet_table(text.memory.lent, text_length, buffer, room);
+    look_unchanged(&text);
+    look_before(&buffer_memory);
+    give_answer(answer);
+    give(buffer, room);
+}
+
 int main(void) {
     plan = new_file();
     table = new_file();
+    text = new_file();
     row_memory = new_arena();
     buffer_memory = new_arena();
     for (int asked; (asked = getchar()) != EOF;) {
@@ -195,6 +236,8 @@ int main(void) {
         case 'C': check(); break;
         case 'B': begin(); break;
         case 'T': tick(); break;
+        case 'S': sheet(); break;
+        case 'R': sheet_table(); break;
         default: fail("an unknown request");
         }
         if (fflush(stdout) != 0) fail("an answer cannot be written");

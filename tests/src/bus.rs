@@ -189,7 +189,7 @@ fn list_task(runs: &[Run], worst: u32, period: u32, packed: &mut [u64]) -> Optio
 }
 
 /// By node, one byte for each sending module on it.
-fn control_payloads(plan: &Plan, modules: u32) -> [u32; MOST_NODES] {
+pub(crate) fn control_payloads(plan: &Plan, modules: u32) -> [u32; MOST_NODES] {
     let mut payloads = [0; MOST_NODES];
     for (number, module) in (0..).zip(plan.modules.iter()) {
         payloads[usize::from(module.node)] += u32::from(has(modules, number));
@@ -232,7 +232,7 @@ fn sending_times(plan: &Plan) -> [u32; MOST_TASKS] {
 }
 
 /// What a frame or a gap takes of the bus: its bits, and their time.
-#[derive(Clone, Copy, Debug, PartialEq, Eq)]
+#[derive(Clone, Copy, Debug, Default, PartialEq, Eq)]
 pub struct Sending {
     pub bits: u32,
     pub ticks: u32,

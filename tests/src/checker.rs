@@ -21,17 +21,29 @@ pub struct DataRow {
 type ControlRecord = [u8; record_length(CONTROL_ROW)];
 type DataRecord = [u8; record_length(DATA_ROW)];
 
-/// A passed table's data rows, in the lent file, and the plan it was checked for.
+/// A table's data rows, in the lent file.
+#[derive(Clone, Copy)]
+pub struct DataRows<'a>(&'a [DataRecord]);
+
+/// By data row, the number of the frame that it names.
+pub type Named = [u16; MOST_FRAMES];
+
+impl<'a> DataRows<'a> {
+    pub fn iter(self) -> impl DoubleEndedIterator<Item = DataRow> + 'a {
+        self.0.iter().map(read_data_row)
+    }
+
+    /// Each row with the number of its frame.
+    pub fn numbered(self, named: &Named) -> impl Iterator<Item = (DataRow, usize)> {
+        self.iter().zip(named.iter().map(|&number| usize::from(number)))
+    }
+}
+
+/// A passed table's data rows, and the plan it was checked for.
 pub struct Passed<'a> {
     pub plan: Plan,
     pub bus: Bus,
-    data: &'a [DataRecord],
-}
-
-impl Passed<'_> {
-    pub fn data(&self) -> impl Iterator<Item = DataRow> {
-        self.data.iter().map(read_data_row)
-    }
+    pub data: DataRows<'a>,
 }
 
 /// Takes `MOST_FRAMES` rows at least; after a refusal their contents mean nothing.
@@ -42,18 +54,57 @@ pub fn judge<'a>(
 ) -> Result<Passed<'a>, Refusal> {
     let plan = plan::read(plan)?;
     let bus = bus::derive(&plan, rows)?;
+    let frames = &mut rows[..bus.frames];
+    let mut named = [0; MOST_FRAMES];
+    let data = locate(&bus, table, frames, &mut named)?;
+    judge_places(&bus, data, &named, frames)?;
+    for (row, number) in data.numbered(&named) {
+        frames[number].start = row.start;
+    }
+    Ok(Passed { plan, bus, data })
+}
+
+/// Refusals 20 to 24: whether the rows are the plan's, wherever in the cycle they stand.
+pub fn locate<'a>(
+    bus: &Bus,
+    table: &'a [u8],
+    frames: &[FrameRow],
+    named: &mut Named,
+) -> Result<DataRows<'a>, Refusal> {
     let cut = outline(table, &TABLE_FILE).map_err(|place| Refusal::new(20, place))?;
     let [header] = cut.once;
     let [control, data] = cut.repeated;
     let control: &[ControlRecord] = control.as_chunks().0;
-    let data: &[DataRecord] = data.as_chunks().0;
-    let as_planned =
-        header_fits(&bus, header) && control.len() == bus.control.len() && data.len() == bus.frames;
+    let data = DataRows(data.as_chunks().0);
+    let as_planned = header_fits(bus, header)
+        && control.len() == bus.control.len()
+        && data.0.len() == bus.frames;
     refuse_at(21, (!as_planned).then_some(0))?;
     let mut rows_read = control.iter().map(read_control_row).zip(bus.control.iter());
     refuse_at(22, rows_read.position(|(row, fixed)| row != *fixed).map(|index| 1 + index))?;
-    judge_data_rows(&bus, data, &mut rows[..bus.frames])?;
-    Ok(Passed { plan, bus, data })
+    refuse_at(23, record(bus, name_frames(data.iter(), frames, named)))?;
+    refuse_at(24, record(bus, data.iter().position(|row| !keeps_time(bus, &row))))?;
+    Ok(data)
+}
+
+/// Refusals 25 to 28, rule by rule over all rows: a lower number goes before a lower record.
+pub fn judge_places(
+    bus: &Bus,
+    data: DataRows,
+    named: &Named,
+    frames: &[FrameRow],
+) -> Result<(), Refusal> {
+    let early = data.numbered(named).position(|(row, number)| row.start < frames[number].release);
+    refuse_at(25, record(bus, early))?;
+    refuse_at(26, record(bus, data.iter().position(|row| row.stop > row.deadline)))?;
+    refuse_at(27, record(bus, first_crowded(bus, data.iter())))?;
+    let last_stop = data.iter().next_back().map_or(0, |row| row.stop);
+    refuse_at(28, (last_stop + bus.gap > bus.period).then_some(bus.control.len() + data.0.len()))
+}
+
+/// The record of a data row.
+fn record(bus: &Bus, index: Option<usize>) -> Option<usize> {
+    index.map(|index| 1 + bus.control.len() + index)
 }
 
 fn header_fits(bus: &Bus, header: &[u8]) -> bool {
@@ -82,27 +133,6 @@ pub fn read_data_row(record: &DataRecord) -> DataRow {
     }
 }
 
-/// Rule by rule over all rows: a lower number goes before a lower record.
-fn judge_data_rows(bus: &Bus, data: &[DataRecord], frames: &mut [FrameRow]) -> Result<(), Refusal> {
-    let first = 1 + bus.control.len();
-    let lowest = |index: Option<usize>| index.map(|index| first + index);
-    let rows = || data.iter().map(read_data_row);
-    let mut numbers = [0u16; MOST_FRAMES];
-    refuse_at(23, lowest(name_frames(rows(), frames, &mut numbers)))?;
-    let named = || rows().zip(numbers.iter().map(|&number| usize::from(number)));
-    refuse_at(24, lowest(rows().position(|row| !keeps_time(bus, &row))))?;
-    let early = named().position(|(row, number)| row.start < frames[number].release);
-    refuse_at(25, lowest(early))?;
-    refuse_at(26, lowest(rows().position(|row| row.stop > row.deadline)))?;
-    refuse_at(27, lowest(first_crowded(bus, rows())))?;
-    let last_stop = rows().next_back().map_or(0, |row| row.stop);
-    refuse_at(28, (last_stop + bus.gap > bus.period).then_some(bus.control.len() + data.len()))?;
-    for (row, number) in named() {
-        frames[number].start = row.start;
-    }
-    Ok(())
-}
-
 /// The number of the frame that a row names.
 pub fn frame_of(frames: &[FrameRow], row: &DataRow) -> Option<usize> {
     let key = u64::from(row.deadline) << 32 | u64::from(row.task);
@@ -113,7 +143,7 @@ pub fn frame_of(frames: &[FrameRow], row: &DataRow) -> Option<usize> {
 fn name_frames(
     mut rows: impl Iterator<Item = DataRow>,
     frames: &[FrameRow],
-    numbers: &mut [u16; MOST_FRAMES],
+    numbers: &mut Named,
 ) -> Option<usize> {
     let mut taken = [false; MOST_FRAMES];
     let mut numbers = numbers.iter_mut();

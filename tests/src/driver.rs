@@ -3,7 +3,7 @@
 
 use crate::program::{Program, Ticked};
 use crate::station::{Modes, Results};
-use crate::{FrameRow, MOST_NODES, MOST_TASKS, Refusal, Row};
+use crate::{FrameRow, MOST_NODES, MOST_TASKS, Refusal, Row, Sheet};
 use std::io::{BufReader, Read, Write};
 use std::process::{Child, ChildStdin, ChildStdout, Command, Stdio};
 
@@ -158,6 +158,31 @@ impl Program for Driver {
         let mut shown = [[0; MOST_TASKS]; MOST_NODES];
         shown.iter_mut().flatten().for_each(|value| *value = self.long_number());
         Ticked { answer: answer.map(|()| row), shown }
+    }
+
+    fn sheet(&mut self, plan: &[u8], table: &[u8], text: &mut [u8]) -> Sheet {
+        let old = text.first().copied().unwrap_or(0);
+        let all_but_one = text.len().saturating_sub(1);
+        assert!(text.ends_with(&text[..all_but_one]), "one byte says what is lent");
+        let mut request = request(b'S', &[plan.len(), table.len(), text.len()]);
+        request.push(old);
+        request.extend(plan);
+        request.extend(table);
+        self.ask(&request);
+        let checked = self.answer().map(nothing_more);
+        let length = self.long_number() as usize;
+        self.bytes(&mut text[..length]);
+        Sheet { checked, length }
+    }
+
+    fn sheet_table(&mut self, text: &[u8], table: &mut [u8]) -> Result<usize, Refusal> {
+        let mut request = request(b'R', &[text.len(), table.len()]);
+        request.extend(text);
+        request.extend(table.iter());
+        self.ask(&request);
+        let read = self.answer();
+        self.bytes(table);
+        read
     }
 }
 

@@ -1,11 +1,12 @@
-//! Seeded cases: plans, tables and histories, good, near the limits and damaged. The same seed
-//! gives the same cases.
+//! Seeded cases: plans, tables, sheets and histories, good, near the limits and damaged. The same
+//! seed gives the same cases.
 
 mod damage;
 mod draft;
 mod histories;
 mod plans;
 mod random;
+mod sheets;
 mod tables;
 
 pub use damage::{break_plan_rule, break_table_rule, damage_bytes};
@@ -16,11 +17,12 @@ pub use plans::{
     valid_plan,
 };
 pub use random::Rng;
+pub use sheets::{any_text, printed};
 pub use tables::{Made, made_plan, move_rows, playable_plan};
 
-use crate::MOST_FRAMES;
 use crate::maker::LONGEST_TABLE;
 use crate::station::Modes;
+use crate::{LONGEST_SHEET, MOST_FRAMES, sheet_table};
 
 #[derive(Clone, Debug)]
 pub struct MakeCase {
@@ -41,6 +43,19 @@ pub struct PlayCase {
     pub plan: Vec<u8>,
     pub table: Vec<u8>,
     pub modes: Modes,
+}
+
+#[derive(Clone, Debug)]
+pub struct SheetCase {
+    pub plan: Vec<u8>,
+    pub table: Vec<u8>,
+    pub room: usize,
+}
+
+#[derive(Clone, Debug)]
+pub struct TextCase {
+    pub text: Vec<u8>,
+    pub room: usize,
 }
 
 /// Longer than any table.
@@ -82,10 +97,13 @@ pub fn make_case(rng: &mut Rng) -> MakeCase {
     let plan = plan_file(rng);
     // Where no table is made, the room is as for a small one.
     let length = Made::of(&plan).map_or(100, |made| made.table.bytes().len());
-    let some_more = length + rng.below(500);
-    let room =
-        rng.pick(&[0, length / 2, length - 1, length, some_more, some_more, some_more, PLENTY]);
+    let room = room_for_table(rng, length);
     MakeCase { plan, rows: lent_rows(rng), room }
+}
+
+fn room_for_table(rng: &mut Rng, length: usize) -> usize {
+    let some_more = length + rng.below(500);
+    rng.pick(&[0, length / 2, length - 1, length, some_more, some_more, some_more, PLENTY])
 }
 
 fn lent_rows(rng: &mut Rng) -> usize {
@@ -124,6 +142,27 @@ fn any_table(rng: &mut Rng, made: &mut Made) -> Vec<u8> {
         damage_bytes(rng, &mut bytes);
     }
     bytes
+}
+
+pub fn sheet_case(rng: &mut Rng) -> SheetCase {
+    let CheckCase { plan, table, .. } = check_case(rng);
+    let room = match rng.below(16) {
+        0 => {
+            let too_little = rng.below(LONGEST_SHEET);
+            rng.pick(&[0, too_little, LONGEST_SHEET - 1])
+        }
+        1 => LONGEST_SHEET + rng.below(500),
+        _ => LONGEST_SHEET,
+    };
+    SheetCase { plan, table, room }
+}
+
+pub fn text_case(rng: &mut Rng) -> TextCase {
+    let text = any_text(rng);
+    // Where the text is unreadable, the room is as for a small table.
+    let length = sheet_table(&text, &mut [0; LONGEST_TABLE]).unwrap_or(100);
+    let room = room_for_table(rng, length);
+    TextCase { text, room }
 }
 
 pub fn play_case(rng: &mut Rng) -> PlayCase {

@@ -11,12 +11,14 @@ pub mod one_board;
 pub mod plan;
 pub mod program;
 pub mod records;
+pub mod sheet;
 pub mod station;
 pub mod stored;
 pub mod vectors;
 
 pub use checker::check;
 pub use maker::make;
+pub use sheet::{LONGEST_SHEET, Sheet, sheet, sheet_table};
 pub use station::{Row, Station};
 
 pub const MOST_NODES: usize = 8;

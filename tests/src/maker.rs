@@ -1,6 +1,7 @@
 //! The latest-release rule and the table's bytes: refusals 12 and 13.
 
-use crate::bus::{self, Bus};
+use crate::bus::{self, Bus, ControlRow};
+use crate::checker::DataRow;
 use crate::records::{CONTROL_ROW, DATA_ROW, END, TABLE, record_length};
 use crate::{FrameRow, MOST_FRAMES, MOST_NODES, Refusal, plan, with_rows};
 use std::collections::BinaryHeap;
@@ -14,14 +15,15 @@ pub fn make(plan: &[u8], rows: &mut [FrameRow], buffer: &mut [u8]) -> Result<usi
         let order = place_frames(&bus, frames)?;
         let needed = table_length(bus.control.len(), bus.frames);
         let table = buffer.get_mut(..needed).ok_or(Refusal::new(13, needed))?;
-        write_table(&bus, frames, &order, table);
+        let row = |&number: &u16| data_row(&bus, &frames[usize::from(number)]);
+        write_table(bus.period, &bus.control, order.iter().rev().map(row), table);
         Ok((bus.frames, needed))
     })
 }
 
 pub const LONGEST_TABLE: usize = table_length(MOST_NODES, MOST_FRAMES);
 
-const fn table_length(control_rows: usize, data_rows: usize) -> usize {
+pub(crate) const fn table_length(control_rows: usize, data_rows: usize) -> usize {
     record_length(TABLE)
         + control_rows * record_length(CONTROL_ROW)
         + data_rows * record_length(DATA_ROW)
@@ -60,32 +62,43 @@ fn latest_start(bus: &Bus, frame: &FrameRow, end: u32) -> Option<u32> {
     (start >= frame.release && start >= bus.control_end).then_some(start)
 }
 
-fn write_table(bus: &Bus, frames: &[FrameRow], from_the_last: &[u16], table: &mut [u8]) {
+fn data_row(bus: &Bus, frame: &FrameRow) -> DataRow {
+    let FrameRow { task, deadline, start, .. } = *frame;
+    let stop = start + bus.sending_times[task as usize];
+    DataRow { task: task as u8, deadline, start, stop }
+}
+
+/// Fills the table, which is as long as the rows make it. There are few enough of them for a header.
+pub(crate) fn write_table(
+    period: u32,
+    control: &[ControlRow],
+    data: impl ExactSizeIterator<Item = DataRow>,
+    table: &mut [u8],
+) {
     let (header, rows) = table.split_at_mut(record_length(TABLE));
-    let (control, rows) = rows.split_at_mut(bus.control.len() * record_length(CONTROL_ROW));
-    let (data, end) = rows.split_at_mut(bus.frames * record_length(DATA_ROW));
-    let [p0, p1, p2, p3] = bus.period.to_le_bytes();
-    let [d0, d1] = (bus.frames as u16).to_le_bytes();
-    header.copy_from_slice(&[TABLE, p0, p1, p2, p3, bus.control.len() as u8, d0, d1]);
-    for (bytes, row) in control.as_chunks_mut().0.iter_mut().zip(bus.control.iter()) {
+    let (control_rows, rows) = rows.split_at_mut(control.len() * record_length(CONTROL_ROW));
+    let (data_rows, end) = rows.split_at_mut(data.len() * record_length(DATA_ROW));
+    let [p0, p1, p2, p3] = period.to_le_bytes();
+    let [d0, d1] = (data.len() as u16).to_le_bytes();
+    header.copy_from_slice(&[TABLE, p0, p1, p2, p3, control.len() as u8, d0, d1]);
+    for (bytes, row) in control_rows.as_chunks_mut().0.iter_mut().zip(control) {
         *bytes = control_record(row);
     }
-    for (bytes, &number) in data.as_chunks_mut().0.iter_mut().zip(from_the_last.iter().rev()) {
-        let frame = &frames[usize::from(number)];
-        *bytes = data_record(frame, bus.sending_times[frame.task as usize]);
+    for (bytes, row) in data_rows.as_chunks_mut().0.iter_mut().zip(data) {
+        *bytes = data_record(&row);
     }
     end.copy_from_slice(&[END]);
 }
 
-fn control_record(row: &bus::ControlRow) -> [u8; record_length(CONTROL_ROW)] {
+fn control_record(row: &ControlRow) -> [u8; record_length(CONTROL_ROW)] {
     let [s0, s1, s2, s3] = row.start.to_le_bytes();
     let [t0, t1, t2, t3] = row.stop.to_le_bytes();
     [CONTROL_ROW, row.node, s0, s1, s2, s3, t0, t1, t2, t3]
 }
 
-fn data_record(frame: &FrameRow, sending_time: u32) -> [u8; record_length(DATA_ROW)] {
-    let [d0, d1, d2, d3] = frame.deadline.to_le_bytes();
-    let [s0, s1, s2, s3] = frame.start.to_le_bytes();
-    let [t0, t1, t2, t3] = (frame.start + sending_time).to_le_bytes();
-    [DATA_ROW, frame.task as u8, d0, d1, d2, d3, s0, s1, s2, s3, t0, t1, t2, t3]
+fn data_record(row: &DataRow) -> [u8; record_length(DATA_ROW)] {
+    let [d0, d1, d2, d3] = row.deadline.to_le_bytes();
+    let [s0, s1, s2, s3] = row.start.to_le_bytes();
+    let [t0, t1, t2, t3] = row.stop.to_le_bytes();
+    [DATA_ROW, row.task, d0, d1, d2, d3, s0, s1, s2, s3, t0, t1, t2, t3]
 }

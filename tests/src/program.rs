@@ -1,7 +1,10 @@
-//! What can be compared: make, check, begin and tick on lent memory, whoever performs them.
+//! What can be compared: make, check, begin and tick, sheets printed and read back, on lent memory,
+//! whoever performs them.
 
 use crate::station::{Modes, Results};
-use crate::{FrameRow, MOST_NODES, MOST_TASKS, Refusal, Row, Station, check, make};
+use crate::{
+    FrameRow, MOST_NODES, MOST_TASKS, Refusal, Row, Sheet, Station, check, make, sheet, sheet_table,
+};
 
 /// By node, then task.
 pub type Shown = [[u64; MOST_TASKS]; MOST_NODES];
@@ -28,6 +31,11 @@ pub trait Program {
 
     /// A tick of the station that the last beginning left.
     fn tick(&mut self, results: &Results, modes: &Modes) -> Ticked;
+
+    /// The lent text is one byte, again and again.
+    fn sheet(&mut self, plan: &[u8], table: &[u8], text: &mut [u8]) -> Sheet;
+
+    fn sheet_table(&mut self, text: &[u8], table: &mut [u8]) -> Result<usize, Refusal>;
 }
 
 /// The Rust program of this package.
@@ -66,5 +74,13 @@ impl Program for Reference {
         let answer = self.station.tick(results, modes);
         let node = |node| std::array::from_fn(|task| self.station.shown(node, task));
         Ticked { answer, shown: std::array::from_fn(node) }
+    }
+
+    fn sheet(&mut self, plan: &[u8], table: &[u8], text: &mut [u8]) -> Sheet {
+        sheet(plan, table, text)
+    }
+
+    fn sheet_table(&mut self, text: &[u8], table: &mut [u8]) -> Result<usize, Refusal> {
+        sheet_table(text, table)
     }
 }

@@ -376,13 +376,13 @@ impl Fixed {
     }
 
     fn of(passed: &Passed) -> Fixed {
-        let Passed { plan, bus, .. } = passed;
+        let Passed { plan, bus, data } = passed;
         let mut fixed = Fixed::nothing();
         fixed.keep_modes(plan);
         fixed.keep_tasks(plan);
         fixed.keep_bus(plan, bus);
         let control = bus.control.iter().copied().map(Row::from);
-        fixed.rows = control.chain(passed.data().map(Row::from)).collect();
+        fixed.rows = control.chain(data.iter().map(Row::from)).collect();
         fixed
     }
 

@@ -1,11 +1,12 @@
-//! Files that the repository keeps for its programs: example plans, what a program reads, what it
-//! must write. `cargo run --release --bin store` writes them; a test holds them against what stands there.
+//! Files that the repository keeps for its programs: example plans and sheets, what a program reads, what
+//! it must write. `cargo run --release --bin store` writes them; a test holds them against what stands there.
 
 mod cases;
 mod jobs;
 mod limits;
 mod plans;
 mod requests;
+mod sheets;
 mod tables;
 
 use crate::generate::{PLENTY, job_a};
@@ -35,6 +36,7 @@ pub fn all() -> Vec<Stored> {
         files.push(stored(&format!("crates/{program}/data/plan"), plan.clone()));
         files.push(stored(&format!("crates/{program}/data/table"), table.clone()));
     }
+    files.extend(sheets::all());
     files.extend(vectors());
     files
 }

@@ -6,13 +6,16 @@
 //!   shown S`, where S lists the places that are not zero at moment (e), `node/task=value`, or says
 //!   `same`; `quiet N` is N ticks at which nothing is given and nothing shown changes.
 //! - `ask-NN.txt`: what shows request NN: all of these lines, each with `make`, `check` or `begin` in
-//!   front; `#` begins a comment, which names the case behind it.
+//!   front; `#` begins a comment, which names the case behind it. `ask-01.txt` has lines of its own:
+//!   `sheet PLAN TABLE -> TEXT` and `back TEXT -> BYTES`, where the bytes are a table or what the
+//!   program `sheettable` says in its place; and lines of plans as text.
 
 use crate::generate::PLENTY;
 use crate::program::{Program, Shown};
 use crate::station::{Modes, Results};
-use crate::{FrameRow, MOST_MODULES, MOST_NODES, MOST_TASKS, Refusal};
+use crate::{FrameRow, LONGEST_SHEET, MOST_MODULES, MOST_NODES, MOST_TASKS, Refusal, Sheet};
 
+pub const ASK_01: &str = include_str!("../vectors/ask-01.txt");
 const ASK_02: &str = include_str!("../vectors/ask-02.txt");
 pub const ASK_03: &str = include_str!("../vectors/ask-03.txt");
 const ASK_07: &str = include_str!("../vectors/ask-07.txt");
@@ -20,7 +23,7 @@ const ASK_08: &str = include_str!("../vectors/ask-08.txt");
 const ASK_11: &str = include_str!("../vectors/ask-11.txt");
 
 /// A file for each request that has landed, in the order of landing.
-pub const REQUESTS: [&str; 5] = [ASK_03, ASK_02, ASK_11, ASK_07, ASK_08];
+pub const REQUESTS: [&str; 6] = [ASK_03, ASK_02, ASK_11, ASK_07, ASK_08, ASK_01];
 
 const OLD_BYTE: u8 = 0xa5;
 const OLD_ROW: FrameRow = FrameRow { task: 7, release: 77, deadline: 777, start: 7_777 };
@@ -56,6 +59,12 @@ fn rows_after(lent: usize, frames: &str, refused: Option<Refusal>) -> Vec<FrameR
     rows
 }
 
+/// Behind these bytes the lent ones are as they were.
+fn stands_in_front(lent: &[u8], bytes: &[u8]) -> bool {
+    let rest = lent.strip_prefix(bytes);
+    rest.is_some_and(|rest| rest.iter().all(|&byte| byte == OLD_BYTE))
+}
+
 /// Panics where the program answers otherwise than `PLAN ROWS ROOM -> ..` says. The same holds below.
 fn make(program: &mut dyn Program, text: &str) {
     let (given, answer) = text.split_once(" -> ").unwrap();
@@ -71,8 +80,7 @@ fn make(program: &mut dyn Program, text: &str) {
     };
     let table = bytes(table);
     assert_eq!(made, refused.map_or(Ok(table.len()), Err), "{text}");
-    assert!(buffer.starts_with(&table), "{text}");
-    assert!(buffer[table.len()..].iter().all(|&byte| byte == OLD_BYTE), "{text}");
+    assert!(stands_in_front(&buffer, &table), "{text}");
     assert_eq!(rows, rows_after(lent, frames, refused), "{text}");
 }
 
@@ -86,6 +94,36 @@ fn check(program: &mut dyn Program, text: &str) {
     assert_eq!(checked, refused.map_or(Ok(()), Err), "{text}");
     let frames = answer.strip_prefix("passed rows").unwrap_or("");
     assert_eq!(rows, rows_after(lent, frames, refused), "{text}");
+}
+
+/// A refusal stands in the first line of the text.
+fn sheet(program: &mut dyn Program, text: &str) {
+    let (given, answer) = text.split_once(" -> ").unwrap();
+    let (plan, table) = given.split_once(' ').unwrap();
+    let answer = bytes(answer);
+    let first_line = std::str::from_utf8(&answer).unwrap().lines().next().unwrap();
+    let mut lent = vec![OLD_BYTE; LONGEST_SHEET];
+    let printed = program.sheet(&bytes(plan), &bytes(table), &mut lent);
+    let checked = refusal(first_line).map_or(Ok(()), Err);
+    assert_eq!(printed, Sheet { checked, length: answer.len() }, "{text}");
+    assert!(stands_in_front(&lent, &answer), "{text}");
+}
+
+fn back(program: &mut dyn Program, text: &str) {
+    let (given, answer) = text.split_once(" -> ").unwrap();
+    let answer = bytes(answer);
+    let mut lent = vec![OLD_BYTE; PLENTY];
+    let read = program.sheet_table(&bytes(given), &mut lent);
+    let refused = unreadable_line(&answer).map(|line| Refusal { number: 60, place: line });
+    let table = if refused.is_some() { &[] } else { answer.as_slice() };
+    assert_eq!(read, refused.map_or(Ok(table.len()), Err), "{text}");
+    assert!(stands_in_front(&lent, table), "{text}");
+}
+
+/// No table begins as this line does.
+fn unreadable_line(answer: &[u8]) -> Option<usize> {
+    let line = answer.strip_prefix(b"unreadable line ")?;
+    std::str::from_utf8(line).unwrap().trim_end().parse().ok()
 }
 
 pub fn make_tables(program: &mut dyn Program) {
@@ -127,6 +165,10 @@ fn run_lines(program: &mut dyn Program, text: &str) {
             "begin" => player.begin(rest),
             "tick" => player.tick(rest),
             "quiet" => player.quiet(rest),
+            "sheet" => sheet(player.program, rest),
+            "back" => back(player.program, rest),
+            // Plans as text are a request that has not landed.
+            "plantext" | "textplan" => {}
             _ => panic!("{word} {rest}"),
         }
     }

@@ -1,6 +1,9 @@
 //! Seeded cases: every refusal is reached, and the answers agree with each other and with sections 4
 //! and 5 of docs/RULES.md taken word by word.
 
+mod counts;
+
+use counts::{Counts, assert_reached, count};
 use reference::bus::{Bus, Sending, derive};
 use reference::checker::DataRow;
 use reference::generate::{
@@ -19,21 +22,6 @@ const TICKS: usize = 1_500;
 
 const OLD_BYTE: u8 = 0x5a;
 const OLD_ROW: FrameRow = FrameRow { task: 9, release: 99, deadline: 999, start: 9_999 };
-
-/// Refused by the number of the refusal; not refused under 0.
-type Counts = BTreeMap<u32, usize>;
-
-fn count<T>(counts: &mut Counts, answer: &Result<T, Refusal>) {
-    let number = answer.as_ref().err().map_or(0, |refusal| refusal.number);
-    *counts.entry(number).or_default() += 1;
-}
-
-fn assert_reached(counts: &Counts, numbers: impl IntoIterator<Item = u32>) {
-    println!("{counts:?}");
-    for number in numbers {
-        assert!(counts.contains_key(&number), "{number} was not reached");
-    }
-}
 
 fn assert_rows_refused(rows: &[FrameRow], refusal: Refusal) {
     let left = if refusal.number == 19 { OLD_ROW } else { FrameRow::default() };

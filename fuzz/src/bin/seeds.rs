@@ -1,7 +1,7 @@
-//! Writes inputs to begin with into a folder: good and broken plans, tables and histories.
+//! Writes inputs to begin with into a folder: good and broken plans, tables, histories and sheets.
 
-use reference::generate::{CheckCase, History, MakeCase, PlayCase, Rng};
-use reference::generate::{check_case, make_case, play_case};
+use reference::generate::{CheckCase, History, MakeCase, PlayCase, Rng, SheetCase};
+use reference::generate::{any_text, check_case, make_case, play_case, sheet_case};
 use reference::plan;
 use std::path::Path;
 
@@ -46,14 +46,27 @@ fn put_tick(input: &mut Vec<u8>, tick: &reference::generate::Tick) {
     input.extend(change.unwrap_or([0, 255]));
 }
 
+fn sheet_input(rng: &mut Rng) -> Vec<u8> {
+    let SheetCase { plan, table, .. } = sheet_case(rng);
+    [vec![3, 0], file(&plan), table].concat()
+}
+
+fn text_input(rng: &mut Rng) -> Vec<u8> {
+    [vec![4, rng.number() as u8], any_text(rng)].concat()
+}
+
 fn main() -> std::io::Result<()> {
     let folder = std::env::args().nth(1).unwrap_or("corpus".into());
     std::fs::create_dir_all(&folder)?;
     for seed in 0..CASES {
         let rng = &mut Rng::new(seed);
-        for (name, input) in
-            [("make", make_input(rng)), ("check", check_input(rng)), ("play", play_input(rng))]
-        {
+        for (name, input) in [
+            ("make", make_input(rng)),
+            ("check", check_input(rng)),
+            ("play", play_input(rng)),
+            ("sheet", sheet_input(rng)),
+            ("text", text_input(rng)),
+        ] {
             std::fs::write(Path::new(&folder).join(format!("{name}-{seed}")), input)?;
         }
     }

@@ -4,7 +4,7 @@
 
 use reference::driver::Driver;
 use reference::generate::{
-    self, CheckCase, History, MakeCase, PLENTY, PlayCase, Rng, job_a, job_j,
+    self, CheckCase, History, MakeCase, PLENTY, PlayCase, Rng, SheetCase, TextCase, job_a, job_j,
 };
 use reference::plan;
 use reference::program::{Program, Reference};
@@ -16,6 +16,8 @@ const MAKE_CASES: u64 = 40_000;
 const CHECK_CASES: u64 = 40_000;
 const NOISE_CASES: u64 = 10_000;
 const PLAY_CASES: u64 = 1_200;
+const SHEET_CASES: u64 = 20_000;
+const TEXT_CASES: u64 = 20_000;
 const MOST_TICKS: usize = 400;
 /// A table of so many bytes is played for more than its cycle, so that every row starts.
 const LONG_TABLE: usize = 4_096;
@@ -23,7 +25,7 @@ const WHOLE_CYCLE: usize = 1_500;
 
 /// The numbers that a run must reach, 0 for "not refused".
 fn numbers() -> impl Iterator<Item = u32> {
-    (0..=13).chain(19..=28).chain(40..=44)
+    (0..=13).chain(19..=28).chain(40..=44).chain(60..=61)
 }
 
 struct Comparison {
@@ -89,6 +91,25 @@ impl Comparison {
         let rust = self.rust.tick(&given.results, &given.modes);
         assert_eq!(proved, rust, "{case}");
         self.count(&rust.answer);
+    }
+
+    fn sheet(&mut self, case: &str, old: u8, given: &SheetCase) {
+        let SheetCase { plan, table, room } = given;
+        let (mut proved_text, mut text) = (vec![old; *room], vec![old; *room]);
+        let proved = self.proved.sheet(plan, table, &mut proved_text);
+        let rust = self.rust.sheet(plan, table, &mut text);
+        assert_eq!(proved, rust, "sheet, {case}: {plan:02x?} {table:02x?}");
+        assert!(proved_text == text, "sheet, text, {case}: {plan:02x?} {table:02x?}");
+        self.count(&rust.checked);
+    }
+
+    fn sheet_table(&mut self, case: &str, text: &[u8], buffer: &[u8]) {
+        let (mut proved_buffer, mut rust_buffer) = (buffer.to_vec(), buffer.to_vec());
+        let proved = self.proved.sheet_table(text, &mut proved_buffer);
+        let rust = self.rust.sheet_table(text, &mut rust_buffer);
+        assert_eq!(proved, rust, "sheet_table, {case}: {}", text.escape_ascii());
+        assert_eq!(proved_buffer, rust_buffer, "sheet_table, {case}: {}", text.escape_ascii());
+        self.count(&rust);
     }
 }
 
@@ -160,6 +181,22 @@ fn play_cases(comparison: &mut Comparison) {
     }
 }
 
+fn sheet_cases(comparison: &mut Comparison) {
+    for seed in 0..SHEET_CASES {
+        let rng = &mut Rng::new(seed);
+        let case = generate::sheet_case(rng);
+        comparison.sheet(&format!("seed {seed}"), rng.number() as u8, &case);
+    }
+}
+
+fn text_cases(comparison: &mut Comparison) {
+    for seed in 0..TEXT_CASES {
+        let rng = &mut Rng::new(seed);
+        let TextCase { text, room } = generate::text_case(rng);
+        comparison.sheet_table(&format!("seed {seed}"), &text, &any_bytes(rng, room));
+    }
+}
+
 fn main() {
     let command: Vec<String> = std::env::args().skip(1).collect();
     let proved = Driver::start(&command).expect("the driver starts");
@@ -180,6 +217,8 @@ fn main() {
     run("tables checked", &mut comparison, check_cases);
     run("noise", &mut comparison, noise_cases);
     run("histories played", &mut comparison, play_cases);
+    run("sheets printed", &mut comparison, sheet_cases);
+    run("sheets read", &mut comparison, text_cases);
     for number in numbers() {
         println!("{number:>2}: {}", comparison.reached.get(&number).unwrap_or(&0));
     }

@@ -37,7 +37,7 @@ pub fn damage_bytes(rng: &mut Rng, file: &mut Vec<u8>) {
 const FIRST_BYTES: usize = record_length(BUS_WITH_BYTE_BITS) + record_length(NODES);
 
 /// Long files, too, are damaged near their beginning.
-fn below_or_few(rng: &mut Rng, limit: usize, few: usize) -> usize {
+pub(super) fn below_or_few(rng: &mut Rng, limit: usize, few: usize) -> usize {
     let limit = if rng.one_in(2) { limit.min(few) } else { limit };
     rng.below(limit)
 }

@@ -1,0 +1,31 @@
+//! Example sheets: job A's table, and the same with the row that job G lays too early. `tablesheet` prints
+//! the second, and `sheettable` reads it back.
+
+use super::{Stored, stored};
+use crate::generate::{Made, job_a};
+use crate::{LONGEST_SHEET, sheet};
+
+pub fn all() -> Vec<Stored> {
+    let Made { plan, mut table, .. } = Made::of(&job_a().bytes()).expect("job A is made");
+    let passed = sheet_of(&plan, &table.bytes());
+    (table.data[0].start, table.data[0].stop) = (999, 1_095);
+    let early = table.bytes();
+    let refused = sheet_of(&plan, &early);
+    vec![
+        stored("docs/examples/job-a.sheet", passed),
+        stored("docs/examples/job-a-early.sheet", refused.clone()),
+        stored("docs/examples/job-a-early.table", early.clone()),
+        stored("crates/tablesheet/data/plan", plan),
+        stored("crates/tablesheet/data/table", early.clone()),
+        stored("crates/tablesheet/stdout", refused.clone()),
+        stored("crates/sheettable/stdin", refused),
+        stored("crates/sheettable/stdout", early),
+    ]
+}
+
+fn sheet_of(plan: &[u8], table: &[u8]) -> Vec<u8> {
+    let mut text = vec![0; LONGEST_SHEET];
+    let printed = sheet(plan, table, &mut text);
+    text.truncate(printed.length);
+    text
+}
