@@ -3,7 +3,7 @@ use mathlib.Core.Bool.{Bool, true, false}
 use mathlib.Core.List.{List, [], _∷_, _++_}
 use lib.Dec.{eqb}
 use lib.ListN.{getD}
-use Prim.Native.Nat.{ℕ, zero, suc}
+use Prim.Native.Nat.{ℕ}
 use Rattle.laws.specs.Lists.{all, upTo}
 use Rattle.rules.specs.Limits.{mostNodes, mostTasks}
 use Rattle.text.specs.Text.{lineFeed, marked, numberedLine, refusedLine, texts}

@@ -1,5 +1,5 @@
 -- The lines of a history, and the station after each.
-use mathlib.Core.Bool.{Bool, true, false, cond}
+use mathlib.Core.Bool.{true, false, cond}
 use mathlib.Core.List.{List, [], _∷_}
 use Prim.Native.Nat.{ℕ, zero, suc}
 use Rattle.stationruns.specs.Inputs.{noInput}

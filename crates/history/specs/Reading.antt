@@ -1,9 +1,9 @@
 -- A history's lines as they are read. Every definition takes the bytes of one line, and goes along them by places.
-use mathlib.Core.Bool.{Bool, true, false, cond, not, _&&_}
+use mathlib.Core.Bool.{Bool, cond, not, _&&_}
 use mathlib.Core.List.{List, [], _∷_}
 use lib.Dec.{eqb, leb, ltb}
-use lib.ListN.{length, drop, getD, set, replicate}
-use Prim.Native.Nat.{ℕ, zero, suc, _+_, _%_}
+use lib.ListN.{length, getD, set, replicate}
+use Prim.Native.Nat.{ℕ, zero, suc, _%_}
 use Rattle.laws.specs.Loops.{stores}
 use Rattle.text.specs.Text.{isDigit, readDecimal}
 use Rattle.text.specs.Lines.{behindWord, isEnd}

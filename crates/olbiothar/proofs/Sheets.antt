@@ -1,18 +1,14 @@
 -- A sheet and its way back in C's numbers: the ways out, and that no second answer and no second text say what the rules say.
-use mathlib.Core.Path.{_≡_, refl, sym, ap, _∙_}
+use mathlib.Core.Path.{_≡_, refl}
 use mathlib.Core.List.{List}
 use lib.ListN.{length}
-use lib.Seq.{sets}
 use borrow.Author.Tests.{le-leb, lt-leb}
 use Prim.Native.Nat.{ℕ, _≤_, _<_}
 use Rattle.rules.specs.Limits.{longestSheet}
-use Rattle.rules.specs.Checker.{checkFiles}
 use Rattle.answers.specs.Refusals.{heard}
-use Rattle.checked.specs.Checking.{verdict}
 use Rattle.outward.specs.declared.Answer.{Answer}
 use Rattle.outward.specs.Answers.{answerOf}
 use Rattle.text.specs.Text.{isShort}
-use Rattle.sheet.specs.Sheet.{sheetText}
 use Rattle.sheet.specs.Back.{readBack}
 use Rattle.sheetreader.specs.declared.Back.{Back}
 use Rattle.sheetreader.specs.Memory.{backFor, leftBy}

@@ -1,5 +1,5 @@
 -- docs/RULES.md, section 17: the text of a sheet. Lines are without their line feed until they are joined.
-use mathlib.Core.Bool.{Bool, cond}
+use mathlib.Core.Bool.{cond}
 use mathlib.Core.List.{List, [], _∷_, _++_, map}
 use lib.Dec.{leb}
 use lib.ListN.{length, getD}

@@ -7,7 +7,7 @@ use lib.Dec.{leb}
 use lib.ListN.{length, getD}
 use Prim.Native.Nat.{ℕ, suc, _+_, _-_, _≤_, _<_}
 use Rattle.laws.proofs.Table.{below}
-use Rattle.text.specs.Text.{decimal, lineFeed, marked, padLeft, padRight, spaces, texts}
+use Rattle.text.specs.Text.{lineFeed, marked, padLeft, padRight, spaces, texts}
 use Rattle.text.proofs.Padded.{decimal-few}
 use Rattle.text.proofs.Putting.{Put, both-put}
 use Rattle.sheet.specs.declared.Cell.{Cell}

@@ -1,12 +1,12 @@
 -- What a line says: its numbers fit where they go, and it adds to what was read what the definition adds.
 use mathlib.Core.Path.{_≡_, refl, sym, ap, _∙_}
 use mathlib.Core.Bool.{Bool, true, false, cond, true≢false}
-use mathlib.Core.List.{List, [], _∷_, _++_, map}
+use mathlib.Core.List.{List, [], _∷_, _++_}
 use mathlib.Core.Option.{Option, none, some}
 use native.Mathlib.Omega.{arith}
 use lib.ListN.{length, take}
 use Prim.Native.Nat.{ℕ, _+_, _<_}
-use Rattle.laws.specs.Loops.{padTo, placed}
+use Rattle.laws.specs.Loops.{padTo}
 use Rattle.laws.proofs.Lists.{length-snoc, getD-padTo}
 use Rattle.laws.proofs.Arrays.{placed-column}
 use Rattle.rules.specs.Limits.{mostNodes, mostFrames}

@@ -1,9 +1,8 @@
 -- The cells that are computed are those of the definitions.
-use mathlib.Core.Path.{_≡_, sym, ap, _∙_}
+use mathlib.Core.Path.{_≡_, ap, _∙_}
 use mathlib.Core.List.{List, [], _∷_}
 use lib.ListN.{getD}
 use Prim.Native.Nat.{ℕ, _<_}
-use Rattle.rules.specs.Plan as rules
 use Rattle.rules.specs.Plan.{theTask}
 use Rattle.rules.specs.Traffic.{controlPayload, moduleNode, taskNode}
 use Rattle.rules.specs.Frames.{onBus}

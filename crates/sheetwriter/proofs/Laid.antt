@@ -7,7 +7,6 @@ use native.Mathlib.Nat.{zero-add}
 use native.Mathlib.Numerals.{add-one}
 use native.Mathlib.Omega.{arith}
 use borrow.Author.Tests.{ltb-true}
-use lib.Dec.{ltb}
 use lib.ListN.{length, getD, replicate, length-replicate}
 use Prim.Native.Nat.{ℕ, zero, suc, _+_, _≤_, _<_, min}
 use Rattle.laws.specs.Res.{ok}
@@ -27,14 +26,13 @@ use Rattle.rules.proofs.Payload.{payload-one}
 use Rattle.laws.proofs.Tests.{by-and, by-eq, by-some}
 use Rattle.line.specs.Line.{lineOf}
 use Rattle.line.proofs.Drawn.{Drawn, drawn, frameOf, frames-drawn}
-use Rattle.naming.specs.Places.{Numbered, lookIn, numberAt, numberOf}
+use Rattle.naming.specs.Places.{lookIn, numberAt, numberOf}
 use Rattle.judging.specs.Judged.{frameIn, framesIn}
 use Rattle.judging.proofs.Held.{look-within}
 use Rattle.judging.proofs.NamedFrames.{any-frame, named-frame}
 use Rattle.table.specs.Memory.{controlNodeOf, controlStartOf, controlStopOf, deadlineOf, layOut, startOf, stopOf, taskOf}
 use Rattle.table.specs.Rows.{controlIn}
 use Rattle.text.specs.Text.{texts}
-use Rattle.sheet.specs.declared.Cell.{Cell}
 use Rattle.sheet.specs.Sheet.{controlLine, cycleLine, dataCells, dataLine, dataSent, ended, headLine, heldBy, releaseOf, sheetLines, sheetOf}
 use Rattle.sheetwriter.specs.Memory.{controlTextIn, dataCellsIn, dataTextIn, sheetIn}
 

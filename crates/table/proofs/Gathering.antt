@@ -8,7 +8,6 @@ use lib.ListN.{length, getD, drop, replicate}
 use borrow.Author.Tests.{ne-eqb, eqb-true, eqb-false, leb-true}
 use Prim.Native.Nat.{_<_, ℕ, zero, suc, _+_, _-_, _≤_}
 use Rattle.laws.specs.Res.{Res, ok, refuse}
-use Rattle.laws.specs.Loops.{padTo}
 use Rattle.laws.proofs.Lists.{length-snoc, both-left, both-right}
 use Rattle.laws.proofs.Res.{refuse≢ok, ok-injective}
 use Rattle.rules.specs.Limits.{mostNodes, mostFrames}

@@ -1,5 +1,5 @@
 -- A number and its digits: the digits of a number stand for it again, and a line `refused N at P` tells N and P.
-use mathlib.Core.Bool.{Bool, true, false, _&&_, true≢false}
+use mathlib.Core.Bool.{true, false}
 use mathlib.Core.List.{List, [], _∷_, _++_, append-nil}
 use mathlib.Core.Path.{_≡_, refl, sym, ap, _∙_}
 use native.Mathlib.Nat.{pow-zero, pow-succ'}

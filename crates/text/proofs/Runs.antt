@@ -8,11 +8,10 @@ use native.Mathlib.Omega.{arith}
 use borrow.Author.Tests.{eq-eqb, ne-eqb, ltb-false}
 use lib.Dec.{eqb, ltb}
 use lib.ListN.{length, drop, take, getD, length-drop}
-use lib.Seq.{drop-cons, drop-length, drop-drop, drop-append-seam}
+use lib.Seq.{drop-cons, drop-length, drop-drop}
 use Prim.Native.Nat.{ℕ, zero, suc, _+_, _-_, _≤_, _<_}
-use Rattle.laws.specs.Lists.{all, joined}
-use Rattle.laws.proofs.Members.{All, empty, also}
-use Rattle.text.specs.Text.{lineFeed, runOn, front}
+use Rattle.laws.specs.Lists.{all}
+use Rattle.text.specs.Text.{runOn, front}
 use Rattle.text.specs.Lines.{runEnd, isOther, oneLine, lineEnd, inFront, orFeed, linesOf, behindEnd, startsWith, behindWord}
 use Rattle.text.specs.declared.lines.End.the-variants.{At, Wrong}
 

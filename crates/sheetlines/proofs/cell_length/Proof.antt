@@ -1,7 +1,5 @@
 -- By cases of the cell; each computes, with the callee's promise for the digits.
 use native.Mathlib.Omega.{arith}
-use mathlib.Core.Path.{ap}
-use Prim.Native.Nat.{_+_}
 use borrow.Author.Needs.{needs}
 use Rattle.sheetlines.proofs.cell_length.Statement.{statement}
 use Rattle.sheetlines.proofs.cell_length.Tie as tie

@@ -1,5 +1,4 @@
 -- What was read stands at the front of its room (`counted`), and the answer at the front of `out`, which has room for the longest table.
-use native.Mathlib.Omega.{arith}
 use Rattle.rules.proofs.TableLength.{longest-is}
 use Rattle.input.proofs.Counted.{counted}
 use borrow.Author.Needs.{needs}

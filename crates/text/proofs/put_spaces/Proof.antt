@@ -1,10 +1,8 @@
 -- Invariant: i spaces are put (`Putting`); a turn is `putting-turn`, and behind the last they are all (`spaces-texts`).
-use mathlib.Core.List.{List, [], _∷_}
-use Prim.Native.Nat.{ℕ, _+_, _-_, _≤_}
+use Prim.Native.Nat.{_+_, _-_, _≤_}
 use native.Mathlib.Nat.{add-zero}
 use native.Mathlib.Omega.{arith}
 use Rattle.text.proofs.Putting.{Putting, putting-none, putting-turn, putting-end, putting-length, oneSpace, spaces-texts}
-use mathlib.Core.Path.{_≡_, refl}
 use borrow.Author.Needs.{needs}
 use Rattle.text.proofs.put_spaces.Statement.{statement}
 use Rattle.text.proofs.put_spaces.Tie as tie

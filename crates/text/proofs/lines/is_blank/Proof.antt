@@ -1,7 +1,6 @@
 -- Each test decides the definition's own (`eq-eqb`, `ne-eqb`).
 use borrow.Author.Tests.{eq-eqb, ne-eqb}
 use Rattle.text.specs.Lines.{isBlank}
-use borrow.Author.Needs.{needs}
 use Rattle.text.proofs.lines.is_blank.Statement.{statement}
 use Rattle.text.proofs.lines.is_blank.Tie as tie
 
