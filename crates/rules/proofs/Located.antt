@@ -93,11 +93,7 @@ located-then plan table = by-plan (readPlan plan)
     by-plan (ok p) = by-layout p table (layout p)
     by-plan (refuse n q) = refl
 
--- what the checker says of a table that is located
-pub located-outcome : (plan table : List ℕ) (c : Passed) → located plan table ≡ ok c → checkFiles plan table ≡ thenTimed c
-located-outcome plan table c e = located-then plan table ∙ bind-ok thenTimed e
-
--- and one that passes is located
+-- what passes is located
 pub passed-located : (plan table : List ℕ) (c : Passed) → checkFiles plan table ≡ ok c → located plan table ≡ ok c
 passed-located plan table c e =
     bind-case (located plan table) thenTimed (sym (located-then plan table) ∙ e) λ d q r.

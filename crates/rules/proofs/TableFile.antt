@@ -25,7 +25,7 @@ use Rattle.rules.specs.Obeys.{AreRecords, theEnd, oneMore}
 use Rattle.rules.specs.Table.{encoded, recordBytes, DataRow, headerBytes, controlBytes, dataBytes, tableOfRows}
 use Rattle.rules.specs.Checker.{controlRowOf, dataRowOf}
 use Rattle.rules.proofs.RecordsExact.{records-exact}
-use Rattle.rules.proofs.TableBytes.{Fit, fit-none, fit, ControlFits, DataFits, RowsFit}
+use Rattle.rules.proofs.TableBytes.{Fit, fit-none, fit, ControlFits, DataFits}
 
 -- ---- one body
 
@@ -263,13 +263,3 @@ module _ {file : List ℕ} {rs : List Rec} (f : FileIs file rs) (controls : cont
       f .is
       ∙ ap₂ (λ (n m : ℕ). headerBytes (periodOfHead rs) n m
       ++ (joined (map controlBytes (controlOf rs)) ++ (joined (map dataBytes (datasOf rs)) ++ (0 ∷ [])))) controls datas
-
-  pub file-fits : RowsFit (periodOfHead rs) (controlOf rs) (datasOf rs)
-  file-fits =
-      record {
-        periodFits = f .period;
-        controls = omega (arith, f .controls, controls);
-        datas = omega (arith, f .datas, datas);
-        controlFits = f .controlFits;
-        rowsFit = f .rowsFit;
-      }

@@ -17,7 +17,7 @@ use Rattle.rules.specs.Records.{Rec, records, tableFollows}
 use Rattle.rules.specs.Plan as rules
 use Rattle.rules.specs.Plan.{readPlan}
 use Rattle.rules.specs.Frames.{layout, layoutOf}
-use Rattle.rules.specs.Checker.{Passed, checkFiles, judged, located, shaped, tableOf, timed}
+use Rattle.rules.specs.Checker.{checkFiles, judged, located, shaped, tableOf, timed}
 use Rattle.rules.proofs.RecordsExact.{records-refused}
 use Rattle.rules.proofs.RefusalNumbers.{shaped-gives, timed-gives}
 use Rattle.answers.specs.declared.Refusal.{Refusal}
@@ -124,10 +124,6 @@ module _ (old left : List ℕ) (r : Written) (why : Refusal) (sheet : List ℕ) 
       (printed-late old left r why sheet (rw c at w) mid (rw (a, b) at q) rest e, rw e (omega arith))
 
 -- ---- by a plan that is laid out
-
--- 20 to 24 of a table whose rows were read
-abbrev locatedAs : rules.Plan → List Rec → Res Passed
-locatedAs p rs = _>>_ (shaped (layoutOf p) (tableOf rs)) (ok (passedOf p (tableOf rs)))
 
 -- what is printed by the judgement of a table is the text that the rules ask for
 module _ (p : rules.Plan) (from : FromFile p) (table : List ℕ) (rs : List Rec) (areRows : records tableFollows 20 table ≡ ok rs) where
