@@ -10,10 +10,10 @@ use Rattle.rules.specs.Records.{kinds, known, fields, bodyLength, isBus, planFo
 use Rattle.rules.specs.Table.{recordBytes}
 use Rattle.rules.specs.Jobs.{planA}
 use Rattle.rules.proofs.Jobs.{everything}
-use Rattle.text.specs.Text.{ascii, decimal, digits, padLeft, padRight, readDecimal}
+use Rattle.text.specs.Text.{ascii, decimal, digits, ended, padLeft, padRight, readDecimal}
 use Rattle.text.specs.Lines.{behindWord, isBlank, isWord, linesOf, uncommented, wholeNumber, words}
 use Rattle.planwords.specs.Items.{spelled, forms, formOf, firstOf, itemsOf, thingOf}
-use Rattle.planwords.specs.PlanText.{itemsText, recordText, commentText, planLine, countOf, planLines, ended, textOf, planText}
+use Rattle.planwords.specs.PlanText.{itemsText, recordText, commentText, planLine, countOf, planLines, textOf, planText}
 use Rattle.planwords.specs.TextPlan.{
   kindBy,
   mayCome,

@@ -1,1 +1,5 @@
 pub mod Examples
+pub mod Spelled
+pub mod LineKinds
+pub mod LineBack
+pub mod ReadsBack

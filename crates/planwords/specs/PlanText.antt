@@ -6,7 +6,7 @@ use Prim.Native.Nat.{ℕ, suc}
 use Rattle.laws.specs.Res.{Res, ok, refuse}
 use Rattle.laws.specs.Lists.{joined}
 use Rattle.rules.specs.Records.{Rec, records, planFollows}
-use Rattle.text.specs.Text.{ascii, decimal, lineFeed, marked, padLeft, padRight, refusedLine}
+use Rattle.text.specs.Text.{ascii, decimal, ended, marked, padLeft, padRight, refusedLine}
 use Rattle.planwords.specs.declared.Item.{Item}
 use Rattle.planwords.specs.declared.Item.the-variants.{Word, Number, End}
 use Rattle.planwords.specs.Items.{spelled, firstOf, itemsOf, thingOf}
@@ -43,9 +43,6 @@ unfoldable pub planLines : ℕ → ℕ → ℕ → List Rec → List (List ℕ)
 planLines previous k number [] = []
 planLines previous k number (r ∷ rs) =
     planLine r (countOf previous k (r .kind)) number ∷ planLines (r .kind) (suc (countOf previous k (r .kind))) (suc number) rs
-
-abbrev pub ended : List ℕ → List ℕ
-ended line = line ++ lineFeed
 
 unfoldable pub textOf : List Rec → List ℕ
 textOf rs = joined (map ended (planLines 0 0 0 rs))

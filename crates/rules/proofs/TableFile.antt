@@ -50,11 +50,11 @@ decoded-fit (f ∷ fs) body h e =
     fit small (decoded-fit fs (drop w body) (bytes-drop w body h) left)
 
 module _ (kind : ℕ) (body : List ℕ) (h : Bytes body) (long : length body ≡ bodyLength kind) where
-  body-written : recordBytes kind (decoded (fields kind) body) ≡ kind ∷ body
+  pub body-written : recordBytes kind (decoded (fields kind) body) ≡ kind ∷ body
   unfolding recordBytes bodyLength
   body-written = ap (λ (l : List ℕ). kind ∷ l) (encoded-decoded (fields kind) body h long)
 
-  body-fits : Fit (fields kind) (decoded (fields kind) body)
+  pub body-fits : Fit (fields kind) (decoded (fields kind) body)
   unfolding bodyLength
   body-fits = decoded-fit (fields kind) body h long
 
@@ -135,10 +135,10 @@ module _ (kind : ℕ) (body rest : List ℕ) {file : List ℕ} (e : file ≡ kin
   behind-kind : Bytes (body ++ rest)
   behind-kind i = subst (λ (l : List ℕ). Bytes l) e h (suc i)
 
-  body-bytes : Bytes body
+  pub body-bytes : Bytes body
   body-bytes = bytes-left body rest behind-kind
 
-  rest-bytes : Bytes rest
+  pub rest-bytes : Bytes rest
   rest-bytes = bytes-right body rest behind-kind
 
 -- a row in front of the rows of its kind, and of what follows them

@@ -21,7 +21,7 @@ use Rattle.rules.specs.Checker.{Passed, Row, controlAt, rowAt, firstRow, timed,
 use Rattle.rules.proofs.RefusalNumbers.{timed-gives}
 use Rattle.rules.proofs.TableBytes.{ControlFits}
 use Rattle.rules.proofs.Located.{LocatedAs, located-as, timed-places, plan-kept, few-control, few-rows}
-use Rattle.text.specs.Text.{decimal, lineFeed, padLeft, padRight, texts}
+use Rattle.text.specs.Text.{decimal, ended, lineFeed, padLeft, padRight, texts}
 use Rattle.text.proofs.Decimals.{decimal-most, refused-line-most}
 use Rattle.text.proofs.Padded.{decimal-few, left-few, right-few, texts-few}
 use Rattle.sheet.specs.declared.Cell.{Cell}
@@ -50,7 +50,6 @@ use Rattle.sheet.specs.Sheet.{
   controlLine,
   dataLine,
   sheetLines,
-  ended,
   sheetOf,
   onTop,
   textFor,

@@ -33,9 +33,9 @@ use Rattle.rules.proofs.Located.{
   few-rows,
   opens-pair,
 }
-use Rattle.text.specs.Text.{lineFeed}
-use Rattle.text.specs.Lines.{isOther, linesOf}
-use Rattle.text.proofs.Runs.{line-first}
+use Rattle.text.specs.Text.{ended}
+use Rattle.text.specs.Lines.{isOther}
+use Rattle.text.proofs.Runs.{lines-joined}
 use Rattle.sheet.specs.Sheet.{
   releaseOf,
   controlCells,
@@ -43,7 +43,6 @@ use Rattle.sheet.specs.Sheet.{
   controlLine,
   dataLine,
   sheetLines,
-  ended,
   sheetOf,
   onTop,
   textFor,
@@ -70,14 +69,6 @@ use Rattle.sheet.proofs.RowLines.{
 }
 
 -- ---- lines one by one
-
--- lines without a line feed, each ended by one, are the lines of their text
-lines-joined : (ls : List (List ℕ)) → All (λ l. all (isOther 10) l ≡ true) ls → linesOf (joined (map ended ls)) ≡ ls
-unfolding linesOf
-lines-joined [] empty = refl
-lines-joined (l ∷ ls) (also h r) =
-    ap linesOf (append-assoc l lineFeed (joined (map ended ls))) ∙ line-first l (joined (map ended ls)) h
-    ∙ ap (λ (ms : List (List ℕ)). l ∷ ms) (lines-joined ls r)
 
 -- a reader that takes each of the lines
 data Takes : SoFar → List (List ℕ) → SoFar → Type 0 where

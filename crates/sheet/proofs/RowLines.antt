@@ -17,7 +17,7 @@ use Rattle.rules.specs.Frames.{ControlRow}
 use Rattle.rules.specs.Table.{DataRow}
 use Rattle.rules.specs.Checker.{Row, Passed}
 use Rattle.rules.proofs.TableBytes.{ControlFits}
-use Rattle.text.specs.Text.{atWord, decimal, front, lineFeed, padLeft, padRight, refusedLine, refusedWord, texts}
+use Rattle.text.specs.Text.{atWord, decimal, ended, front, lineFeed, padLeft, padRight, refusedLine, refusedWord, texts}
 use Rattle.text.specs.Lines.{behindWord, isBlank, isOther, isWord, uncommented, words}
 use Rattle.text.proofs.Runs.{front-over}
 use Rattle.text.proofs.Words.{Wordy, decimal-wordy, spaces-passed, word-then}
@@ -44,7 +44,6 @@ use Rattle.sheet.specs.Sheet.{
   releaseOf,
   dataSent,
   dataCells,
-  ended,
 }
 use Rattle.sheet.specs.Back.{
   refusedKind,

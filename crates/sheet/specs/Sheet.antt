@@ -10,7 +10,7 @@ use Rattle.rules.specs.Plan.{Plan}
 use Rattle.rules.specs.Traffic.{taskNode, controlPayload}
 use Rattle.rules.specs.Frames.{Pair, ControlRow, Sending, onBus, payload}
 use Rattle.rules.specs.Checker.{Row, Passed, controlAt, rowAt, namedIn, firstRow, timed, located}
-use Rattle.text.specs.Text.{decimal, lineFeed, marked, padLeft, padRight, refusedLine, texts}
+use Rattle.text.specs.Text.{decimal, ended, marked, padLeft, padRight, refusedLine, texts}
 use Rattle.sheet.specs.declared.Cell.{Cell}
 use Rattle.sheet.specs.declared.Cell.the-variants.{Dash, Count, Below}
 
@@ -146,9 +146,6 @@ unfoldable pub sheetLines : Passed → List (List ℕ)
 sheetLines c =
     cycleLine (c .table .period) ∷ headLine
     ∷ (tab (controlLine c) 0 (length (c .table .control)) ++ tab (dataLine c) 0 (length (c .table .rows)))
-
-abbrev pub ended : List ℕ → List ℕ
-ended line = line ++ lineFeed
 
 unfoldable pub sheetOf : Passed → List ℕ
 sheetOf c = joined (map ended (sheetLines c))

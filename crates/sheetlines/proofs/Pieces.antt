@@ -7,11 +7,11 @@ use lib.Dec.{leb}
 use lib.ListN.{length, getD}
 use Prim.Native.Nat.{ℕ, suc, _+_, _-_, _≤_, _<_}
 use Rattle.laws.proofs.Table.{below}
-use Rattle.text.specs.Text.{lineFeed, marked, padLeft, padRight, spaces, texts}
+use Rattle.text.specs.Text.{ended, lineFeed, marked, padLeft, padRight, spaces, texts}
 use Rattle.text.proofs.Padded.{decimal-few}
 use Rattle.text.proofs.Putting.{Put, both-put}
 use Rattle.sheet.specs.declared.Cell.{Cell}
-use Rattle.sheet.specs.Sheet.{column, columnOf, columnWidths, commentSign, cycleComment, cycleLine, cycleWord, ended, rowLine, sheetLine, wordAt}
+use Rattle.sheet.specs.Sheet.{column, columnOf, columnWidths, commentSign, cycleComment, cycleLine, cycleWord, rowLine, sheetLine, wordAt}
 
 pub widths-few : (k : ℕ) → k < 10 → getD columnWidths k 0 ≤ 12
 widths-few k h = leb-true (getD columnWidths k 0) 12 (below (λ j. leb (getD columnWidths j 0) 12) 10 refl k h)

@@ -32,8 +32,8 @@ use Rattle.judging.proofs.Held.{look-within}
 use Rattle.judging.proofs.NamedFrames.{any-frame, named-frame}
 use Rattle.table.specs.Memory.{controlNodeOf, controlStartOf, controlStopOf, deadlineOf, layOut, startOf, stopOf, taskOf}
 use Rattle.table.specs.Rows.{controlIn}
-use Rattle.text.specs.Text.{texts}
-use Rattle.sheet.specs.Sheet.{controlLine, cycleLine, dataCells, dataLine, dataSent, ended, headLine, heldBy, releaseOf, sheetLines, sheetOf}
+use Rattle.text.specs.Text.{ended, texts}
+use Rattle.sheet.specs.Sheet.{controlLine, cycleLine, dataCells, dataLine, dataSent, headLine, heldBy, releaseOf, sheetLines, sheetOf}
 use Rattle.sheetwriter.specs.Memory.{controlTextIn, dataCellsIn, dataTextIn, sheetIn}
 
 -- ---- texts one behind the other

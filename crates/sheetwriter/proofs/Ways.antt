@@ -47,10 +47,10 @@ use Rattle.checked.specs.Checking.{verdict}
 use Rattle.checker.specs.Passing.{tablePassed}
 use Rattle.checker.proofs.Ways.{drawn-ready, file-laid, laid-refused, laid-sound, passedOf, plan-refused, reading-broken, reading-whole, right-by}
 use Rattle.checker.proofs.Handing.{read-refused}
-use Rattle.text.specs.Text.{refusedLine, texts}
+use Rattle.text.specs.Text.{ended, refusedLine, texts}
 use Rattle.text.proofs.Decimals.{refused-line-most}
 use Rattle.text.proofs.Putting.{Put, both-put, at-front}
-use Rattle.sheet.specs.Sheet.{cycleLine, ended, headLine, onTop, sheetOf, sheetText, textFor}
+use Rattle.sheet.specs.Sheet.{cycleLine, headLine, onTop, sheetOf, sheetText, textFor}
 use Rattle.sheetwriter.specs.declared.Written.{Written}
 use Rattle.sheetwriter.specs.Memory.{controlTextIn, dataTextIn, printedText, sheetIn}
 use Rattle.sheetwriter.specs.Writing.{FromFile, Prints, Writes, tableLocated}

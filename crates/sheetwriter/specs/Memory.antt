@@ -12,10 +12,10 @@ use Rattle.rules.specs.Frames.{onBus}
 use Rattle.naming.specs.Places.{lookIn}
 use Rattle.table.specs.Memory.{Table}
 use Rattle.table.specs.Rows.{controlIn}
-use Rattle.text.specs.Text.{refusedLine, texts}
+use Rattle.text.specs.Text.{ended, refusedLine, texts}
 use Rattle.sheet.specs.declared.Cell.{Cell}
 use Rattle.sheet.specs.declared.Cell.the-variants.{Count}
-use Rattle.sheet.specs.Sheet.{controlCells, controlWord, cycleLine, dataWord, difference, ended, headLine, rowLine}
+use Rattle.sheet.specs.Sheet.{controlCells, controlWord, cycleLine, dataWord, difference, headLine, rowLine}
 
 -- the cells of a data row that holds one pair, by its numbers: it sends as much as its task's message has
 unfoldable pub dataCellsIn : Plan → ℕ → ℕ → ℕ → ℕ → ℕ → List Cell

@@ -1,7 +1,7 @@
 -- Text parted into lines: a run of bytes sought byte by byte, the lines of a text, and a word compared byte by byte.
 use mathlib.Core.Path.{_≡_, refl, sym, ap, _∙_}
 use mathlib.Core.Bool.{Bool, true, false, cond, not, _&&_, true≢false}
-use mathlib.Core.List.{List, [], _∷_, _++_}
+use mathlib.Core.List.{List, [], _∷_, _++_, map, append-assoc}
 use native.Mathlib.Nat.{add-zero, le-antisymm}
 use native.Mathlib.Numerals.{add-one}
 use native.Mathlib.Omega.{arith}
@@ -10,8 +10,9 @@ use lib.Dec.{eqb, ltb}
 use lib.ListN.{length, drop, take, getD, length-drop}
 use lib.Seq.{drop-cons, drop-length, drop-drop}
 use Prim.Native.Nat.{ℕ, zero, suc, _+_, _-_, _≤_, _<_}
-use Rattle.laws.specs.Lists.{all}
-use Rattle.text.specs.Text.{runOn, front}
+use Rattle.laws.specs.Lists.{all, joined}
+use Rattle.laws.proofs.Members.{All, empty, also}
+use Rattle.text.specs.Text.{runOn, front, lineFeed, ended}
 use Rattle.text.specs.Lines.{runEnd, isOther, oneLine, lineEnd, inFront, orFeed, linesOf, behindEnd, startsWith, behindWord}
 use Rattle.text.specs.declared.lines.End.the-variants.{At, Wrong}
 
@@ -156,6 +157,14 @@ line-first (b ∷ l) rest h = go (eqb b 10) h (λ e. line-first l rest e)
         → orFeed t b (linesOf (l ++ 10 ∷ rest)) ≡ (b ∷ l) ∷ linesOf rest
     go true e f = absurd (true≢false (sym e))
     go false e f = ap (inFront b) (f e)
+
+-- lines without a line feed, each ended by one, are the lines of their text
+pub lines-joined : (ls : List (List ℕ)) → All (λ l. isFeedless l ≡ true) ls → linesOf (joined (map ended ls)) ≡ ls
+unfolding linesOf
+lines-joined [] empty = refl
+lines-joined (l ∷ ls) (also h r) =
+    ap linesOf (append-assoc l lineFeed (joined (map ended ls))) ∙ line-first l (joined (map ended ls)) h
+    ∙ ap (λ (ms : List (List ℕ)). l ∷ ms) (lines-joined ls r)
 
 -- ---- a word compared byte by byte
 

@@ -42,6 +42,10 @@ atWord = 32 ∷ 97 ∷ 116 ∷ 32 ∷ []
 abbrev pub lineFeed : List ℕ
 lineFeed = 10 ∷ []
 
+-- a line with its end
+abbrev pub ended : List ℕ → List ℕ
+ended line = line ++ lineFeed
+
 -- Rule 1.5: the line `refused N at P`; each line ends with one line feed (reading 5).
 unfoldable pub refusedLine : ℕ → ℕ → List ℕ
 refusedLine number place = refusedWord ++ (decimal number ++ (atWord ++ (decimal place ++ lineFeed)))
