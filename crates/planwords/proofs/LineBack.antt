@@ -22,7 +22,7 @@ use Rattle.text.proofs.Padded.{all-both, all-left, all-right, decimal-other}
 use Rattle.planwords.specs.declared.Name.{Name}
 use Rattle.planwords.specs.declared.Item.{Item}
 use Rattle.planwords.specs.declared.Item.the-variants.{Word, Number, End}
-use Rattle.planwords.specs.Items.{Form, spelled, noForm, forms, formOf, firstOf, itemsOf, thingOf}
+use Rattle.planwords.specs.Items.{spelled, noForm, forms, formOf, firstOf, itemsOf, thingOf}
 use Rattle.planwords.specs.PlanText.{itemsText, recordText, countedAs, commentText, planLine}
 use Rattle.planwords.specs.TextPlan.{matched, fits, ofKind, wordsRead, says, lineRead, kindBy, mayCome}
 use Rattle.planwords.proofs.Spelled.{spelled-sound}

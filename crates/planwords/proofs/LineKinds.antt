@@ -10,16 +10,16 @@ use borrow.Author.Tests.{eqb-true, eqb-false, ne-eqb, not-true}
 use lib.Dec.{eqb}
 use lib.ListN.{length}
 use Prim.Native.Nat.{ℕ, _^_, _≤_, _<_}
-use Rattle.laws.proofs.Lists.{both, both-left, both-right, tested}
+use Rattle.laws.proofs.Lists.{both-left, both-right}
 use Rattle.laws.proofs.Tests.{by-or, by-and, by-eq, by-le}
-use Rattle.rules.specs.Records.{kinds, fields, known, bodyLength, isBus, planFollows}
+use Rattle.rules.specs.Records.{kinds, fields, known, isBus, planFollows}
 use Rattle.rules.specs.Obeys.{MayStand}
 use Rattle.rules.proofs.TableBytes.{Fit, fit-none, fit}
 use Rattle.text.specs.Lines.{behindWord, isWord}
 use Rattle.planwords.specs.declared.Item.{Item}
 use Rattle.planwords.specs.declared.Item.the-variants.{Word, Number}
 use Rattle.planwords.specs.declared.Name.{Name}
-use Rattle.planwords.specs.Items.{spelled, forms, formOf, firstOf, itemsOf, thingOf}
+use Rattle.planwords.specs.Items.{spelled, forms, formOf, firstOf, itemsOf}
 use Rattle.planwords.specs.TextPlan.{kindBy, mayCome}
 
 pub data PlanKind : ℕ → Type 0 where

@@ -14,12 +14,10 @@ use Rattle.laws.proofs.Res.{refuse≢ok, ok-injective}
 use Rattle.laws.proofs.Little.{Bytes}
 use Rattle.laws.proofs.Members.{All, empty, also}
 use Rattle.rules.specs.Records.{Rec, kinds, known, fields, bodyLength, decoded, recordOf, records, planFollows}
-use Rattle.rules.specs.Table.{recordBytes}
 use Rattle.rules.specs.Obeys.{MayStand, AreRecords, theEnd, oneMore}
 use Rattle.rules.proofs.RecordsExact.{records-exact}
 use Rattle.rules.proofs.TableBytes as table
 use Rattle.rules.proofs.TableFile.{body-written, body-fits, body-bytes, rest-bytes}
-use Rattle.text.specs.Text.{ended}
 use Rattle.text.specs.Lines.{isWord, linesOf, uncommented, wholeNumber, words}
 use Rattle.text.specs.declared.lines.Whole.{Whole}
 use Rattle.text.specs.declared.lines.Whole.the-variants as whole
@@ -58,7 +56,6 @@ use Rattle.planwords.specs.TextPlan.{
   textRead,
   bytesOf,
   planBytes,
-  PlanBack,
   planFile,
   unreadableLine,
   planFrom,

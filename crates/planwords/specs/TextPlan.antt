@@ -1,5 +1,5 @@
 -- docs/RULES.md, section 20: a text read as a plan. Any text is read: to a plan's bytes, or to the first line that cannot be read, with the reason.
-use mathlib.Core.Bool.{Bool, true, false, cond, not, _&&_}
+use mathlib.Core.Bool.{Bool, cond, not, _&&_}
 use mathlib.Core.List.{List, [], _∷_, _++_, map}
 use lib.Dec.{eqb, ltb}
 use lib.ListN.{length}
