@@ -11,7 +11,7 @@ use Rattle.planwords.specs.declared.Item.{Item}
 use Rattle.planwords.specs.declared.Item.the-variants.{Word, Number, End}
 use Rattle.planwords.specs.Items.{spelled, firstOf, itemsOf, thingOf}
 
--- Rule 19.3: what stands behind the first word, each with a space in front; a number at the right end of its columns.
+-- Rules 19.2 and 19.3: what stands behind the first word, each with a space in front; a number at the right end of its columns.
 unfoldable pub itemsText : List Item → List ℕ → List ℕ
 itemsText [] numbers = []
 itemsText (Word name ∷ items) numbers = 32 ∷ spelled name ++ itemsText items numbers
@@ -30,7 +30,7 @@ countedAs (b ∷ thing) k = marked ((b ∷ thing) ++ ascii " ") k ++ ascii ", "
 unfoldable pub commentText : ℕ → ℕ → ℕ → List ℕ
 commentText kind k number = ascii "  # " ++ (countedAs (thingOf kind) k ++ marked (ascii "record ") number)
 
--- Rule 19.3: the line of a record is filled up to 47 columns, and the comment follows.
+-- Rule 19.4: the line of a record is filled up to 47 columns, and the comment follows.
 unfoldable pub planLine : Rec → ℕ → ℕ → List ℕ
 planLine r k number = padRight 47 (recordText r) ++ commentText (r .kind) k number
 
@@ -38,7 +38,7 @@ planLine r k number = padRight 47 (recordText r) ++ commentText (r .kind) k numb
 unfoldable pub countOf : ℕ → ℕ → ℕ → ℕ
 countOf previous k kind = cond (eqb kind previous) k 0
 
--- Rule 19.1: a line for each record, in the file's order; the end record has none.
+-- Rule 19.2: a line for each record, in the file's order; the end record has none.
 unfoldable pub planLines : ℕ → ℕ → ℕ → List Rec → List (List ℕ)
 planLines previous k number [] = []
 planLines previous k number (r ∷ rs) =
@@ -47,7 +47,7 @@ planLines previous k number (r ∷ rs) =
 unfoldable pub textOf : List Rec → List ℕ
 textOf rs = joined (map ended (planLines 0 0 0 rs))
 
--- Rule 19.5: every file that keeps the record rules is printed, whatever its numbers; else refusal 1, at its place.
+-- Rule 19.1: every file that keeps the record rules is printed, whatever its numbers; else refusal 1, at its place.
 abbrev pub printed : Res (List Rec) → Res (List ℕ)
 printed (ok rs) = ok (textOf rs)
 printed (refuse n p) = refuse n p

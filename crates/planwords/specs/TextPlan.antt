@@ -20,8 +20,8 @@ use Rattle.planwords.specs.Items.{spelled, itemsOf}
 
 -- ---- one line
 
--- Rule 20.2: the kind that a line's first word says, where so many words follow it; 0 where it begins no line. A bus with more words than
--- kind 1 has is of kind 9.
+-- Rules 20.2 and 20.3: the kind that a line's first word says, where so many words follow it; 0 where it begins no line. A bus with more words
+-- than kind 1 has is of kind 9.
 unfoldable pub kindBy : List ℕ → ℕ → ℕ
 kindBy w more =
     cond (isWord (spelled Bus) w) (cond (ltb 12 more) 9 1)
@@ -30,7 +30,7 @@ kindBy w more =
     (cond (isWord (spelled Mode) w) 4
     (cond (isWord (spelled Task) w) 5 (cond (isWord (spelled Run) w) 6 (cond (isWord (spelled Connect) w) 7 0))))))
 
--- Rule 20.3: a line of a kind may come behind one of another where the record may; else the reason, by what has come so far.
+-- Rule 20.2: a line of a kind may come behind one of another where the record may; else the reason (20.5), by what has come so far.
 unfoldable pub mayCome : ℕ → ℕ → Bool
 mayCome previous kind = not (eqb kind 0) && planFollows previous kind
 
@@ -48,12 +48,12 @@ abbrev pub numberFirst : ℕ → Matched → Matched
 numberFirst n (fits ns) = fits (n ∷ ns)
 numberFirst n (fails why) = fails why
 
--- Rules 20.4 and 20.5: a number is digits; it has to fit its bytes, whatever its range.
+-- Rule 20.4: a number is digits; it has to fit its bytes, whatever its range.
 abbrev pub withNumber : ℕ → Whole → Matched → Matched
 withNumber wide whole.None rest = fails reason.NumberExpected
 withNumber wide (whole.Value n) rest = cond (ltb n (256 ^ wide)) (numberFirst n rest) (fails reason.NumberTooLarge)
 
--- Rule 20.4: place by place, from left to right.
+-- Rules 20.3 and 20.5: place by place, from left to right.
 unfoldable pub matched : List Item → List (List ℕ) → Matched
 matched [] [] = fits []
 matched [] (w ∷ ws) = fails reason.EndExpected
@@ -100,7 +100,7 @@ goesOn number previous blank rest = rest previous
 goesOn number previous (says r) rest = before r (rest (r .kind))
 goesOn number previous (wrong why) rest = unreadable number why
 
--- Rule 20.6: the lines from one on, which has a number, behind a record of the kind `previous` (0: behind none). The text may end where the
+-- Rule 20.5: the lines from one on, which has a number, behind a record of the kind `previous` (0: behind none). The text may end where the
 -- end record may stand; else what is missing is missing behind its last line.
 unfoldable pub readLines : ℕ → ℕ → List (List ℕ) → TextRead
 readLines number previous [] = cond (planFollows previous 0) (plan []) (unreadable number (whyNot previous 0))
@@ -119,7 +119,7 @@ bytesOf r = recordBytes (r .kind) (r .numbers)
 unfoldable pub planBytes : List Rec → List ℕ
 planBytes rs = joined (map bytesOf rs) ++ (0 ∷ [])
 
--- Rule 20.7: a plan's bytes, or the number of the first line that cannot be read, with the reason.
+-- Rule 20.5: a plan's bytes, or the number of the first line that cannot be read, with the reason.
 pub data PlanBack : Type 0 where
   planFile : List ℕ → PlanBack
   unreadableLine : ℕ → Reason → PlanBack
@@ -131,7 +131,7 @@ planFrom (unreadable n why) = unreadableLine n why
 unfoldable pub readText : List ℕ → PlanBack
 readText text = planFrom (textRead text)
 
--- Rule 20.8: the words of a reason.
+-- Rule 20.5: the words of a reason.
 unfoldable pub reasonText : Reason → List ℕ
 reasonText reason.BusExpected = ascii "bus expected"
 reasonText reason.NodesExpected = ascii "nodes expected"
