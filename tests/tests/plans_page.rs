@@ -28,7 +28,7 @@ fn answer(text: &str) -> String {
 }
 
 /// The cells of the rows below each head like this one.
-fn tables<'a>(head: &'a str) -> impl Iterator<Item = Vec<&'a str>> {
+fn tables(head: &str) -> impl Iterator<Item = Vec<&str>> {
     let behind_head =
         |part: &'static str| part.lines().skip(2).take_while(|row| row.starts_with('|'));
     let cells = |row: &'static str| row.trim_matches('|').split('|').map(str::trim).collect();
