@@ -39,6 +39,7 @@ pub trait Program {
 }
 
 /// The Rust program of this package.
+#[derive(Debug)]
 pub struct Reference {
     station: Station,
 }
