@@ -1,9 +1,9 @@
 //! The proved library, behind the program `driver/driver.c` that links it. It runs for itself, so that
 //! it may be compiled for another processor than this program; `driver.c` says how the two speak.
 
-use crate::program::{Program, Ticked};
-use crate::station::{Modes, Results};
-use crate::{FrameRow, MOST_NODES, MOST_TASKS, Refusal, Row, Sheet};
+use crate::program::{Now, Program, Ticked};
+use crate::station::{Modes, ModuleNow, Results, TaskNow, TimeNow};
+use crate::{FrameRow, MOST_NODES, MOST_TASKS, Reason, Refusal, Row, Sheet, TextRefusal};
 use std::io::{BufReader, Read, Write};
 use std::process::{Child, ChildStdin, ChildStdout, Command, Stdio};
 
@@ -62,6 +62,19 @@ impl Driver {
         u64::from_le_bytes(self.array())
     }
 
+    fn byte(&mut self) -> u8 {
+        let [byte] = self.array();
+        byte
+    }
+
+    fn flag(&mut self) -> bool {
+        match self.byte() {
+            0 => false,
+            1 => true,
+            other => panic!("a flag of {other}"),
+        }
+    }
+
     /// What a call gives that is not refused is its place.
     fn answer(&mut self) -> Result<usize, Refusal> {
         let (number, place) = (self.number(), self.long_number() as usize);
@@ -88,6 +101,14 @@ impl Driver {
             18 => Some(Row::Data { task: sender, deadline, start, stop }),
             _ => panic!("a row of kind {kind}"),
         }
+    }
+
+    fn module_now(&mut self) -> ModuleNow {
+        ModuleNow { there: self.flag(), node: self.byte(), mode: self.byte(), age: self.number() }
+    }
+
+    fn task_now(&mut self) -> TaskNow {
+        TaskNow { there: self.flag(), home: self.byte(), awaits: self.flag(), left: self.number() }
     }
 }
 
@@ -139,6 +160,10 @@ impl Program for Driver {
         passed.map(nothing_more)
     }
 
+    fn forget(&mut self) {
+        self.ask(&request(b'F', &[]));
+    }
+
     fn begin(&mut self, plan: &[u8], table: &[u8], modes: &Modes) -> Result<(), Refusal> {
         let mut request = request(b'B', &[plan.len(), table.len()]);
         request.extend(plan);
@@ -161,10 +186,17 @@ impl Program for Driver {
         Ticked { answer: answer.map(|()| row), shown }
     }
 
+    fn now(&mut self) -> Now {
+        self.ask(&request(b'N', &[]));
+        Now {
+            time: TimeNow { begun: self.flag(), clock: self.number(), period: self.number() },
+            modules: std::array::from_fn(|_| self.module_now()),
+            tasks: std::array::from_fn(|_| self.task_now()),
+        }
+    }
+
     fn sheet(&mut self, plan: &[u8], table: &[u8], text: &mut [u8]) -> Sheet {
-        let old = text.first().copied().unwrap_or(0);
-        let all_but_one = text.len().saturating_sub(1);
-        assert!(text.ends_with(&text[..all_but_one]), "one byte says what is lent");
+        let old = the_only_byte(text);
         let mut request = request(b'S', &[plan.len(), table.len(), text.len()]);
         request.push(old);
         request.extend(plan);
@@ -185,6 +217,38 @@ impl Program for Driver {
         self.bytes(table);
         read
     }
+
+    fn plan_text(&mut self, plan: &[u8], text: &mut [u8]) -> Result<usize, Refusal> {
+        let mut request = request(b'P', &[plan.len(), text.len()]);
+        request.push(the_only_byte(text));
+        request.extend(plan);
+        self.ask(&request);
+        let printed = self.answer();
+        self.bytes(&mut text[..printed.unwrap_or(0)]);
+        printed
+    }
+
+    fn text_plan(&mut self, text: &[u8], plan: &mut [u8]) -> Result<usize, TextRefusal> {
+        let mut request = request(b'Q', &[text.len(), plan.len()]);
+        request.extend(text);
+        request.extend(plan.iter());
+        self.ask(&request);
+        let (read, reason) = (self.answer(), self.number());
+        self.bytes(plan);
+        let reason = (reason > 0).then(|| Reason::numbered(reason).expect("a known reason"));
+        match read {
+            Ok(length) if reason.is_none() => Ok(length),
+            Ok(_) => panic!("a reason without a refusal"),
+            Err(refusal) => Err(TextRefusal { refusal, reason }),
+        }
+    }
+}
+
+/// What all bytes of a lent text are.
+fn the_only_byte(text: &[u8]) -> u8 {
+    let all_but_one = text.len().saturating_sub(1);
+    assert!(text.ends_with(&text[..all_but_one]), "one byte says what is lent");
+    text.first().copied().unwrap_or(0)
 }
 
 /// Where there is nothing to say the place is 0.

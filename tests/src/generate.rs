@@ -1,28 +1,31 @@
-//! Seeded cases: plans, tables, sheets and histories, good, near the limits and damaged. The same
-//! seed gives the same cases.
+//! Seeded cases: plans, tables, sheets, texts of plans and histories, good, near the limits and damaged.
+//! The same seed gives the same cases.
 
 mod damage;
 mod draft;
 mod histories;
+mod plan_texts;
 mod plans;
 mod random;
 mod sheets;
 mod tables;
+mod texts;
 
 pub use damage::{break_plan_rule, break_table_rule, damage_bytes};
 pub use draft::{Draft, TableDraft, job_a, job_j};
 pub use histories::{History, Tick, broken_starting_modes, starting_modes};
+pub use plan_texts::{any_plan, any_plan_text, any_records, printed_plan, rewritten, text_of};
 pub use plans::{
     Size, also_in_modes, any_bits, longest_table, near_limit_plan, plan_with_rates, quick_runs,
     valid_plan,
 };
 pub use random::Rng;
-pub use sheets::{any_text, printed};
+pub use sheets::{any_sheet, printed};
 pub use tables::{Made, made_plan, move_rows, playable_plan};
 
 use crate::maker::LONGEST_TABLE;
 use crate::station::Modes;
-use crate::{LONGEST_SHEET, MOST_FRAMES, sheet_table};
+use crate::{LONGEST_SHEET, MOST_FRAMES, Refusal, plan_text, sheet_table, text_plan};
 
 #[derive(Clone, Debug)]
 pub struct MakeCase {
@@ -52,6 +55,13 @@ pub struct SheetCase {
     pub room: usize,
 }
 
+#[derive(Clone, Debug)]
+pub struct PlanCase {
+    pub plan: Vec<u8>,
+    pub room: usize,
+}
+
+/// Of a sheet or of a plan.
 #[derive(Clone, Debug)]
 pub struct TextCase {
     pub text: Vec<u8>,
@@ -97,11 +107,11 @@ pub fn make_case(rng: &mut Rng) -> MakeCase {
     let plan = plan_file(rng);
     // Where no table is made, the room is as for a small one.
     let length = Made::of(&plan).map_or(100, |made| made.table.bytes().len());
-    let room = room_for_table(rng, length);
+    let room = any_room(rng, length);
     MakeCase { plan, rows: lent_rows(rng), room }
 }
 
-fn room_for_table(rng: &mut Rng, length: usize) -> usize {
+fn any_room(rng: &mut Rng, length: usize) -> usize {
     let some_more = length + rng.below(500);
     rng.pick(&[0, length / 2, length - 1, length, some_more, some_more, some_more, PLENTY])
 }
@@ -157,12 +167,34 @@ pub fn sheet_case(rng: &mut Rng) -> SheetCase {
     SheetCase { plan, table, room }
 }
 
-pub fn text_case(rng: &mut Rng) -> TextCase {
-    let text = any_text(rng);
+pub fn sheet_text_case(rng: &mut Rng) -> TextCase {
+    let text = any_sheet(rng);
     // Where the text is unreadable, the room is as for a small table.
     let length = sheet_table(&text, &mut [0; LONGEST_TABLE]).unwrap_or(100);
-    let room = room_for_table(rng, length);
+    let room = any_room(rng, length);
     TextCase { text, room }
+}
+
+pub fn plan_case(rng: &mut Rng) -> PlanCase {
+    let plan = any_plan(rng);
+    let length = needed(plan_text(&plan, &mut []));
+    let room = any_room(rng, length);
+    PlanCase { plan, room }
+}
+
+pub fn plan_text_case(rng: &mut Rng) -> TextCase {
+    let text = any_plan_text(rng);
+    let length = needed(text_plan(&text, &mut []).map_err(|unread| unread.refusal));
+    let room = any_room(rng, length);
+    TextCase { text, room }
+}
+
+/// Where nothing is lent the bytes needed are refused with 13; where all is refused, as for little.
+fn needed(answer: Result<usize, Refusal>) -> usize {
+    match answer {
+        Err(Refusal { number: 13, place }) => place,
+        _ => 100,
+    }
 }
 
 pub fn play_case(rng: &mut Rng) -> PlayCase {

@@ -9,15 +9,18 @@ pub mod generate;
 pub mod maker;
 pub mod one_board;
 pub mod plan;
+pub mod plan_text;
 pub mod program;
 pub mod records;
 pub mod sheet;
 pub mod station;
 pub mod stored;
+pub mod text;
 pub mod vectors;
 
 pub use checker::check;
 pub use maker::make;
+pub use plan_text::{Reason, TextRefusal, plan_text, text_plan};
 pub use sheet::{LONGEST_SHEET, Sheet, sheet, sheet_table};
 pub use station::{Row, Station};
 

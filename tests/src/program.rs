@@ -1,9 +1,10 @@
-//! What can be compared: make, check, begin and tick, sheets printed and read back, on lent memory,
-//! whoever performs them.
+//! What can be compared: make, check, begin and tick, what a station says of itself, sheets and plans
+//! printed and read, on lent memory, whoever performs them.
 
-use crate::station::{Modes, Results};
+use crate::station::{Modes, ModuleNow, Results, TaskNow, TimeNow};
 use crate::{
-    FrameRow, MOST_NODES, MOST_TASKS, Refusal, Row, Sheet, Station, check, make, sheet, sheet_table,
+    FrameRow, MOST_MODULES, MOST_NODES, MOST_TASKS, Refusal, Row, Sheet, Station, TextRefusal,
+    check, make, plan_text, sheet, sheet_table, text_plan,
 };
 
 /// By node, then task.
@@ -16,6 +17,14 @@ pub struct Ticked {
     pub shown: Shown,
 }
 
+/// What a station says of itself.
+#[derive(Clone, Debug, PartialEq, Eq)]
+pub struct Now {
+    pub time: TimeNow,
+    pub modules: [ModuleNow; MOST_MODULES],
+    pub tasks: [TaskNow; MOST_TASKS],
+}
+
 pub trait Program {
     fn make(
         &mut self,
@@ -26,16 +35,26 @@ pub trait Program {
 
     fn check(&mut self, plan: &[u8], table: &[u8], rows: &mut [FrameRow]) -> Result<(), Refusal>;
 
-    /// Leaves a station behind, one not begun if it refuses.
+    /// Leaves a station not begun behind.
+    fn forget(&mut self);
+
+    /// Leaves a station behind; if it refuses, the one that stood there.
     fn begin(&mut self, plan: &[u8], table: &[u8], modes: &Modes) -> Result<(), Refusal>;
 
-    /// A tick of the station that the last beginning left.
+    /// A tick of the station that was left behind.
     fn tick(&mut self, results: &Results, modes: &Modes) -> Ticked;
+
+    fn now(&mut self) -> Now;
 
     /// The lent text is one byte, again and again.
     fn sheet(&mut self, plan: &[u8], table: &[u8], text: &mut [u8]) -> Sheet;
 
     fn sheet_table(&mut self, text: &[u8], table: &mut [u8]) -> Result<usize, Refusal>;
+
+    /// The lent text is one byte, again and again.
+    fn plan_text(&mut self, plan: &[u8], text: &mut [u8]) -> Result<usize, Refusal>;
+
+    fn text_plan(&mut self, text: &[u8], plan: &mut [u8]) -> Result<usize, TextRefusal>;
 }
 
 /// The Rust program of this package.
@@ -64,11 +83,13 @@ impl Program for Reference {
         check(plan, table, rows)
     }
 
+    fn forget(&mut self) {
+        self.station = Station::not_begun();
+    }
+
     fn begin(&mut self, plan: &[u8], table: &[u8], modes: &Modes) -> Result<(), Refusal> {
-        let begun = Station::begin(plan, table, *modes);
-        let refused = begun.as_ref().err().copied();
-        self.station = begun.unwrap_or_else(|_| Station::not_begun());
-        refused.map_or(Ok(()), Err)
+        self.station = Station::begin(plan, table, *modes)?;
+        Ok(())
     }
 
     fn tick(&mut self, results: &Results, modes: &Modes) -> Ticked {
@@ -77,11 +98,27 @@ impl Program for Reference {
         Ticked { answer, shown: std::array::from_fn(node) }
     }
 
+    fn now(&mut self) -> Now {
+        Now {
+            time: self.station.time(),
+            modules: std::array::from_fn(|module| self.station.module(module as u8)),
+            tasks: std::array::from_fn(|task| self.station.task(task as u8)),
+        }
+    }
+
     fn sheet(&mut self, plan: &[u8], table: &[u8], text: &mut [u8]) -> Sheet {
         sheet(plan, table, text)
     }
 
     fn sheet_table(&mut self, text: &[u8], table: &mut [u8]) -> Result<usize, Refusal> {
         sheet_table(text, table)
+    }
+
+    fn plan_text(&mut self, plan: &[u8], text: &mut [u8]) -> Result<usize, Refusal> {
+        plan_text(plan, text)
+    }
+
+    fn text_plan(&mut self, text: &[u8], plan: &mut [u8]) -> Result<usize, TextRefusal> {
+        text_plan(text, plan)
     }
 }

@@ -5,10 +5,10 @@ use crate::bus::{self, Bus, ControlRow, Sending, control_payloads};
 use crate::checker::{DataRow, judge_places, locate};
 use crate::maker::{table_length, write_table};
 use crate::plan::{self, Few, Plan, Task};
+use crate::text::{LONGEST_NUMBER, LONGEST_TEXT, lines, number, put_digits, words};
 use crate::{FrameRow, MOST_FRAMES, MOST_NODES, MOST_TASKS, Refusal};
 
-/// No sheet is longer, and no longer text is read.
-pub const LONGEST_SHEET: usize = 262_144;
+pub const LONGEST_SHEET: usize = LONGEST_TEXT;
 
 /// What a check gives for plan and table, and how many bytes of text stand at the front of the lent ones.
 #[derive(Clone, Copy, Debug, PartialEq, Eq)]
@@ -76,25 +76,13 @@ fn put_right(bytes: &mut [u8], cell: Cell) -> usize {
 }
 
 fn put_number(bytes: &mut [u8], number: i64) -> usize {
-    let mut left = number.unsigned_abs();
-    let mut first = bytes.len();
-    loop {
-        first -= 1;
-        bytes[first] = b'0' + (left % 10) as u8;
-        left /= 10;
-        if left == 0 {
-            break;
-        }
-    }
+    let mut first = put_digits(bytes, number.unsigned_abs());
     if number < 0 {
         first -= 1;
         bytes[first] = b'-';
     }
     first
 }
-
-/// As long as any number with its sign.
-const LONGEST_CELL: usize = 20;
 
 /// A text that grows from the front of lent bytes.
 struct Page<'a> {
@@ -161,7 +149,7 @@ impl Page<'_> {
     }
 
     fn put_cell(&mut self, cell: Cell) {
-        let mut bytes = [0; LONGEST_CELL];
+        let mut bytes = [0; LONGEST_NUMBER];
         let first = put_right(&mut bytes, cell);
         self.put(&bytes[first..]);
     }
@@ -235,34 +223,17 @@ struct Rows {
 /// The rows, or the first line that is unreadable; where the cycle is missing, the one behind the last.
 fn read(text: &[u8]) -> Result<Rows, usize> {
     let mut reader = Reader::default();
-    let mut lines = 0;
-    for line in text.split_inclusive(|&byte| byte == b'\n') {
-        lines += 1;
-        reader.take(&words(line)).ok_or(lines)?;
+    let mut number = 0;
+    for line in lines(text) {
+        number += 1;
+        // One word more says that there are too many.
+        reader.take(&words::<{ ROW_WORDS + 1 }>(line)).ok_or(number)?;
     }
-    reader.rows.ok_or(lines + 1)
+    reader.rows.ok_or(number + 1)
 }
 
 /// Of a row's line: its kind and a word for each column.
 const ROW_WORDS: usize = 1 + COLUMNS.len();
-
-/// The words in front of a comment: as many as a row has, and one more where there are too many.
-fn words(line: &[u8]) -> Few<&[u8], { ROW_WORDS + 1 }> {
-    let mut rest = line;
-    let next_word = || {
-        let first = rest.iter().position(|&byte| !parts_words(byte)).unwrap_or(rest.len());
-        let word = &rest[first..];
-        let end = word.iter().position(|&byte| parts_words(byte) || byte == b'#');
-        let (word, behind) = word.split_at(end.unwrap_or(word.len()));
-        rest = behind;
-        (!word.is_empty()).then_some(word)
-    };
-    std::iter::from_fn(next_word).collect()
-}
-
-fn parts_words(byte: u8) -> bool {
-    matches!(byte, b' ' | b'\t' | b'\r' | b'\n')
-}
 
 /// What the lines have said so far.
 #[derive(Default)]
@@ -331,15 +302,4 @@ fn without_sign(word: &[u8]) -> &[u8] {
 /// A number that has a place in the table.
 fn taken<T: TryFrom<u64>>(word: &[u8]) -> Option<T> {
     T::try_from(number(word)?).ok()
-}
-
-/// A run of digits that stands for less than 2^64.
-fn number(word: &[u8]) -> Option<u64> {
-    if word.is_empty() {
-        return None;
-    }
-    word.iter().try_fold(0u64, |value, &byte| {
-        let digit = char::from(byte).to_digit(10)?;
-        value.checked_mul(10)?.checked_add(digit.into())
-    })
 }

@@ -1,6 +1,10 @@
 //! The played station: refusals 40 to 44. It plays in place; a tick costs what happens in it,
 //! and compares the instants at which something will happen with now, without a division.
 
+mod now;
+
+pub use now::{ModuleNow, TaskNow, TimeNow};
+
 use crate::bus::Bus;
 use crate::checker::{self, DataRow, Passed};
 use crate::plan::Plan;
@@ -31,7 +35,10 @@ enum Cargo {
 struct Fixed {
     modules: usize,
     modes: usize,
+    tasks: usize,
+    node_of_module: [u8; MOST_MODULES],
     module_of_mode: [u8; MOST_MODES],
+    mode_periods: [u32; MOST_MODES],
     switch_periods: [u32; MOST_MODES],
     /// By mode, then task; 0: not invoked.
     periods: [[u32; MOST_TASKS]; MOST_MODES],
@@ -54,6 +61,7 @@ pub struct Station {
     /// Counts ticks and wraps: instants are only compared for equality, never more than one
     /// period away, so there is no last tick.
     now: u32,
+    ticked: bool,
     /// 0 to the bus period less 1.
     bus_time: u32,
     next_row: usize,
@@ -62,6 +70,8 @@ pub struct Station {
     modes: [u8; MOST_MODULES],
     /// The next instant at which the module may change its mode.
     switch_at: [u32; MOST_MODULES],
+    /// The next end of the mode's period, which is such an instant.
+    period_ends_at: [u32; MOST_MODULES],
     running: u32,
     /// Runs that have taken no result yet, from the tick after their release on.
     awaiting: u32,
@@ -86,12 +96,14 @@ impl Station {
             begun: false,
             fixed: Fixed::nothing(),
             now: 0,
+            ticked: false,
             bus_time: 0,
             next_row: 0,
             cargo: Cargo::Nothing,
             cargo_stop: 0,
             modes: [0; MOST_MODULES],
             switch_at: [0; MOST_MODULES],
+            period_ends_at: [0; MOST_MODULES],
             running: 0,
             awaiting: 0,
             released: 0,
@@ -230,9 +242,7 @@ impl Station {
             if module < self.fixed.modules {
                 match modes[module] {
                     Some(mode) => self.start_mode(module, mode),
-                    None => {
-                        self.switch_at[module] = self.now.wrapping_add(self.switch_period(module))
-                    }
+                    None => self.keep_mode(module),
                 }
             }
         }
@@ -242,9 +252,22 @@ impl Station {
         self.fixed.switch_periods[usize::from(self.modes[module])]
     }
 
+    fn keep_mode(&mut self, module: usize) {
+        self.switch_at[module] = self.now.wrapping_add(self.switch_period(module));
+        if self.period_ends_at[module] == self.now {
+            self.begin_period(module);
+        }
+    }
+
+    fn begin_period(&mut self, module: usize) {
+        let period = self.fixed.mode_periods[usize::from(self.modes[module])];
+        self.period_ends_at[module] = self.now.wrapping_add(period);
+    }
+
     fn start_mode(&mut self, module: usize, mode: u8) {
         self.modes[module] = mode;
         self.switch_at[module] = self.now.wrapping_add(self.switch_period(module));
+        self.begin_period(module);
         let own = self.fixed.tasks_of_module[module];
         self.running &= !own;
         self.awaiting &= !own;
@@ -293,6 +316,7 @@ impl Station {
     fn pass(&mut self) {
         self.awaiting |= std::mem::take(&mut self.released);
         self.now = self.now.wrapping_add(1);
+        self.ticked = true;
         self.bus_time =
             if self.bus_time + 1 < self.fixed.bus_period { self.bus_time + 1 } else { 0 };
     }
@@ -360,7 +384,10 @@ impl Fixed {
         Fixed {
             modules: 0,
             modes: 0,
+            tasks: 0,
+            node_of_module: [0; MOST_MODULES],
             module_of_mode: [0; MOST_MODES],
+            mode_periods: [0; MOST_MODES],
             switch_periods: [0; MOST_MODES],
             periods: [[0; MOST_TASKS]; MOST_MODES],
             tasks_of_module: [0; MOST_MODULES],
@@ -391,6 +418,7 @@ impl Fixed {
         self.modes = plan.modes.len();
         for (number, mode) in plan.modes.iter().enumerate() {
             self.module_of_mode[number] = mode.module;
+            self.mode_periods[number] = mode.period;
             self.switch_periods[number] = mode.switch_period;
         }
         for invocation in plan.invocations.iter() {
@@ -400,6 +428,7 @@ impl Fixed {
     }
 
     fn keep_tasks(&mut self, plan: &Plan) {
+        self.tasks = plan.tasks.len();
         for (number, task) in (0..).zip(plan.tasks.iter()) {
             let place = usize::from(number);
             self.tasks_of_module[usize::from(task.module)] |= 1 << number;
@@ -414,6 +443,7 @@ impl Fixed {
         self.bus_tasks = bus.tasks;
         self.bus_period = bus.period;
         for (number, module) in (0..).zip(plan.modules.iter()) {
+            self.node_of_module[usize::from(number)] = module.node;
             if has(bus.modules, number) {
                 self.carried_modules[usize::from(module.node)] |= 1 << number;
             }
@@ -440,7 +470,8 @@ mod tests {
     /// A station that has run for almost as long as its clock counts.
     fn aged(mut station: Station, ticks: u32) -> Station {
         station.now = ticks;
-        let instants = [&mut station.due_at[..], &mut station.end_at, &mut station.switch_at];
+        let Station { due_at, end_at, switch_at, period_ends_at, .. } = &mut station;
+        let instants = [&mut due_at[..], end_at, switch_at, period_ends_at];
         instants.into_iter().flatten().for_each(|at| *at = at.wrapping_add(ticks));
         station
     }
@@ -459,6 +490,9 @@ mod tests {
             assert!(answer.is_ok());
             assert_eq!(answer, old.tick(&tick.results, &tick.modes));
             assert_eq!(young.shown, old.shown);
+            assert_eq!(young.time(), old.time());
+            assert!((0..16).all(|module| young.module(module) == old.module(module)));
+            assert!((0..32).all(|task| young.task(task) == old.task(task)));
         }
     }
 }

@@ -8,12 +8,16 @@
 //! - `ask-NN.txt`: what shows request NN: all of these lines, each with `make`, `check` or `begin` in
 //!   front; `#` begins a comment, which names the case behind it. `ask-01.txt` has lines of its own:
 //!   `sheet PLAN TABLE -> TEXT` and `back TEXT -> BYTES`, where the bytes are a table or what the
-//!   program `sheettable` says in its place; and lines of plans as text.
+//!   program `sheettable` says in its place; and likewise `plantext PLAN -> TEXT` and
+//!   `textplan TEXT -> BYTES`.
 
 use crate::generate::PLENTY;
 use crate::program::{Program, Shown};
 use crate::station::{Modes, Results};
-use crate::{FrameRow, LONGEST_SHEET, MOST_MODULES, MOST_NODES, MOST_TASKS, Refusal, Sheet};
+use crate::text::LONGEST_TEXT;
+use crate::{
+    FrameRow, LONGEST_SHEET, MOST_MODULES, MOST_NODES, MOST_TASKS, Refusal, Sheet, TextRefusal,
+};
 
 pub const ASK_01: &str = include_str!("../vectors/ask-01.txt");
 const ASK_02: &str = include_str!("../vectors/ask-02.txt");
@@ -122,8 +126,44 @@ fn back(program: &mut dyn Program, text: &str) {
 
 /// No table begins as this line does.
 fn unreadable_line(answer: &[u8]) -> Option<usize> {
+    unreadable(answer)?.parse().ok()
+}
+
+/// What stands behind the words that no file begins with.
+fn unreadable(answer: &[u8]) -> Option<&str> {
     let line = answer.strip_prefix(b"unreadable line ")?;
-    std::str::from_utf8(line).unwrap().trim_end().parse().ok()
+    Some(std::str::from_utf8(line).unwrap().trim_end())
+}
+
+/// A refusal is the only line of the text.
+fn plantext(program: &mut dyn Program, text: &str) {
+    let (given, answer) = text.split_once(" -> ").unwrap();
+    let answer = bytes(answer);
+    let refused = refusal(std::str::from_utf8(&answer).unwrap().trim_end());
+    let printed = if refused.is_some() { &[] } else { answer.as_slice() };
+    let mut lent = vec![OLD_BYTE; LONGEST_TEXT];
+    let answer = program.plan_text(&bytes(given), &mut lent);
+    assert_eq!(answer, refused.map_or(Ok(printed.len()), Err), "{text}");
+    assert!(stands_in_front(&lent, printed), "{text}");
+}
+
+fn textplan(program: &mut dyn Program, text: &str) {
+    let (given, answer) = text.split_once(" -> ").unwrap();
+    let answer = bytes(answer);
+    let mut lent = vec![OLD_BYTE; PLENTY];
+    let read = program.text_plan(&bytes(given), &mut lent);
+    match unreadable(&answer) {
+        Some(said) => {
+            let TextRefusal { refusal, reason } = read.unwrap_err();
+            assert_eq!(refusal.number, 60, "{text}");
+            assert_eq!(format!("{}: {}", refusal.place, reason.unwrap()), said, "{text}");
+            assert!(stands_in_front(&lent, &[]), "{text}");
+        }
+        None => {
+            assert_eq!(read, Ok(answer.len()), "{text}");
+            assert!(stands_in_front(&lent, &answer), "{text}");
+        }
+    }
 }
 
 pub fn make_tables(program: &mut dyn Program) {
@@ -167,8 +207,8 @@ fn run_lines(program: &mut dyn Program, text: &str) {
             "quiet" => player.quiet(rest),
             "sheet" => sheet(player.program, rest),
             "back" => back(player.program, rest),
-            // Plans as text are a request that has not landed.
-            "plantext" | "textplan" => {}
+            "plantext" => plantext(player.program, rest),
+            "textplan" => textplan(player.program, rest),
             _ => panic!("{word} {rest}"),
         }
     }
@@ -214,6 +254,7 @@ impl Player<'_> {
         let [plan, table, starting] = given.splitn(3, ' ').collect::<Vec<_>>()[..] else {
             panic!("{text}")
         };
+        self.program.forget();
         let begun = self.program.begin(&bytes(plan), &bytes(table), &modes(starting));
         assert_eq!(begun.err(), refusal(answer), "{text}");
         self.shown = [[0; MOST_TASKS]; MOST_NODES];

@@ -458,7 +458,7 @@ fn other_layouts() {
 fn texts_seeded() {
     let mut counts = Counts::new();
     for seed in 0..20_000 {
-        let TextCase { text, room } = generate::text_case(&mut Rng::new(seed));
+        let TextCase { text, room } = generate::sheet_text_case(&mut Rng::new(seed));
         let mut lent = vec![OLD_BYTE; room];
         let answer = sheet_table(&text, &mut lent);
         count(&mut counts, &answer);

@@ -192,7 +192,7 @@ fn sheet_cases(comparison: &mut Comparison) {
 fn text_cases(comparison: &mut Comparison) {
     for seed in 0..TEXT_CASES {
         let rng = &mut Rng::new(seed);
-        let TextCase { text, room } = generate::text_case(rng);
+        let TextCase { text, room } = generate::sheet_text_case(rng);
         comparison.sheet_table(&format!("seed {seed}"), &text, &any_bytes(rng, room));
     }
 }
