@@ -120,7 +120,7 @@ fn compare_sheet_table(frames: usize, sheet: &[u8], table: &[u8]) {
 /// The same history again and again, each time from the beginning.
 fn compare_ticks(frames: usize, plan: &[u8], table: &[u8]) {
     let (modes, ticks) = ticks_of(plan);
-    let begun = Station::begin(plan, table, &modes).expect("the table passes");
+    let begun = Station::begun(plan, table, &modes).expect("the table passes");
     let rust_begun = reference::Station::begin(plan, table, modes).expect("the table passes");
     compare(
         &line("tick", frames),

@@ -21,7 +21,7 @@ fn proved(plan: &'static [u8], table: &'static [u8], sheet: &'static [u8]) -> Ca
     let (mut checked, mut back) = (rows, room);
     let mut text = vec![0; LONGEST_SHEET];
     let (modes, ticks) = ticks_of(plan);
-    let mut station = Station::begin(plan, table, &modes).expect("the table passes");
+    let mut station = Station::begun(plan, table, &modes).expect("the table passes");
     let mut ticks = ticks.into_iter();
     Calls {
         make: Box::new(move || {
