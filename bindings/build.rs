@@ -8,6 +8,7 @@ const ARCHIVE: &str = "libolbiothar.a";
 
 fn main() {
     println!("cargo::rerun-if-env-changed=OLBIOTHAR_FOLDER");
+    println!("cargo::rerun-if-env-changed=PKG_CONFIG_PATH");
     let said = env::var("OLBIOTHAR_FOLDER").ok();
     // Set and empty: nothing is to be linked, so that `cargo check`, `clippy` and `doc` need no library.
     if said.as_deref() == Some("") {
