@@ -11,7 +11,7 @@ macro_rules! refusals {
         $(#[$meaning:meta])*
         $number:literal $name:ident $({ $(#[$counts:meta])* $place:ident })? $(at $fixed:expr)?
     ),+ $(,)?) => {
-        /// The first rule that something breaks, at its lowest place. Sections 5, 7, 8 and 18 of docs/RULES.md have the rules.
+        /// The first rule that something breaks, at its lowest place. Sections 6 to 8 and 18 of docs/RULES.md have the rules.
         #[derive(Clone, Copy, Debug, PartialEq, Eq, Hash)]
         pub enum Refusal {
             $($(#[$meaning])* $name $({ $(#[$counts])* $place: u64 })?,)+

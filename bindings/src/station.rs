@@ -25,7 +25,7 @@ pub enum Row {
     Data {
         /// Whose result is sent, if its module is in a mode that has it.
         task: u8,
-        /// Of the frame: it is shown then.
+        /// Of the frame: the result is shown from then on.
         deadline: u32,
         /// Its first tick.
         start: u32,

@@ -204,6 +204,8 @@ fn text_plan(text: &[u8], few: usize) {
             _ => None,
         };
         assert_eq!(reason, rust_read.err().and_then(|refusal| refusal.reason));
+        let too_short = matches!(read, Err(TextRefusal::BufferTooShort { .. }));
+        assert!(!too_short || room < text.len());
         let rust_read = rust_read.map_err(|refusal| refusal.refusal);
         assert_eq!(proved(read.map_err(Refusal::from)), rust(rust_read));
         assert_eq!(*plan, rust_plan[..]);
