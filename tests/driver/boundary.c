@@ -20,7 +20,7 @@ static void holds(int it_does, const char *what, int line) {
 
 enum { LENGTH = 75, MODE = 1, WORST = 1000, FRAME_STARTS = 19904, FRAME_STOPS = 20000, VALUE = 7 };
 
-static uint8_t plan[256], table[LENGTH], text[OLBIOTHAR_LONGEST_SHEET];
+static uint8_t plan[256], table[LENGTH], text[OLBIOTHAR_LONGEST_SHEET + 1];
 static size_t plan_length;
 static olbiothar_frame rows[OLBIOTHAR_FRAMES];
 static const olbiothar_starting no_modes;
@@ -98,10 +98,11 @@ static void written_and_read(void) {
     HOLDS(is(olbiothar_text_plan(text, asked.place, NULL, 0).answer, OLBIOTHAR_BUFFER_TOO_SHORT, plan_length));
     HOLDS(is(olbiothar_text_plan(text, asked.place, back, plan_length - 1).answer, OLBIOTHAR_BUFFER_TOO_SHORT, plan_length));
     HOLDS(back[0] == 0);
-    olbiothar_plan_answer read = olbiothar_text_plan(text, asked.place, back, sizeof back);
+    olbiothar_plan_answer read = olbiothar_text_plan(text, asked.place, back, plan_length);
     HOLDS(is(read.answer, OLBIOTHAR_DONE, plan_length) && read.reason == OLBIOTHAR_NO_REASON);
-    HOLDS(memcmp(back, plan, plan_length) == 0);
-    HOLDS(is(olbiothar_text_plan(text, sizeof text, back, sizeof back).answer, OLBIOTHAR_UNREADABLE, 14));
+    HOLDS(memcmp(back, plan, plan_length) == 0 && back[plan_length] == 0);
+    HOLDS(is(olbiothar_text_plan(text, OLBIOTHAR_LONGEST_SHEET, back, sizeof back).answer, OLBIOTHAR_UNREADABLE, 14));
+    HOLDS(is(olbiothar_text_plan(text, sizeof text, back, sizeof back).answer, OLBIOTHAR_TEXT_TOO_LONG, OLBIOTHAR_LONGEST_SHEET));
 }
 
 /* Words of one sort, and how many they are: printed ones, a zero byte, and what stood behind it. */
@@ -253,6 +254,13 @@ static void accessors(void) {
     HOLDS(is(olbiothar_tick(&station, both).answer, OLBIOTHAR_DONE, 0));
     HOLDS(task_is(&station, 0, 1, 0, 0, 0) && task_is(&station, 1, 1, 1, 0, 0));
     HOLDS(is(olbiothar_tick(&station, first).answer, OLBIOTHAR_NOT_AWAITED, 0));
+    /* A run that may take its whole period: at its last tick, which is also the release of the next, its result is due. */
+    station.fixed.tasks.worsts[0] = station.play.ages[0] = FRAME_STOPS;
+    station.play.givens[0] = 0;
+    HOLDS(task_is(&station, 0, 1, 0, 1, 0));
+    HOLDS(is(olbiothar_tick(&station, nothing).answer, OLBIOTHAR_RESULT_OVERDUE, 0));
+    HOLDS(is(olbiothar_tick(&station, first).answer, OLBIOTHAR_DONE, 0));
+    HOLDS(task_is(&station, 0, 1, 0, 1, FRAME_STOPS - 1));
 }
 
 /* Every byte but 0 sets a flag, and a tick stores 0 or 1. `station` stands where the data frame of task 0 starts: whether it has a value
