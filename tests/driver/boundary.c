@@ -105,32 +105,51 @@ static void written_and_read(void) {
     HOLDS(is(olbiothar_text_plan(text, sizeof text, back, sizeof back).answer, OLBIOTHAR_TEXT_TOO_LONG, OLBIOTHAR_LONGEST_SHEET));
 }
 
-/* Words of one sort, and how many they are: printed ones, a zero byte, and what stood behind it. */
-static int is_worded(uint64_t (*words)(uint32_t, uint8_t *, size_t), uint32_t number) {
+typedef uint64_t words_of(uint32_t number, uint8_t *text, size_t text_length);
+typedef char wording[OLBIOTHAR_LONGEST_WORDS];
+
+/* Words of one sort, in no more room than they ask for: printed letters, a zero byte, and what stood behind it. */
+static void put_words(words_of *words, uint32_t number, wording into) {
     static uint8_t lent[OLBIOTHAR_LONGEST_WORDS + 1];
     memset(lent, '?', sizeof lent);
     HOLDS(words(number, lent, OLBIOTHAR_LONGEST_WORDS - 1) == 0 && lent[0] == '?');
     uint64_t length = words(number, lent, OLBIOTHAR_LONGEST_WORDS);
     HOLDS(length < OLBIOTHAR_LONGEST_WORDS && lent[length] == 0 && lent[length + 1] == '?');
     for (uint64_t at = 0; at < length; at++) HOLDS(lent[at] >= ' ' && lent[at] <= '~');
-    return length > 0;
+    memcpy(into, lent, OLBIOTHAR_LONGEST_WORDS);
 }
 
-/* Every number that an answer or a reason has is worded, and no other. */
+/* Whether a number has other words than a number that nothing has. */
+static int is_worded(words_of *words, uint32_t number) {
+    wording own, none;
+    put_words(words, number, own);
+    put_words(words, UINT32_MAX, none);
+    return strcmp(own, none) != 0;
+}
+
+static int is_refusal(uint32_t number) {
+    return (number >= OLBIOTHAR_BAD_RECORDS && number <= OLBIOTHAR_BUFFER_TOO_SHORT) ||
+           (number >= OLBIOTHAR_TOO_FEW_ROWS && number <= OLBIOTHAR_NO_GAP_AT_END) ||
+           (number >= OLBIOTHAR_NOT_BEGUN && number <= OLBIOTHAR_CHANGE_NOT_ALLOWED) || number == OLBIOTHAR_UNREADABLE ||
+           number == OLBIOTHAR_TEXT_TOO_LONG;
+}
+
+static int is_reason(uint32_t number) {
+    return (number >= OLBIOTHAR_BUS_EXPECTED && number <= OLBIOTHAR_END_OF_LINE_EXPECTED) ||
+           (number >= OLBIOTHAR_WORD_EXPECTED && number < OLBIOTHAR_WORD_EXPECTED + 24);
+}
+
+/* Every number of a refusal or a reason has words, and beside 0 no other. */
 static void worded(void) {
-    for (uint32_t number = 0; number < 300; number++) {
-        int refusal = (number >= OLBIOTHAR_BAD_RECORDS && number <= OLBIOTHAR_BUFFER_TOO_SHORT) ||
-                      (number >= OLBIOTHAR_TOO_FEW_ROWS && number <= OLBIOTHAR_NO_GAP_AT_END) ||
-                      (number >= OLBIOTHAR_NOT_BEGUN && number <= OLBIOTHAR_CHANGE_NOT_ALLOWED) || number == OLBIOTHAR_UNREADABLE ||
-                      number == OLBIOTHAR_TEXT_TOO_LONG;
-        int reason = (number >= OLBIOTHAR_BUS_EXPECTED && number <= OLBIOTHAR_END_OF_LINE_EXPECTED) ||
-                     (number >= OLBIOTHAR_WORD_EXPECTED && number < OLBIOTHAR_WORD_EXPECTED + 24);
-        HOLDS(is_worded(olbiothar_words, number) == refusal);
-        HOLDS(is_worded(olbiothar_reason_words, number) == reason);
+    wording words;
+    for (uint32_t number = 1; number < 300; number++) {
+        HOLDS(is_worded(olbiothar_words, number) == is_refusal(number));
+        HOLDS(is_worded(olbiothar_reason_words, number) == is_reason(number));
     }
-    HOLDS(!is_worded(olbiothar_words, UINT32_MAX) && !is_worded(olbiothar_reason_words, UINT32_MAX));
-    HOLDS(olbiothar_words(OLBIOTHAR_NO_ROOM, text, sizeof text) == 20 && strcmp((char *)text, "no place for a frame") == 0);
-    HOLDS(olbiothar_reason_words(OLBIOTHAR_WORD_EXPECTED + 21, text, sizeof text) == 13 && strcmp((char *)text, "rate expected") == 0);
+    put_words(olbiothar_words, OLBIOTHAR_NO_ROOM, words);
+    HOLDS(strncmp(words, "no place for a frame", 20) == 0);
+    put_words(olbiothar_reason_words, OLBIOTHAR_WORD_EXPECTED + 21, words);
+    HOLDS(strcmp(words, "rate expected") == 0);
 }
 
 /* Each field of a station that has begun with job A, read where the header has it; what is not named is 0. */
