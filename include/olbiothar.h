@@ -40,7 +40,7 @@ enum {
     /* No sheet is longer, and no longer text is read, as a sheet or as a plan. */
     OLBIOTHAR_LONGEST_SHEET = 262144,
     /* As many bytes are lent for words, their zero byte among them. */
-    OLBIOTHAR_LONGEST_WORDS = 64
+    OLBIOTHAR_LONGEST_WORDS = 128
 };
 
 /* Bytes of stack that a call takes at most, below its caller's own variables: arguments that go by the stack, the function, and all that
@@ -359,12 +359,12 @@ typedef struct olbiothar_plan_answer {
  */
 olbiothar_plan_answer olbiothar_text_plan(const uint8_t *text, size_t text_length, uint8_t *plan, size_t plan_length);
 
-/* The words of an answer's number: for 12, say, `no place for a frame`.
+/* The words of an answer's number, and of what its place counts: of 12 `no place for a frame; the place is the frame's number`. Those of 0
+ * are `done`; a number that no answer has gets words that say so.
  *
  * `text`, `text_length`: lent bytes, with any contents, OLBIOTHAR_LONGEST_WORDS or more. The words stand at the front of `text`, then a
- * zero byte; the bytes behind it are as they were. Returned is their length, without that byte. A number that no answer has, and 0, has
- * no words: the length is 0, and the zero byte stands at the front.
- * Where fewer bytes are lent, nothing is written and 0 is returned.
+ * zero byte; the bytes behind it are as they were. Returned is their length, without that byte. Where fewer bytes are lent, nothing is
+ * written and 0 is returned.
  */
 uint64_t olbiothar_words(uint32_t number, uint8_t *text, size_t text_length);
 

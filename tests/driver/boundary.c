@@ -20,7 +20,7 @@ static void holds(int it_does, const char *what, int line) {
 
 enum { LENGTH = 75, MODE = 1, WORST = 1000, FRAME_STARTS = 19904, FRAME_STOPS = 20000, VALUE = 7 };
 
-static uint8_t plan[256], table[LENGTH], text[OLBIOTHAR_LONGEST_SHEET];
+static uint8_t plan[256], table[LENGTH], text[OLBIOTHAR_LONGEST_SHEET + 1];
 static size_t plan_length;
 static olbiothar_frame rows[OLBIOTHAR_FRAMES];
 static const olbiothar_starting no_modes;
@@ -98,38 +98,58 @@ static void written_and_read(void) {
     HOLDS(is(olbiothar_text_plan(text, asked.place, NULL, 0).answer, OLBIOTHAR_BUFFER_TOO_SHORT, plan_length));
     HOLDS(is(olbiothar_text_plan(text, asked.place, back, plan_length - 1).answer, OLBIOTHAR_BUFFER_TOO_SHORT, plan_length));
     HOLDS(back[0] == 0);
-    olbiothar_plan_answer read = olbiothar_text_plan(text, asked.place, back, sizeof back);
+    olbiothar_plan_answer read = olbiothar_text_plan(text, asked.place, back, plan_length);
     HOLDS(is(read.answer, OLBIOTHAR_DONE, plan_length) && read.reason == OLBIOTHAR_NO_REASON);
-    HOLDS(memcmp(back, plan, plan_length) == 0);
-    HOLDS(is(olbiothar_text_plan(text, sizeof text, back, sizeof back).answer, OLBIOTHAR_UNREADABLE, 14));
+    HOLDS(memcmp(back, plan, plan_length) == 0 && back[plan_length] == 0);
+    HOLDS(is(olbiothar_text_plan(text, OLBIOTHAR_LONGEST_SHEET, back, sizeof back).answer, OLBIOTHAR_UNREADABLE, 14));
+    HOLDS(is(olbiothar_text_plan(text, sizeof text, back, sizeof back).answer, OLBIOTHAR_TEXT_TOO_LONG, OLBIOTHAR_LONGEST_SHEET));
 }
 
-/* Words of one sort, and how many they are: printed ones, a zero byte, and what stood behind it. */
-static int is_worded(uint64_t (*words)(uint32_t, uint8_t *, size_t), uint32_t number) {
+typedef uint64_t words_of(uint32_t number, uint8_t *text, size_t text_length);
+typedef char wording[OLBIOTHAR_LONGEST_WORDS];
+
+/* Words of one sort, in no more room than they ask for: printed letters, a zero byte, and what stood behind it. */
+static void put_words(words_of *words, uint32_t number, wording into) {
     static uint8_t lent[OLBIOTHAR_LONGEST_WORDS + 1];
     memset(lent, '?', sizeof lent);
     HOLDS(words(number, lent, OLBIOTHAR_LONGEST_WORDS - 1) == 0 && lent[0] == '?');
     uint64_t length = words(number, lent, OLBIOTHAR_LONGEST_WORDS);
     HOLDS(length < OLBIOTHAR_LONGEST_WORDS && lent[length] == 0 && lent[length + 1] == '?');
     for (uint64_t at = 0; at < length; at++) HOLDS(lent[at] >= ' ' && lent[at] <= '~');
-    return length > 0;
+    memcpy(into, lent, OLBIOTHAR_LONGEST_WORDS);
 }
 
-/* Every number that an answer or a reason has is worded, and no other. */
+/* Whether a number has other words than a number that nothing has. */
+static int is_worded(words_of *words, uint32_t number) {
+    wording own, none;
+    put_words(words, number, own);
+    put_words(words, UINT32_MAX, none);
+    return strcmp(own, none) != 0;
+}
+
+static int is_refusal(uint32_t number) {
+    return (number >= OLBIOTHAR_BAD_RECORDS && number <= OLBIOTHAR_BUFFER_TOO_SHORT) ||
+           (number >= OLBIOTHAR_TOO_FEW_ROWS && number <= OLBIOTHAR_NO_GAP_AT_END) ||
+           (number >= OLBIOTHAR_NOT_BEGUN && number <= OLBIOTHAR_CHANGE_NOT_ALLOWED) || number == OLBIOTHAR_UNREADABLE ||
+           number == OLBIOTHAR_TEXT_TOO_LONG;
+}
+
+static int is_reason(uint32_t number) {
+    return (number >= OLBIOTHAR_BUS_EXPECTED && number <= OLBIOTHAR_END_OF_LINE_EXPECTED) ||
+           (number >= OLBIOTHAR_WORD_EXPECTED && number < OLBIOTHAR_WORD_EXPECTED + 24);
+}
+
+/* Every number of a refusal or a reason has words, and beside 0 no other. */
 static void worded(void) {
-    for (uint32_t number = 0; number < 300; number++) {
-        int refusal = (number >= OLBIOTHAR_BAD_RECORDS && number <= OLBIOTHAR_BUFFER_TOO_SHORT) ||
-                      (number >= OLBIOTHAR_TOO_FEW_ROWS && number <= OLBIOTHAR_NO_GAP_AT_END) ||
-                      (number >= OLBIOTHAR_NOT_BEGUN && number <= OLBIOTHAR_CHANGE_NOT_ALLOWED) || number == OLBIOTHAR_UNREADABLE ||
-                      number == OLBIOTHAR_TEXT_TOO_LONG;
-        int reason = (number >= OLBIOTHAR_BUS_EXPECTED && number <= OLBIOTHAR_END_OF_LINE_EXPECTED) ||
-                     (number >= OLBIOTHAR_WORD_EXPECTED && number < OLBIOTHAR_WORD_EXPECTED + 24);
-        HOLDS(is_worded(olbiothar_words, number) == refusal);
-        HOLDS(is_worded(olbiothar_reason_words, number) == reason);
+    wording words;
+    for (uint32_t number = 1; number < 300; number++) {
+        HOLDS(is_worded(olbiothar_words, number) == is_refusal(number));
+        HOLDS(is_worded(olbiothar_reason_words, number) == is_reason(number));
     }
-    HOLDS(!is_worded(olbiothar_words, UINT32_MAX) && !is_worded(olbiothar_reason_words, UINT32_MAX));
-    HOLDS(olbiothar_words(OLBIOTHAR_NO_ROOM, text, sizeof text) == 20 && strcmp((char *)text, "no place for a frame") == 0);
-    HOLDS(olbiothar_reason_words(OLBIOTHAR_WORD_EXPECTED + 21, text, sizeof text) == 13 && strcmp((char *)text, "rate expected") == 0);
+    put_words(olbiothar_words, OLBIOTHAR_NO_ROOM, words);
+    HOLDS(strncmp(words, "no place for a frame", 20) == 0);
+    put_words(olbiothar_reason_words, OLBIOTHAR_WORD_EXPECTED + 21, words);
+    HOLDS(strcmp(words, "rate expected") == 0);
 }
 
 /* Each field of a station that has begun with job A, read where the header has it; what is not named is 0. */
@@ -253,6 +273,13 @@ static void accessors(void) {
     HOLDS(is(olbiothar_tick(&station, both).answer, OLBIOTHAR_DONE, 0));
     HOLDS(task_is(&station, 0, 1, 0, 0, 0) && task_is(&station, 1, 1, 1, 0, 0));
     HOLDS(is(olbiothar_tick(&station, first).answer, OLBIOTHAR_NOT_AWAITED, 0));
+    /* A run that may take its whole period: at its last tick, which is also the release of the next, its result is due. */
+    station.fixed.tasks.worsts[0] = station.play.ages[0] = FRAME_STOPS;
+    station.play.givens[0] = 0;
+    HOLDS(task_is(&station, 0, 1, 0, 1, 0));
+    HOLDS(is(olbiothar_tick(&station, nothing).answer, OLBIOTHAR_RESULT_OVERDUE, 0));
+    HOLDS(is(olbiothar_tick(&station, first).answer, OLBIOTHAR_DONE, 0));
+    HOLDS(task_is(&station, 0, 1, 0, 1, FRAME_STOPS - 1));
 }
 
 /* Every byte but 0 sets a flag, and a tick stores 0 or 1. `station` stands where the data frame of task 0 starts: whether it has a value
