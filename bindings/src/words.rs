@@ -4,7 +4,7 @@ use core::fmt;
 use core::ops::Deref;
 
 /// No words are longer, with the zero byte behind them.
-pub const LONGEST_WORDS: usize = 64;
+pub const LONGEST_WORDS: usize = 128;
 
 /// The words of a refusal or of a reason, as the library has them: plain text, without a capital or a full stop.
 #[derive(Clone, Copy, PartialEq, Eq)]
