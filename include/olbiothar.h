@@ -1,11 +1,21 @@
-/* Olbiothar: bus tables made, checked, played, printed and read back. The functions of libolbiothar.a (x86-64 Linux).
+/* Olbiothar: bus tables made, checked, played, printed and read back; plans as text. The functions of libolbiothar.a (x86-64 Linux).
  *
  * Every function here is proved: for every value of its parameters it ends, stays within the memory that it is lent, and returns
- * what is said below. There is no state behind the functions, no allocation and no lock: calls on different memory may run at the
- * same time. What a caller owes is C's own: each pointer leads to as much memory as its parameter says, and memory that a function
- * writes to is lent to nothing else during the call. A pointer with a length of 0 is not followed: it may be NULL.
+ * what is said below. What a caller owes is C's own: each pointer leads to as much memory as its parameter says, and memory that a
+ * function writes to is lent to nothing else during the call. A pointer with a length of 0 is not followed: it may be NULL. A pointer to
+ * a station is always followed.
  *
- * Times are in ticks of one microsecond. Files (plans, tables) are rows of records as section 2 of docs/RULES.md has them.
+ * What the archive needs: `memcpy` and `memset`, and nothing else of a C library or of the system. It has no data that is written to, takes
+ * nothing from a heap, has no state and no lock: threads may share it, and calls on different memory may run at the same time. What a call
+ * takes of the stack is said below (OLBIOTHAR_STACK_..). It is machine code for x86-64 by the System V calling convention, as Linux has
+ * it; its code may stand at any address. Where the library is installed,
+ *
+ *     cc client.c $(pkg-config --cflags --libs olbiothar)
+ *
+ * compiles and links a client. This header is C11, and C++11.
+ *
+ * Times are in ticks of one microsecond. Files (plans, tables) are rows of records as section 2 of docs/RULES.md has them. Texts (plans as
+ * text, sheets) are bytes; but for the words of a refusal there is no zero byte at their end.
  */
 #ifndef OLBIOTHAR_H
 #define OLBIOTHAR_H
@@ -17,6 +27,8 @@
 extern "C" {
 #endif
 
+#define OLBIOTHAR_VERSION "0.8.0"
+
 enum {
     OLBIOTHAR_NODES = 8,
     OLBIOTHAR_MODULES = 16,
@@ -25,11 +37,30 @@ enum {
     OLBIOTHAR_FRAMES = 1024,
     /* No table is longer, 14,425 bytes: a header, 8 control rows, 1,024 data rows and an end. */
     OLBIOTHAR_LONGEST_TABLE = 8 + OLBIOTHAR_NODES * 10 + OLBIOTHAR_FRAMES * 14 + 1,
-    /* No sheet is longer, and no longer text is read as one. */
-    OLBIOTHAR_LONGEST_SHEET = 262144
+    /* No sheet is longer, and no longer text is read, as a sheet or as a plan. */
+    OLBIOTHAR_LONGEST_SHEET = 262144,
+    /* As many bytes are lent for words, their zero byte among them. */
+    OLBIOTHAR_LONGEST_WORDS = 128
 };
 
-/* The numbers of the refusals, and what the place says. */
+/* Bytes of stack that a call takes at most, below its caller's own variables: arguments that go by the stack, the function, and all that
+ * it calls. Measured (tests/needs paints a stack, and fails where a call takes more), not proved. No function calls itself, and the
+ * number of frames does not matter. */
+#define OLBIOTHAR_STACK_MAKE 51200
+#define OLBIOTHAR_STACK_CHECK 56320
+#define OLBIOTHAR_STACK_BEGIN 115712
+#define OLBIOTHAR_STACK_TICK 14336
+#define OLBIOTHAR_STACK_TIME 512
+#define OLBIOTHAR_STACK_MODULE 512
+#define OLBIOTHAR_STACK_TASK 512
+#define OLBIOTHAR_STACK_SHEET 55296
+#define OLBIOTHAR_STACK_SHEET_TABLE 14336
+#define OLBIOTHAR_STACK_PLAN_TEXT 4096
+#define OLBIOTHAR_STACK_TEXT_PLAN 4096
+#define OLBIOTHAR_STACK_WORDS 1024
+#define OLBIOTHAR_STACK_REASON_WORDS 1024
+
+/* The numbers of the refusals, and what the place says. olbiothar_words has them in words. */
 enum {
     OLBIOTHAR_DONE = 0,                 /* not refused */
     OLBIOTHAR_BAD_RECORDS = 1,          /* offset in the plan */
@@ -62,6 +93,21 @@ enum {
     OLBIOTHAR_CHANGE_NOT_ALLOWED = 44,  /* module */
     OLBIOTHAR_UNREADABLE = 60,          /* line of the text, counted from 1 */
     OLBIOTHAR_TEXT_TOO_LONG = 61        /* 262,144, the most bytes that are read */
+};
+
+/* Why a line of a plan's text cannot be read. olbiothar_reason_words has it in words. */
+enum {
+    OLBIOTHAR_NO_REASON = 0,            /* not refused with 60 */
+    OLBIOTHAR_BUS_EXPECTED = 1,
+    OLBIOTHAR_NODES_EXPECTED = 2,
+    OLBIOTHAR_UNKNOWN_WORD = 3,
+    OLBIOTHAR_OUT_OF_ORDER = 4,
+    OLBIOTHAR_NUMBER_EXPECTED = 5,
+    OLBIOTHAR_NUMBER_TOO_LARGE = 6,
+    OLBIOTHAR_END_OF_LINE_EXPECTED = 7,
+    /* This and k: the word number k of bus, kbit/s, overhead-bytes, least-payload, largest-payload, gap-bits, resolution, bits-per-byte,
+     * nodes, module, on, node, mode, of, period, switch, task, bytes, worst, run, in, rate, connect, to, counted from 0. */
+    OLBIOTHAR_WORD_EXPECTED = 32
 };
 
 /* What a call comes to: `number` is 0, or that of the first refusal that applies, at its lowest place. */
@@ -104,71 +150,70 @@ olbiothar_answer olbiothar_make(const uint8_t *plan, size_t plan_length, olbioth
 olbiothar_answer olbiothar_check(const uint8_t *plan, size_t plan_length, const uint8_t *table, size_t table_length,
                                  olbiothar_frame *rows, size_t row_count);
 
-/* A played station. It holds its own copy of what it needs of plan and table. All bytes zero, it is a station not begun. Its
- * fields may be read; `nodes[n].shown[t]` is what node n shows of task t after the last accepted tick. Any numbers may stand in a
- * station that is ticked, also in one that was kept elsewhere and read back: one outside its range makes the tick answer 40 at 0.
- * There are `fixed.pairs` pairs; what lies in the places behind them is not looked at.
- * `fixed`, the runs and the pairs do not change while it plays. Bit m of `pair_modes[q]` says that mode m has the message of pair q;
- * `pair_starts` and `pair_stops` are those of the row that the pair rides in. `sending`, `givens` and `full` are flags: set where the
- * byte is not 0, and stored as 0 or 1. */
+/* What a node has, by task. It stays until it is overwritten, also through changes of mode and empty frames. */
 typedef struct olbiothar_node {
-    uint64_t landed[OLBIOTHAR_TASKS];
-    uint64_t shown[OLBIOTHAR_TASKS];
+    uint64_t landed[OLBIOTHAR_TASKS]; /* the value that came last over the bus; 0 on the task's own node */
+    uint64_t shown[OLBIOTHAR_TASKS];  /* what the node shows, behind the last accepted tick */
 } olbiothar_node;
 
+/* A played station, 27,016 bytes. It holds its own copy of what it needs of plan and table. All bytes zero, it is a station not begun.
+ *
+ * olbiothar_time, olbiothar_module and olbiothar_task say what a caller needs from tick to tick, and `nodes[n].shown[t]` is what node n
+ * shows of task t. All other fields may be read too; what stands in them is said here, in the words of section 8 of docs/RULES.md.
+ * Any numbers may stand in a station that is ticked, also in one that was kept elsewhere and read back: one outside its range (rule 8.19)
+ * makes the tick answer 40 at 0. Flags are set where the byte is not 0, and stored as 0 or 1.
+ *
+ * A pair is a frame: a bus task with one deadline. Pair q and the arrays `pair_..` go by the frame's number. */
 typedef struct olbiothar_station {
+    /* What it keeps of plan and table: `fixed`, `runs` and the pairs do not change while it plays. Places behind a count are 0. */
     struct {
         struct {
-            uint8_t count;
-            uint8_t sites[OLBIOTHAR_MODULES];
-            uint8_t sending[OLBIOTHAR_MODULES];
+            uint8_t count;                          /* how many modules the plan has */
+            uint8_t sites[OLBIOTHAR_MODULES];       /* by module: the node that it is on */
+            uint8_t sending[OLBIOTHAR_MODULES];     /* by module: a flag, whether one of its tasks goes over the bus */
         } modules;
         struct {
-            uint8_t count;
-            uint8_t homes[OLBIOTHAR_MODES];
-            uint32_t periods[OLBIOTHAR_MODES];
-            uint32_t switches[OLBIOTHAR_MODES];
+            uint8_t count;                          /* how many modes the plan has, of all modules */
+            uint8_t homes[OLBIOTHAR_MODES];         /* by mode: its module */
+            uint32_t periods[OLBIOTHAR_MODES];      /* by mode: its period, in ticks */
+            uint32_t switches[OLBIOTHAR_MODES];     /* by mode: it may be left at multiples of so many ticks since it began */
         } modes;
         struct {
-            uint8_t count;
-            uint8_t homes[OLBIOTHAR_TASKS];
-            uint8_t sizes[OLBIOTHAR_TASKS];
-            uint32_t worsts[OLBIOTHAR_TASKS];
+            uint8_t count;                          /* how many tasks the plan has */
+            uint8_t homes[OLBIOTHAR_TASKS];         /* by task: its module */
+            uint8_t sizes[OLBIOTHAR_TASKS];         /* by task: the bytes of its result, 1 to 8 */
+            uint32_t worsts[OLBIOTHAR_TASKS];       /* by task: its worst time, the age at which a run has its result at the latest */
         } tasks;
         struct {
-            uint8_t count;
-            uint8_t nodes[OLBIOTHAR_NODES];
-            uint32_t starts[OLBIOTHAR_NODES];
-            uint32_t stops[OLBIOTHAR_NODES];
+            uint8_t count;                          /* how many control rows the table has */
+            uint8_t nodes[OLBIOTHAR_NODES];         /* by control row: the node that sends it */
+            uint32_t starts[OLBIOTHAR_NODES];       /* by control row: the bus time at which it starts */
+            uint32_t stops[OLBIOTHAR_NODES];        /* by control row: the bus time at which it stops, and lands */
         } controls;
-        uint32_t period;
-        uint16_t pairs;
+        uint32_t period;                            /* the bus period P: the length of the table's cycle, in ticks */
+        uint16_t pairs;                             /* how many pairs there are; what lies in the places behind them is not looked at */
     } fixed;
-    uint32_t runs[OLBIOTHAR_MODES * OLBIOTHAR_TASKS];
-    uint8_t pair_tasks[OLBIOTHAR_FRAMES];
-    uint32_t pair_deadlines[OLBIOTHAR_FRAMES];
-    uint32_t pair_starts[OLBIOTHAR_FRAMES];
-    uint32_t pair_stops[OLBIOTHAR_FRAMES];
-    uint32_t pair_modes[OLBIOTHAR_FRAMES];
+    uint32_t runs[OLBIOTHAR_MODES * OLBIOTHAR_TASKS]; /* at mode * 32 + task: each how many ticks the mode runs the task; 0: it does not */
+    uint8_t pair_tasks[OLBIOTHAR_FRAMES];           /* by pair: its task */
+    uint32_t pair_deadlines[OLBIOTHAR_FRAMES];      /* by pair: its deadline, as a bus time */
+    uint32_t pair_starts[OLBIOTHAR_FRAMES];         /* by pair: the bus time at which its data row starts */
+    uint32_t pair_stops[OLBIOTHAR_FRAMES];          /* by pair: the bus time at which its data row stops, and lands */
+    uint32_t pair_modes[OLBIOTHAR_FRAMES];          /* by pair: bit m says that mode m has a message of the task with this deadline */
+    /* What a tick changes. */
     struct {
-        uint32_t clock;
-        uint8_t running[OLBIOTHAR_MODULES];
-        uint32_t ages[OLBIOTHAR_MODULES];
-        uint8_t bytes[OLBIOTHAR_MODULES];
-        uint8_t givens[OLBIOTHAR_TASKS];
-        uint64_t out[OLBIOTHAR_TASKS];
-        uint8_t held[OLBIOTHAR_NODES * OLBIOTHAR_MODULES];
-        uint8_t full[OLBIOTHAR_TASKS];
-        uint64_t loads[OLBIOTHAR_TASKS];
+        uint32_t clock;                             /* the bus time of the next tick: 0 at first, then from 1 to P and again from 1 */
+        uint8_t running[OLBIOTHAR_MODULES];         /* by module: the mode that runs */
+        uint32_t ages[OLBIOTHAR_MODULES];           /* by module: at the next tick, the time since its mode began, within the mode's
+                                                     * period: 0 at first, then from 1 to the period and again from 1 */
+        uint8_t bytes[OLBIOTHAR_MODULES];           /* by module: its mode as the control frame of its node last took it */
+        uint8_t givens[OLBIOTHAR_TASKS];            /* by task: a flag, whether the run that is under way has had its result */
+        uint64_t out[OLBIOTHAR_TASKS];              /* by task: its out-box, the last result that was given */
+        uint8_t held[OLBIOTHAR_NODES * OLBIOTHAR_MODULES]; /* at node * 16 + module: the module's mode as the node last heard it */
+        uint8_t full[OLBIOTHAR_TASKS];              /* by task: a flag, whether its last data frame went out with a value */
+        uint64_t loads[OLBIOTHAR_TASKS];            /* by task: that value */
     } play;
-    olbiothar_node nodes[OLBIOTHAR_NODES];
+    olbiothar_node nodes[OLBIOTHAR_NODES];          /* by node; there are eight, whatever the plan has */
 } olbiothar_station;
-
-/* A beginning: the answer, and the station beside it. */
-typedef struct olbiothar_begun {
-    olbiothar_answer answer;
-    olbiothar_station station;
-} olbiothar_begun;
 
 /* What a beginning is given: module m starts in mode `modes[m]` if `given[m]` is not 0. */
 typedef struct olbiothar_starting {
@@ -176,14 +221,16 @@ typedef struct olbiothar_starting {
     uint8_t given[OLBIOTHAR_MODULES];
 } olbiothar_starting;
 
-/* Begins a station with a plan, a table and a mode for each module.
+/* Begins a station with a plan, a table and a mode for each module, in place.
  *
- * number 0: `station` has begun; its next tick is time 0.
+ * `plan`, `table`: any bytes. `station`: lent, with any contents.
+ *
+ * number 0 (`place` is 0): `*station` has begun; its next tick is time 0. It needs neither plan nor table from now on.
  * number 1 to 11 and 20 to 28: what olbiothar_check gives for plan and table. number 40: of the 16 places, the lowest whose module
- *   is given no mode of its own, or that is given one behind the plan's modules. `station` is then a station not begun, all zero.
+ *   is given no mode of its own, or that is given one behind the plan's modules. `*station` is then as it stood.
  */
-olbiothar_begun olbiothar_begin(const uint8_t *plan, size_t plan_length, const uint8_t *table, size_t table_length,
-                                olbiothar_starting starting);
+olbiothar_answer olbiothar_begin(const uint8_t *plan, size_t plan_length, const uint8_t *table, size_t table_length,
+                                 olbiothar_starting starting, olbiothar_station *station);
 
 /* What a tick is given: the task t the result `results[t]` if `given[t]` is not 0; the module m a change to mode `modes[m]` if
  * `changed[m]` is not 0. All bytes zero: nothing. */
@@ -218,6 +265,36 @@ typedef struct olbiothar_tick_answer {
  */
 olbiothar_tick_answer olbiothar_tick(olbiothar_station *station, olbiothar_input input);
 
+/* The time of a station. */
+typedef struct olbiothar_time_now {
+    uint8_t begun;   /* 1 if the station has begun, else 0, and the rest is 0 */
+    uint32_t clock;  /* the bus time of its next tick: 0 at first, then from 1 to `period` and again from 1 */
+    uint32_t period; /* the length of the table's cycle */
+} olbiothar_time_now;
+
+/* The functions from here to olbiothar_task only read a station, and any numbers may stand in it. */
+olbiothar_time_now olbiothar_time(const olbiothar_station *station);
+
+/* A module of a station. */
+typedef struct olbiothar_module_now {
+    uint8_t there; /* 1 if the station has begun and has a module of this number, else 0, and the rest is 0 */
+    uint8_t node;  /* the node that it is on */
+    uint8_t mode;  /* the mode that runs */
+    uint32_t age;  /* at the next tick, the time since that mode began, within its period: 0 at first, then from 1 to the period */
+} olbiothar_module_now;
+
+olbiothar_module_now olbiothar_module(const olbiothar_station *station, uint8_t module);
+
+/* A task of a station, and what the next tick may bring of it. */
+typedef struct olbiothar_task_now {
+    uint8_t there;  /* 1 if the station has begun and has a task of this number, else 0, and the rest is 0 */
+    uint8_t home;   /* its module */
+    uint8_t awaits; /* 1 if a result may be given with the next tick (it is not refused with 41), else 0 */
+    uint32_t left;  /* where `awaits` is 1: how many ticks may pass without the result; 0: it must come with the next one (else 43) */
+} olbiothar_task_now;
+
+olbiothar_task_now olbiothar_task(const olbiothar_station *station, uint8_t task);
+
 /* What a sheet comes to: what olbiothar_check gives for plan and table, and how many bytes of text there are. */
 typedef struct olbiothar_sheet_answer {
     olbiothar_answer checked;
@@ -250,6 +327,49 @@ olbiothar_sheet_answer olbiothar_sheet(const uint8_t *plan, size_t plan_length, 
  *   also the order in which they are tested. `table` is then as it was.
  */
 olbiothar_answer olbiothar_sheet_table(const uint8_t *text, size_t text_length, uint8_t *table, size_t table_length);
+
+/* Prints a plan as text: a line for each record, in the order of the file, with its number in a comment. docs/PLANS.md has the lines.
+ * Plans that keep the record rules are printed, whatever the later rules say of them.
+ *
+ * `plan`: any bytes. `text`, `text_length`: lent bytes, with any contents; NULL with 0 asks for the bytes needed (13, if 1 does not apply).
+ *
+ * number 0: the text stands in the first `place` bytes of `text`; the bytes behind it are as they were.
+ * number 1: the plan breaks the record rules, at this offset. number 13: the bytes needed are more than text_length. `text` is then as it
+ *   was.
+ */
+olbiothar_answer olbiothar_plan_text(const uint8_t *plan, size_t plan_length, uint8_t *text, size_t text_length);
+
+/* What reading a plan's text comes to: the answer, and with number 60 why the line cannot be read, else 0. */
+typedef struct olbiothar_plan_answer {
+    olbiothar_answer answer;
+    uint32_t reason;
+} olbiothar_plan_answer;
+
+/* Reads a plan from its text: spaces, comments, blank lines and line ends are free, the order is that of the file. What is proved: a
+ * text that olbiothar_plan_text has printed, and that is short enough to be read, reads back to the bytes of its plan; and what is read
+ * keeps the record rules (1 does not apply to it). Whether the numbers are right is the matter of olbiothar_make and olbiothar_check.
+ *
+ * `text`: any bytes. `plan`, `plan_length`: lent bytes, with any contents; NULL with 0 asks for the bytes needed (13, if no other number
+ * applies).
+ *
+ * answer.number 0: the plan stands in the first `place` bytes of `plan`; the bytes behind it are as they were.
+ * answer.number 61: text_length is above OLBIOTHAR_LONGEST_SHEET. answer.number 60: the first line that cannot be read, and why; where the
+ *   text ends before its bus or its nodes, the line behind the last. answer.number 13: the bytes needed are more than plan_length. This is
+ *   also the order in which they are tested. `plan` is then as it was.
+ */
+olbiothar_plan_answer olbiothar_text_plan(const uint8_t *text, size_t text_length, uint8_t *plan, size_t plan_length);
+
+/* The words of an answer's number, and of what its place counts: of 12 `no place for a frame; the place is the frame's number`. Those of 0
+ * are `done`; a number that no answer has gets words that say so.
+ *
+ * `text`, `text_length`: lent bytes, with any contents, OLBIOTHAR_LONGEST_WORDS or more. The words stand at the front of `text`, then a
+ * zero byte; the bytes behind it are as they were. Returned is their length, without that byte. Where fewer bytes are lent, nothing is
+ * written and 0 is returned.
+ */
+uint64_t olbiothar_words(uint32_t number, uint8_t *text, size_t text_length);
+
+/* The words of a reason: for 53, say, `rate expected`. As olbiothar_words. */
+uint64_t olbiothar_reason_words(uint32_t reason, uint8_t *text, size_t text_length);
 
 /* The structs lie in memory as the library has them: a compiler for which one of these fails must not call it. */
 #ifdef __cplusplus
@@ -321,10 +441,6 @@ OLBIOTHAR_AT(olbiothar_station, play.full, 22632, 32);
 OLBIOTHAR_AT(olbiothar_station, play.loads, 22664, 256);
 OLBIOTHAR_AT(olbiothar_station, nodes, 22920, 4096);
 
-OLBIOTHAR_SIZE(olbiothar_begun, 27032, 8);
-OLBIOTHAR_AT(olbiothar_begun, answer, 0, 16);
-OLBIOTHAR_AT(olbiothar_begun, station, 16, 27016);
-
 OLBIOTHAR_SIZE(olbiothar_starting, 32, 1);
 OLBIOTHAR_AT(olbiothar_starting, modes, 0, 16);
 OLBIOTHAR_AT(olbiothar_starting, given, 16, 16);
@@ -346,9 +462,30 @@ OLBIOTHAR_SIZE(olbiothar_tick_answer, 32, 8);
 OLBIOTHAR_AT(olbiothar_tick_answer, answer, 0, 16);
 OLBIOTHAR_AT(olbiothar_tick_answer, row, 16, 16);
 
+OLBIOTHAR_SIZE(olbiothar_time_now, 12, 4);
+OLBIOTHAR_AT(olbiothar_time_now, begun, 0, 1);
+OLBIOTHAR_AT(olbiothar_time_now, clock, 4, 4);
+OLBIOTHAR_AT(olbiothar_time_now, period, 8, 4);
+
+OLBIOTHAR_SIZE(olbiothar_module_now, 8, 4);
+OLBIOTHAR_AT(olbiothar_module_now, there, 0, 1);
+OLBIOTHAR_AT(olbiothar_module_now, node, 1, 1);
+OLBIOTHAR_AT(olbiothar_module_now, mode, 2, 1);
+OLBIOTHAR_AT(olbiothar_module_now, age, 4, 4);
+
+OLBIOTHAR_SIZE(olbiothar_task_now, 8, 4);
+OLBIOTHAR_AT(olbiothar_task_now, there, 0, 1);
+OLBIOTHAR_AT(olbiothar_task_now, home, 1, 1);
+OLBIOTHAR_AT(olbiothar_task_now, awaits, 2, 1);
+OLBIOTHAR_AT(olbiothar_task_now, left, 4, 4);
+
 OLBIOTHAR_SIZE(olbiothar_sheet_answer, 24, 8);
 OLBIOTHAR_AT(olbiothar_sheet_answer, checked, 0, 16);
 OLBIOTHAR_AT(olbiothar_sheet_answer, length, 16, 8);
+
+OLBIOTHAR_SIZE(olbiothar_plan_answer, 24, 8);
+OLBIOTHAR_AT(olbiothar_plan_answer, answer, 0, 16);
+OLBIOTHAR_AT(olbiothar_plan_answer, reason, 16, 4);
 
 #undef OLBIOTHAR_AT
 #undef OLBIOTHAR_SIZE

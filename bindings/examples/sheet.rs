@@ -1,7 +1,7 @@
 //! Makes the table of a plan file, prints its sheet, moves a row in the text as a person might, reads the
 //! text back, and prints what has become of it.
 //!
-//!     cargo run --release --example sheet PLAN
+//!     cargo run --release --package olbiothar --example sheet PLAN
 
 use olbiothar::{FRAMES, Frame, LONGEST_SHEET, LONGEST_TABLE, make, sheet, sheet_table};
 use std::error::Error;

@@ -1,8 +1,8 @@
-//! Reads a plan file, makes its table, judges it, and plays its first tick.
+//! Reads a plan file, makes its table, judges it, and plays one cycle of it: each task gives its result at the last moment.
 //!
-//!     cargo run --release --example station PLAN
+//!     cargo run --release --package olbiothar --example station PLAN
 
-use olbiothar::{FRAMES, Frame, LONGEST_TABLE, MODULES, Station, TASKS, check, make};
+use olbiothar::{FRAMES, Frame, LONGEST_TABLE, MODULES, Results, Station, TASKS, check, make};
 use std::error::Error;
 
 fn main() -> Result<(), Box<dyn Error>> {
@@ -20,10 +20,29 @@ fn main() -> Result<(), Box<dyn Error>> {
         );
     }
     check(&plan, table, &mut rows)?;
-    let mut station = Station::begin(&plan, table, &first_modes(&plan))?;
-    println!("at time 0 starts {:?}", station.tick(&[None; TASKS], &[None; MODULES])?);
+    let mut station = Station::not_begun();
+    station.begin(&plan, table, &first_modes(&plan))?;
+    let period = station.time().ok_or("not begun")?.period;
+    for time in 0..=period {
+        let results = last_moment_results(&station, time);
+        if let Some(row) = station.tick(&results, &[None; MODULES])? {
+            println!("at time {time} starts {row:?}");
+        }
+    }
+    println!("{station:?}");
     println!("node 1 shows {} of task 0", station.shown(1, 0));
     Ok(())
+}
+
+/// Of each task that may wait no longer, its number and the time, in one byte.
+fn last_moment_results(station: &Station, time: u32) -> Results {
+    let mut results = [None; TASKS];
+    for (task, now) in station.tasks().enumerate() {
+        if now.awaits && now.left == 0 {
+            results[task] = Some((task as u64 + u64::from(time)) % 256);
+        }
+    }
+    results
 }
 
 /// The first mode of each module, in a plan that is known to be good: modes are the records of kind 4.

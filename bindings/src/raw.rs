@@ -1,16 +1,18 @@
 //! The functions and structs of `include/olbiothar.h`, which says what each does.
 
+mod layout;
+
 use crate::{FRAMES, Frame, MODES, MODULES, NODES, TASKS};
 
 #[repr(C)]
-#[derive(Clone, Copy)]
+#[derive(Clone, Copy, Debug, PartialEq, Eq)]
 pub struct Answer {
     pub number: u32,
     pub place: u64,
 }
 
 #[repr(C)]
-#[derive(Clone, Copy)]
+#[derive(Clone, Copy, Debug, PartialEq, Eq)]
 pub struct Modules {
     pub count: u8,
     pub sites: [u8; MODULES],
@@ -18,7 +20,7 @@ pub struct Modules {
 }
 
 #[repr(C)]
-#[derive(Clone, Copy)]
+#[derive(Clone, Copy, Debug, PartialEq, Eq)]
 pub struct Modes {
     pub count: u8,
     pub homes: [u8; MODES],
@@ -27,7 +29,7 @@ pub struct Modes {
 }
 
 #[repr(C)]
-#[derive(Clone, Copy)]
+#[derive(Clone, Copy, Debug, PartialEq, Eq)]
 pub struct Tasks {
     pub count: u8,
     pub homes: [u8; TASKS],
@@ -36,7 +38,7 @@ pub struct Tasks {
 }
 
 #[repr(C)]
-#[derive(Clone, Copy)]
+#[derive(Clone, Copy, Debug, PartialEq, Eq)]
 pub struct Controls {
     pub count: u8,
     pub nodes: [u8; NODES],
@@ -45,7 +47,7 @@ pub struct Controls {
 }
 
 #[repr(C)]
-#[derive(Clone, Copy)]
+#[derive(Clone, Copy, Debug, PartialEq, Eq)]
 pub struct Play {
     pub clock: u32,
     pub running: [u8; MODULES],
@@ -59,14 +61,14 @@ pub struct Play {
 }
 
 #[repr(C)]
-#[derive(Clone, Copy)]
+#[derive(Clone, Copy, Debug, PartialEq, Eq)]
 pub struct Node {
     pub landed: [u64; TASKS],
     pub shown: [u64; TASKS],
 }
 
 #[repr(C)]
-#[derive(Clone, Copy)]
+#[derive(Clone, Copy, Debug, PartialEq, Eq)]
 pub struct Fixed {
     pub modules: Modules,
     pub modes: Modes,
@@ -77,7 +79,7 @@ pub struct Fixed {
 }
 
 #[repr(C)]
-#[derive(Clone, Copy)]
+#[derive(Clone, Copy, Debug, PartialEq, Eq)]
 pub struct Station {
     pub fixed: Fixed,
     pub runs: [u32; MODES * TASKS],
@@ -90,13 +92,46 @@ pub struct Station {
     pub nodes: [Node; NODES],
 }
 
+impl Station {
+    // SAFETY: every field is a number or a row of numbers, and may be zero.
+    pub const ZERO: Station = unsafe { core::mem::zeroed() };
+}
+
 #[repr(C)]
+#[derive(Clone, Copy, Debug, PartialEq, Eq)]
+pub struct TimeNow {
+    pub begun: u8,
+    pub clock: u32,
+    pub period: u32,
+}
+
+#[repr(C)]
+#[derive(Clone, Copy, Debug, PartialEq, Eq)]
+pub struct ModuleNow {
+    pub there: u8,
+    pub node: u8,
+    pub mode: u8,
+    pub age: u32,
+}
+
+#[repr(C)]
+#[derive(Clone, Copy, Debug, PartialEq, Eq)]
+pub struct TaskNow {
+    pub there: u8,
+    pub home: u8,
+    pub awaits: u8,
+    pub left: u32,
+}
+
+#[repr(C)]
+#[derive(Clone, Copy, Debug, PartialEq, Eq)]
 pub struct Starting {
     pub modes: [u8; MODULES],
     pub given: [u8; MODULES],
 }
 
 #[repr(C)]
+#[derive(Clone, Copy, Debug, PartialEq, Eq)]
 pub struct Input {
     pub results: [u64; TASKS],
     pub given: [u8; TASKS],
@@ -105,12 +140,7 @@ pub struct Input {
 }
 
 #[repr(C)]
-pub struct Begun {
-    pub answer: Answer,
-    pub station: Station,
-}
-
-#[repr(C)]
+#[derive(Clone, Copy, Debug, PartialEq, Eq)]
 pub struct Row {
     pub kind: u8,
     pub sender: u8,
@@ -120,58 +150,29 @@ pub struct Row {
 }
 
 #[repr(C)]
+#[derive(Clone, Copy, Debug, PartialEq, Eq)]
 pub struct TickAnswer {
     pub answer: Answer,
     pub row: Row,
 }
 
 #[repr(C)]
+#[derive(Clone, Copy, Debug, PartialEq, Eq)]
 pub struct SheetAnswer {
     pub checked: Answer,
     pub length: u64,
 }
 
-/// Asserts, as the header does, that a struct lies in memory as the library has it.
-macro_rules! lies {
-    ($type:ty, size $size:literal, alignment $alignment:literal, $($field:ident at $offset:literal),+) => {
-        const _: () = {
-            assert!(size_of::<$type>() == $size);
-            assert!(align_of::<$type>() == $alignment);
-            $(assert!(std::mem::offset_of!($type, $field) == $offset);)+
-        };
-    };
+#[repr(C)]
+#[derive(Clone, Copy, Debug, PartialEq, Eq)]
+pub struct PlanAnswer {
+    pub answer: Answer,
+    pub reason: u32,
 }
 
-lies!(Answer, size 16, alignment 8, number at 0, place at 8);
-lies!(Frame, size 16, alignment 4, task at 0, release at 4, deadline at 8, start at 12);
-lies!(Modules, size 33, alignment 1, count at 0, sites at 1, sending at 17);
-lies!(Modes, size 292, alignment 4, count at 0, homes at 1, periods at 36, switches at 164);
-lies!(Tasks, size 196, alignment 4, count at 0, homes at 1, sizes at 33, worsts at 68);
-lies!(Controls, size 76, alignment 4, count at 0, nodes at 1, starts at 12, stops at 44);
-lies!(
-    Play, size 808, alignment 8, clock at 0, running at 4, ages at 20, bytes at 84, givens at 100,
-    out at 136, held at 392, full at 520, loads at 552
-);
-lies!(Node, size 512, alignment 8, landed at 0, shown at 256);
-lies!(
-    Fixed, size 608, alignment 4, modules at 0, modes at 36, tasks at 328, controls at 524,
-    period at 600, pairs at 604
-);
-lies!(
-    Station, size 27_016, alignment 8, fixed at 0, runs at 608, pair_tasks at 4_704,
-    pair_deadlines at 5_728, pair_starts at 9_824, pair_stops at 13_920, pair_modes at 18_016,
-    play at 22_112, nodes at 22_920
-);
-lies!(Starting, size 32, alignment 1, modes at 0, given at 16);
-lies!(Input, size 320, alignment 8, results at 0, given at 256, modes at 288, changed at 304);
-lies!(Begun, size 27_032, alignment 8, answer at 0, station at 16);
-lies!(Row, size 16, alignment 4, kind at 0, sender at 1, deadline at 4, start at 8, stop at 12);
-lies!(TickAnswer, size 32, alignment 8, answer at 0, row at 16);
-lies!(SheetAnswer, size 24, alignment 8, checked at 0, length at 16);
-
-// SAFETY: these are the functions of the header, which the library exports as C functions; the structs above lie as it has them. All
-// but `olbiothar_tick` are lent memory by pointer and length, so that their callers answer for both; it is lent one reference, and is
-// proved to end and to stay within it whatever it holds, so that anyone may call it.
+// SAFETY: these are the functions of the header, which the library exports as C functions; the structs above lie as it has them. Those
+// that are lent memory by pointer and length have callers that answer for both. The others are lent a reference to a station, and are
+// proved to end and to stay within it whatever it holds, so that anyone may call them.
 unsafe extern "C" {
     pub fn olbiothar_make(
         plan: *const u8,
@@ -197,9 +198,16 @@ unsafe extern "C" {
         table: *const u8,
         table_length: usize,
         starting: Starting,
-    ) -> Begun;
+        station: &mut Station,
+    ) -> Answer;
 
     pub safe fn olbiothar_tick(station: &mut Station, input: Input) -> TickAnswer;
+
+    pub safe fn olbiothar_time(station: &Station) -> TimeNow;
+
+    pub safe fn olbiothar_module(station: &Station, module: u8) -> ModuleNow;
+
+    pub safe fn olbiothar_task(station: &Station, task: u8) -> TaskNow;
 
     pub fn olbiothar_sheet(
         plan: *const u8,
@@ -216,4 +224,22 @@ unsafe extern "C" {
         table: *mut u8,
         table_length: usize,
     ) -> Answer;
+
+    pub fn olbiothar_plan_text(
+        plan: *const u8,
+        plan_length: usize,
+        text: *mut u8,
+        text_length: usize,
+    ) -> Answer;
+
+    pub fn olbiothar_text_plan(
+        text: *const u8,
+        text_length: usize,
+        plan: *mut u8,
+        plan_length: usize,
+    ) -> PlanAnswer;
+
+    pub fn olbiothar_words(number: u32, text: *mut u8, text_length: usize) -> u64;
+
+    pub fn olbiothar_reason_words(reason: u32, text: *mut u8, text_length: usize) -> u64;
 }

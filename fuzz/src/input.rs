@@ -1,7 +1,9 @@
 //! An input taken apart; behind its end there are zeros.
 
+#[derive(Debug)]
 pub struct Input<'a>(&'a [u8]);
 
+#[derive(Debug)]
 pub struct Tick {
     pub results: [Option<u64>; 32],
     pub modes: [Option<u8>; 16],

@@ -14,6 +14,7 @@ unsafe extern "C" {
     fn munmap(at: *mut u8, length: usize) -> i32;
 }
 
+#[derive(Debug)]
 pub struct Lent<T> {
     pages: *mut u8,
     length: usize,

@@ -5,15 +5,15 @@
 //!
 //! An input is a byte that says what is done, a byte for the lent rows or bytes, a plan behind its length
 //! (two bytes), and what the rest is for: the table's buffer, a table, or a history. A text that is read
-//! as a sheet has no plan in front.
+//! as a sheet or as a plan has no plan in front, and a plan that is printed has nothing behind it.
 
 pub mod input;
 pub mod lent;
 
 use input::{Input, Tick};
 use lent::Lent;
-use olbiothar::{Frame, Refusal};
-use reference::{FrameRow, LONGEST_SHEET, MOST_FRAMES};
+use olbiothar::{Frame, Refusal, TextRefusal};
+use reference::{FrameRow, LONGEST_SHEET, MOST_FRAMES, Reason};
 
 /// libFuzzer's entry.
 ///
@@ -31,12 +31,14 @@ pub fn run(bytes: &[u8]) {
     let mut input = Input::new(bytes);
     let what = input.byte();
     let lent = input.byte();
-    match what % 5 {
+    match what % 7 {
         0 => make(input.file(), near(lent, MOST_FRAMES), input.rest()),
         1 => check(input.file(), input.rest(), near(lent, MOST_FRAMES)),
         2 => play(input.file(), input),
         3 => sheet(input.file(), input.rest(), near(lent, LONGEST_SHEET)),
-        _ => sheet_table(input.rest(), usize::from(lent)),
+        4 => sheet_table(input.rest(), usize::from(lent)),
+        5 => plan_text(input.rest(), usize::from(lent)),
+        _ => text_plan(input.rest(), usize::from(lent)),
     }
 }
 
@@ -103,7 +105,7 @@ fn play(plan: &[u8], mut input: Input) {
     let table = if given.is_empty() { &own } else { given };
     let modes = input.modes();
     let (plan_lent, table_lent) = (Lent::copy(plan), Lent::copy(table));
-    let begun = proved(olbiothar::Station::begin(&plan_lent, &table_lent, &modes));
+    let begun = proved(olbiothar::Station::begun(&plan_lent, &table_lent, &modes));
     let rust_begun = rust(reference::Station::begin(plan, table, modes));
     assert_eq!(begun.as_ref().err(), rust_begun.as_ref().err());
     let (Ok(mut station), Ok(mut rust_station)) = (begun, rust_begun) else { return };
@@ -116,7 +118,25 @@ fn play(plan: &[u8], mut input: Input) {
                 station.shown(node, task) == rust_station.shown(node, task)
             })
         );
+        assert!(stand_alike(&station, &rust_station));
     }
+}
+
+/// In what they say of their time, their modules and their tasks.
+fn stand_alike(proved: &olbiothar::Station, rust: &reference::Station) -> bool {
+    let time = proved.time().map(|now| (now.clock, now.period));
+    let rust_time = rust.time();
+    time == rust_time.begun.then_some((rust_time.clock, rust_time.period))
+        && (0..=255).all(|module| {
+            let now = proved.module(usize::from(module)).map(|now| (now.node, now.mode, now.age));
+            let rust = rust.module(module);
+            now == rust.there.then_some((rust.node, rust.mode, rust.age))
+        })
+        && (0..=255).all(|task| {
+            let now = proved.task(usize::from(task)).map(|now| (now.home, now.awaits, now.left));
+            let rust = rust.task(task);
+            now == rust.there.then_some((rust.home, rust.awaits, rust.left))
+        })
 }
 
 const OLD_BYTE: u8 = 0x5a;
@@ -148,6 +168,47 @@ fn sheet_table(text: &[u8], few: usize) {
         let mut rust_table = vec![OLD_BYTE; room];
         assert_eq!(read, rust(reference::sheet_table(text, &mut rust_table)));
         assert_eq!(*table, rust_table[..]);
+        assert_eq!(*text_lent, *text);
+    }
+}
+
+/// Into a room of few bytes, and into one that is just enough, whose text reads back to the plan.
+fn plan_text(plan: &[u8], few: usize) {
+    let plan_lent = Lent::copy(plan);
+    let needed = reference::plan_text(plan, &mut []).err().map_or(0, |refusal| refusal.place);
+    for room in [few, needed] {
+        let mut text = Lent::copy(&vec![OLD_BYTE; room]);
+        let printed = proved(olbiothar::plan_text(&plan_lent, &mut text));
+        let mut rust_text = vec![OLD_BYTE; room];
+        assert_eq!(printed, rust(reference::plan_text(plan, &mut rust_text)));
+        assert!(*text == rust_text[..]);
+        assert_eq!(*plan_lent, *plan);
+        if printed.is_ok_and(|length| length <= LONGEST_SHEET) {
+            let mut back = Lent::copy(&vec![OLD_BYTE; plan.len()]);
+            assert_eq!(olbiothar::text_plan(&text[..needed], &mut back), Ok(plan.len()));
+            assert_eq!(*back, *plan);
+        }
+    }
+}
+
+/// Into a room of few bytes, and into one as long as the text, which is always enough.
+fn text_plan(text: &[u8], few: usize) {
+    let text_lent = Lent::copy(text);
+    for room in [few, text.len()] {
+        let mut plan = Lent::copy(&vec![OLD_BYTE; room]);
+        let read = olbiothar::text_plan(&text_lent, &mut plan);
+        let mut rust_plan = vec![OLD_BYTE; room];
+        let rust_read = reference::text_plan(text, &mut rust_plan);
+        let reason = match read {
+            Err(TextRefusal::Unreadable { reason, .. }) => Reason::numbered(reason.number()),
+            _ => None,
+        };
+        assert_eq!(reason, rust_read.err().and_then(|refusal| refusal.reason));
+        let too_short = matches!(read, Err(TextRefusal::BufferTooShort { .. }));
+        assert!(!too_short || room < text.len());
+        let rust_read = rust_read.map_err(|refusal| refusal.refusal);
+        assert_eq!(proved(read.map_err(Refusal::from)), rust(rust_read));
+        assert_eq!(*plan, rust_plan[..]);
         assert_eq!(*text_lent, *text);
     }
 }

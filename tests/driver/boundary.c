@@ -1,5 +1,6 @@
-/* What the header promises of the boundary itself: parts that are not lent, a sheet there and back, a station's fields where the header
- * has them, and a station that holds any bytes. The word on the command line is the plan of job A.
+/* What the header promises of the boundary itself: parts that are not lent, a sheet and a plan's text there and back, words, a station's
+ * fields where the header has them and what is said of them, and a station that holds any bytes. The word on the command line is the plan of
+ * job A.
  *
  * That the structs have the sizes, alignments and offsets of the library is asserted in the header, which is compiled here.
  */
@@ -17,9 +18,9 @@ static void holds(int it_does, const char *what, int line) {
 
 #define HOLDS(what) holds(what, #what, __LINE__)
 
-enum { LENGTH = 75, MODE = 1, FRAME_STARTS = 19904, FRAME_STOPS = 20000, VALUE = 7 };
+enum { LENGTH = 75, MODE = 1, WORST = 1000, FRAME_STARTS = 19904, FRAME_STOPS = 20000, VALUE = 7 };
 
-static uint8_t plan[256], table[LENGTH], text[OLBIOTHAR_LONGEST_SHEET];
+static uint8_t plan[256], table[LENGTH], text[OLBIOTHAR_LONGEST_SHEET + 1];
 static size_t plan_length;
 static olbiothar_frame rows[OLBIOTHAR_FRAMES];
 static const olbiothar_starting no_modes;
@@ -52,14 +53,20 @@ static void nothing_lent(void) {
     HOLDS(is(olbiothar_check(NULL, 0, NULL, 0, NULL, 0), OLBIOTHAR_TOO_FEW_ROWS, OLBIOTHAR_FRAMES));
     HOLDS(is(olbiothar_check(NULL, 0, NULL, 0, rows, OLBIOTHAR_FRAMES), OLBIOTHAR_BAD_RECORDS, 0));
     HOLDS(is(olbiothar_check(plan, plan_length, NULL, 0, rows, OLBIOTHAR_FRAMES), OLBIOTHAR_BAD_TABLE_RECORDS, 0));
-    HOLDS(is(olbiothar_begin(NULL, 0, NULL, 0, no_modes).answer, OLBIOTHAR_BAD_RECORDS, 0));
-    HOLDS(is(olbiothar_begin(plan, plan_length, NULL, 0, two_modes).answer, OLBIOTHAR_BAD_TABLE_RECORDS, 0));
+    static olbiothar_station unbegun;
+    HOLDS(is(olbiothar_begin(NULL, 0, NULL, 0, no_modes, &unbegun), OLBIOTHAR_BAD_RECORDS, 0));
+    HOLDS(is(olbiothar_begin(plan, plan_length, NULL, 0, two_modes, &unbegun), OLBIOTHAR_BAD_TABLE_RECORDS, 0));
     HOLDS(prints(NULL, 0, NULL, 0, OLBIOTHAR_BUFFER_TOO_SHORT, OLBIOTHAR_LONGEST_SHEET, ""));
     HOLDS(prints(NULL, 0, text, sizeof text, OLBIOTHAR_BAD_RECORDS, 0, "refused 1 at 0\n"));
     HOLDS(prints(plan, plan_length, text, sizeof text, OLBIOTHAR_BAD_TABLE_RECORDS, 0, "refused 20 at 0\n"));
     HOLDS(is(olbiothar_sheet_table(NULL, 0, NULL, 0), OLBIOTHAR_UNREADABLE, 1));
     HOLDS(is(olbiothar_sheet_table(NULL, 0, table, LENGTH), OLBIOTHAR_UNREADABLE, 1));
     HOLDS(is(olbiothar_sheet_table((const uint8_t *)"cycle 0", 7, NULL, 0), OLBIOTHAR_BUFFER_TOO_SHORT, 9));
+    HOLDS(is(olbiothar_plan_text(NULL, 0, NULL, 0), OLBIOTHAR_BAD_RECORDS, 0));
+    HOLDS(is(olbiothar_plan_text(NULL, 0, text, sizeof text), OLBIOTHAR_BAD_RECORDS, 0));
+    HOLDS(is(olbiothar_text_plan(NULL, 0, NULL, 0).answer, OLBIOTHAR_UNREADABLE, 1));
+    HOLDS(olbiothar_text_plan(NULL, 0, table, LENGTH).reason == OLBIOTHAR_BUS_EXPECTED);
+    HOLDS(olbiothar_words(OLBIOTHAR_NO_ROOM, NULL, 0) == 0 && olbiothar_reason_words(OLBIOTHAR_BUS_EXPECTED, NULL, 0) == 0);
     /* A caller asks for the bytes needed, and lends so many. */
     olbiothar_answer asked = olbiothar_make(plan, plan_length, rows, OLBIOTHAR_FRAMES, NULL, 0);
     HOLDS(is(asked, OLBIOTHAR_BUFFER_TOO_SHORT, LENGTH));
@@ -77,6 +84,74 @@ static void printed_and_read(void) {
     HOLDS(memcmp(back, table, LENGTH) == 0);
 }
 
+/* Job A as text, printed and read back; both functions say how many bytes they need. */
+static void written_and_read(void) {
+    static const char bus[] = "bus kbit/s 1000 overhead-bytes 8 least-payload 0 largest-payload 254 gap-bits 10 resolution 1  # record 0\n";
+    static uint8_t back[sizeof plan];
+    olbiothar_answer asked = olbiothar_plan_text(plan, plan_length, NULL, 0);
+    HOLDS(asked.number == OLBIOTHAR_BUFFER_TOO_SHORT && asked.place < sizeof text);
+    memset(text, '?', sizeof text);
+    HOLDS(is(olbiothar_plan_text(plan, plan_length, text, asked.place - 1), OLBIOTHAR_BUFFER_TOO_SHORT, asked.place));
+    HOLDS(text[0] == '?');
+    HOLDS(is(olbiothar_plan_text(plan, plan_length, text, asked.place), OLBIOTHAR_DONE, asked.place));
+    HOLDS(memcmp(text, bus, strlen(bus)) == 0 && text[asked.place - 1] == '\n' && text[asked.place] == '?');
+    HOLDS(is(olbiothar_text_plan(text, asked.place, NULL, 0).answer, OLBIOTHAR_BUFFER_TOO_SHORT, plan_length));
+    HOLDS(is(olbiothar_text_plan(text, asked.place, back, plan_length - 1).answer, OLBIOTHAR_BUFFER_TOO_SHORT, plan_length));
+    HOLDS(back[0] == 0);
+    olbiothar_plan_answer read = olbiothar_text_plan(text, asked.place, back, plan_length);
+    HOLDS(is(read.answer, OLBIOTHAR_DONE, plan_length) && read.reason == OLBIOTHAR_NO_REASON);
+    HOLDS(memcmp(back, plan, plan_length) == 0 && back[plan_length] == 0);
+    HOLDS(is(olbiothar_text_plan(text, OLBIOTHAR_LONGEST_SHEET, back, sizeof back).answer, OLBIOTHAR_UNREADABLE, 14));
+    HOLDS(is(olbiothar_text_plan(text, sizeof text, back, sizeof back).answer, OLBIOTHAR_TEXT_TOO_LONG, OLBIOTHAR_LONGEST_SHEET));
+}
+
+typedef uint64_t words_of(uint32_t number, uint8_t *text, size_t text_length);
+typedef char wording[OLBIOTHAR_LONGEST_WORDS];
+
+/* Words of one sort, in no more room than they ask for: printed letters, a zero byte, and what stood behind it. */
+static void put_words(words_of *words, uint32_t number, wording into) {
+    static uint8_t lent[OLBIOTHAR_LONGEST_WORDS + 1];
+    memset(lent, '?', sizeof lent);
+    HOLDS(words(number, lent, OLBIOTHAR_LONGEST_WORDS - 1) == 0 && lent[0] == '?');
+    uint64_t length = words(number, lent, OLBIOTHAR_LONGEST_WORDS);
+    HOLDS(length < OLBIOTHAR_LONGEST_WORDS && lent[length] == 0 && lent[length + 1] == '?');
+    for (uint64_t at = 0; at < length; at++) HOLDS(lent[at] >= ' ' && lent[at] <= '~');
+    memcpy(into, lent, OLBIOTHAR_LONGEST_WORDS);
+}
+
+/* Whether a number has other words than a number that nothing has. */
+static int is_worded(words_of *words, uint32_t number) {
+    wording own, none;
+    put_words(words, number, own);
+    put_words(words, UINT32_MAX, none);
+    return strcmp(own, none) != 0;
+}
+
+static int is_refusal(uint32_t number) {
+    return (number >= OLBIOTHAR_BAD_RECORDS && number <= OLBIOTHAR_BUFFER_TOO_SHORT) ||
+           (number >= OLBIOTHAR_TOO_FEW_ROWS && number <= OLBIOTHAR_NO_GAP_AT_END) ||
+           (number >= OLBIOTHAR_NOT_BEGUN && number <= OLBIOTHAR_CHANGE_NOT_ALLOWED) || number == OLBIOTHAR_UNREADABLE ||
+           number == OLBIOTHAR_TEXT_TOO_LONG;
+}
+
+static int is_reason(uint32_t number) {
+    return (number >= OLBIOTHAR_BUS_EXPECTED && number <= OLBIOTHAR_END_OF_LINE_EXPECTED) ||
+           (number >= OLBIOTHAR_WORD_EXPECTED && number < OLBIOTHAR_WORD_EXPECTED + 24);
+}
+
+/* Every number of a refusal or a reason has words, and beside 0 no other. */
+static void worded(void) {
+    wording words;
+    for (uint32_t number = 1; number < 300; number++) {
+        HOLDS(is_worded(olbiothar_words, number) == is_refusal(number));
+        HOLDS(is_worded(olbiothar_reason_words, number) == is_reason(number));
+    }
+    put_words(olbiothar_words, OLBIOTHAR_NO_ROOM, words);
+    HOLDS(strncmp(words, "no place for a frame", 20) == 0);
+    put_words(olbiothar_reason_words, OLBIOTHAR_WORD_EXPECTED + 21, words);
+    HOLDS(strcmp(words, "rate expected") == 0);
+}
+
 /* Each field of a station that has begun with job A, read where the header has it; what is not named is 0. */
 static olbiothar_station begun_by_hand(void) {
     olbiothar_station s;
@@ -85,7 +160,7 @@ static olbiothar_station begun_by_hand(void) {
     s.fixed.modes.count = 3, s.fixed.modes.homes[2] = 1;
     for (size_t mode = 0; mode < 3; mode++) s.fixed.modes.periods[mode] = s.fixed.modes.switches[mode] = 60000;
     s.fixed.tasks.count = 2, s.fixed.tasks.homes[1] = 1;
-    for (size_t task = 0; task < 2; task++) s.fixed.tasks.sizes[task] = 4, s.fixed.tasks.worsts[task] = 1000;
+    for (size_t task = 0; task < 2; task++) s.fixed.tasks.sizes[task] = 4, s.fixed.tasks.worsts[task] = WORST;
     s.fixed.controls.count = 1, s.fixed.controls.stops[0] = 72;
     s.fixed.period = 60000, s.fixed.pairs = 4;
     s.runs[0] = 30000, s.runs[OLBIOTHAR_TASKS] = 20000, s.runs[2 * OLBIOTHAR_TASKS + 1] = 60000;
@@ -124,11 +199,10 @@ static olbiothar_tick_answer play(olbiothar_station *station, uint32_t time) {
 }
 
 static void fields(olbiothar_station *station) {
-    olbiothar_begun begun = olbiothar_begin(plan, plan_length, table, LENGTH, two_modes);
     olbiothar_station by_hand = begun_by_hand();
-    HOLDS(is(begun.answer, OLBIOTHAR_DONE, 0));
-    HOLDS(same_kept(&begun.station, &by_hand) && same_state(&begun.station, &by_hand));
-    *station = begun.station;
+    memset(station, 0xff, sizeof *station);
+    HOLDS(is(olbiothar_begin(plan, plan_length, table, LENGTH, two_modes, station), OLBIOTHAR_DONE, 0));
+    HOLDS(same_kept(station, &by_hand) && same_state(station, &by_hand));
     for (uint32_t time = 0; time < FRAME_STARTS; time++) HOLDS(is(play(station, time).answer, OLBIOTHAR_DONE, 0));
     olbiothar_station sent = *station;
     olbiothar_row row = play(&sent, FRAME_STARTS).row;
@@ -146,6 +220,66 @@ static void fields(olbiothar_station *station) {
         by_hand.nodes[node].landed[0] = by_hand.nodes[node].shown[0] = VALUE;
     }
     HOLDS(same_kept(&sent, &by_hand) && same_state(&sent, &by_hand));
+}
+
+/* A refused beginning leaves every byte of the station, whatever stands there. */
+static void refused_beginnings(const olbiothar_station *station) {
+    static olbiothar_station kept, any, before;
+    memset(&any, 0xa5, sizeof any);
+    for (unsigned of_any = 0; of_any < 2; of_any++) {
+        memcpy(&kept, of_any ? &any : station, sizeof kept);
+        memcpy(&before, &kept, sizeof kept);
+        HOLDS(is(olbiothar_begin(plan, plan_length - 1, table, LENGTH, two_modes, &kept), OLBIOTHAR_BAD_RECORDS, plan_length - 1));
+        HOLDS(is(olbiothar_begin(plan, plan_length, table, LENGTH - 1, two_modes, &kept), OLBIOTHAR_BAD_TABLE_RECORDS, LENGTH - 1));
+        HOLDS(is(olbiothar_begin(plan, plan_length, table, LENGTH, no_modes, &kept), OLBIOTHAR_NOT_BEGUN, 0));
+        HOLDS(memcmp(&before, &kept, sizeof kept) == 0);
+    }
+}
+
+static int time_is(const olbiothar_station *station, uint8_t begun, uint32_t clock, uint32_t period) {
+    olbiothar_time_now now = olbiothar_time(station);
+    return now.begun == begun && now.clock == clock && now.period == period;
+}
+
+static int module_is(const olbiothar_station *station, uint8_t module, uint8_t there, uint8_t node, uint8_t mode, uint32_t age) {
+    olbiothar_module_now now = olbiothar_module(station, module);
+    return now.there == there && now.node == node && now.mode == mode && now.age == age;
+}
+
+static int task_is(const olbiothar_station *station, uint8_t task, uint8_t there, uint8_t home, uint8_t awaits, uint32_t left) {
+    olbiothar_task_now now = olbiothar_task(station, task);
+    return now.there == there && now.home == home && now.awaits == awaits && now.left == left;
+}
+
+/* Of a station that has not begun nothing is said; of one that has begun with job A what is awaited, and until when. */
+static void accessors(void) {
+    static olbiothar_station station;
+    HOLDS(time_is(&station, 0, 0, 0));
+    for (unsigned place = 0; place < 256; place++)
+        HOLDS(module_is(&station, (uint8_t)place, 0, 0, 0, 0) && task_is(&station, (uint8_t)place, 0, 0, 0, 0));
+    HOLDS(is(olbiothar_begin(plan, plan_length, table, LENGTH, two_modes, &station), OLBIOTHAR_DONE, 0));
+    HOLDS(time_is(&station, 1, 0, 60000));
+    HOLDS(module_is(&station, 0, 1, 0, MODE, 0) && module_is(&station, 1, 1, 1, 2, 0) && module_is(&station, 2, 0, 0, 0, 0));
+    HOLDS(task_is(&station, 0, 1, 0, 0, 0) && task_is(&station, 1, 1, 1, 0, 0) && task_is(&station, 2, 0, 0, 0, 0));
+    const olbiothar_input nothing = {.given = {0}}, first = {.results = {VALUE}, .given = {1}};
+    for (uint32_t age = 1; age <= WORST; age++) {
+        HOLDS(is(olbiothar_tick(&station, nothing).answer, OLBIOTHAR_DONE, 0));
+        HOLDS(time_is(&station, 1, age, 60000) && module_is(&station, 0, 1, 0, MODE, age));
+        HOLDS(task_is(&station, 0, 1, 0, 1, WORST - age) && task_is(&station, 1, 1, 1, 1, WORST - age));
+    }
+    HOLDS(is(olbiothar_tick(&station, nothing).answer, OLBIOTHAR_RESULT_OVERDUE, 0));
+    HOLDS(is(olbiothar_tick(&station, first).answer, OLBIOTHAR_RESULT_OVERDUE, 1));
+    const olbiothar_input both = {.results = {VALUE, VALUE}, .given = {1, 1}};
+    HOLDS(is(olbiothar_tick(&station, both).answer, OLBIOTHAR_DONE, 0));
+    HOLDS(task_is(&station, 0, 1, 0, 0, 0) && task_is(&station, 1, 1, 1, 0, 0));
+    HOLDS(is(olbiothar_tick(&station, first).answer, OLBIOTHAR_NOT_AWAITED, 0));
+    /* A run that may take its whole period: at its last tick, which is also the release of the next, its result is due. */
+    station.fixed.tasks.worsts[0] = station.play.ages[0] = FRAME_STOPS;
+    station.play.givens[0] = 0;
+    HOLDS(task_is(&station, 0, 1, 0, 1, 0));
+    HOLDS(is(olbiothar_tick(&station, nothing).answer, OLBIOTHAR_RESULT_OVERDUE, 0));
+    HOLDS(is(olbiothar_tick(&station, first).answer, OLBIOTHAR_DONE, 0));
+    HOLDS(task_is(&station, 0, 1, 0, 1, FRAME_STOPS - 1));
 }
 
 /* Every byte but 0 sets a flag, and a tick stores 0 or 1. `station` stands where the data frame of task 0 starts: whether it has a value
@@ -199,6 +333,16 @@ static uint8_t any_byte(void) {
     return (uint8_t)(seed >> 56);
 }
 
+/* What is said of a station that may hold any bytes: of one that a tick refuses with 40 nothing, of any other what a tick goes by. */
+static void said_of_any(const olbiothar_station *station, olbiothar_answer answer) {
+    const uint8_t begun = !is(answer, OLBIOTHAR_NOT_BEGUN, 0);
+    HOLDS(olbiothar_time(station).begun == begun);
+    for (unsigned place = 0; place < 256; place++) {
+        HOLDS(olbiothar_module(station, (uint8_t)place).there == (begun && place < station->fixed.modules.count));
+        HOLDS(olbiothar_task(station, (uint8_t)place).there == (begun && place < station->fixed.tasks.count));
+    }
+}
+
 /* Any bytes may stand in a station: the tick ends, is accepted or refused as a tick is, and a refusal leaves every byte. */
 static void any_station(const olbiothar_station *station) {
     static olbiothar_station ticked, before;
@@ -212,6 +356,7 @@ static void any_station(const olbiothar_station *station) {
         }
         before = ticked;
         olbiothar_answer answer = play(&ticked, FRAME_STARTS).answer;
+        said_of_any(&before, answer);
         HOLDS(answer.number == OLBIOTHAR_DONE || (answer.number >= OLBIOTHAR_NOT_BEGUN && answer.number <= OLBIOTHAR_CHANGE_NOT_ALLOWED));
         if (changed == sizeof ticked) HOLDS(is(answer, OLBIOTHAR_NOT_BEGUN, 0));
         if (answer.number != OLBIOTHAR_DONE) HOLDS(same_kept(&ticked, &before) && same_state(&ticked, &before));
@@ -224,7 +369,11 @@ int main(int count, char **words) {
     read_plan(words[1]);
     nothing_lent();
     printed_and_read();
+    written_and_read();
+    worded();
     fields(&station);
+    refused_beginnings(&station);
+    accessors();
     flags(&station);
     behind_the_pairs(&station);
     any_station(&station);

@@ -3,13 +3,22 @@
  *   make:  'M' plan length u32, rows u32, room u32, plan, rows, buffer  ->  answer, rows, buffer
  *   check: 'C' plan length u32, table length u32, rows u32, plan, table, rows  ->  answer, rows
  *   begin: 'B' plan length u32, table length u32, plan, table, modes 16 x u8, given 16 x u8  ->  answer
+ *   forget: 'F'  ->  nothing
  *   tick:  'T' results 32 x u64, given 32 x u8, modes 16 x u8, changed 16 x u8  ->  answer, row, shown 8 x 32 x u64
+ *   time, module, task: 'N'  ->  begun u8, clock u32, period u32, 16 x (there u8, node u8, mode u8, age u32),
+ *       32 x (there u8, home u8, awaits u8, left u32)
  *   sheet: 'S' plan length u32, table length u32, room u32, old u8, plan, table  ->  answer, length u64, text
  *   sheet_table: 'R' text length u32, room u32, text, buffer  ->  answer, buffer
+ *   plan_text: 'P' plan length u32, room u32, old u8, plan  ->  answer, text if it is not refused
+ *   text_plan: 'Q' text length u32, room u32, text, buffer  ->  answer, reason u32, buffer
+ *   words, reason_words: 'W' 0 or 1 u8, number u32, room u32, buffer  ->  length u64, buffer
  *
  * A row of frames is four u32: task, release, deadline, start; an answer is number u32, place u64; a row of the table that starts is
- * kind u8, sender u8, deadline u32, start u32, stop u32. A sheet is lent `room` bytes that are all `old`; that those behind its text still
- * are is looked at here, so that a quarter of a megabyte need not go there and back for each.
+ * kind u8, sender u8, deadline u32, start u32, stop u32. A sheet or a plan's text is lent `room` bytes that are all `old`; that those behind
+ * the text still are is looked at here, so that a quarter of a megabyte need not go there and back for each.
+ *
+ * There is one station. It is not begun at first, and again when it is to be forgotten; that a refused beginning leaves it as it stood, and
+ * that modules and tasks behind the places of an answer are not there, is looked at here.
  *
  * All memory that the library is lent ends at a page that nothing may touch, and what stands before it is looked at after each call.
  */
@@ -35,13 +44,23 @@ static void give(const void *from, size_t length) {
     if (fwrite(from, 1, length, stdout) != length) fail("an answer cannot be written");
 }
 
+static uint8_t take_u8(void) {
+    uint8_t number;
+    take(&number, sizeof number);
+    return number;
+}
+
 static uint32_t take_u32(void) {
     uint32_t number;
     take(&number, sizeof number);
     return number;
 }
 
+static void give_u8(uint8_t number) { give(&number, sizeof number); }
+
 static void give_u32(uint32_t number) { give(&number, sizeof number); }
+
+static void give_u64(uint64_t number) { give(&number, sizeof number); }
 
 enum { ROOM = 8 << 20, BEFORE = 64, MARK = 0xc3, MOST_ROWS = 4096 };
 
@@ -125,12 +144,14 @@ static void give_rows(const olbiothar_frame *rows, size_t count) {
 
 static void give_answer(olbiothar_answer answer) {
     give_u32(answer.number);
-    give(&answer.place, sizeof answer.place);
+    give_u64(answer.place);
 }
 
 static file plan, table, text;
-static arena row_memory, buffer_memory;
-static olbiothar_station station;
+static arena row_memory, buffer_memory, station_memory;
+static olbiothar_station *station;
+
+static void forget(void) { memset(station, 0, sizeof *station); }
 
 static void make(void) {
     size_t plan_length = take_u32(), row_count = take_u32(), room = take_u32();
@@ -162,17 +183,21 @@ static void check(void) {
 }
 
 static void begin(void) {
+    static olbiothar_station before;
     olbiothar_starting starting;
     size_t plan_length = take_u32(), table_length = take_u32();
     take_file(&plan, plan_length);
     take_file(&table, table_length);
     take(starting.modes, sizeof starting.modes);
     take(starting.given, sizeof starting.given);
-    olbiothar_begun begun = olbiothar_begin(plan.memory.lent, plan_length, table.memory.lent, table_length, starting);
+    memcpy(&before, station, sizeof before);
+    olbiothar_answer answer =
+        olbiothar_begin(plan.memory.lent, plan_length, table.memory.lent, table_length, starting, station);
     look_unchanged(&plan);
     look_unchanged(&table);
-    station = begun.station;
-    give_answer(begun.answer);
+    look_before(&station_memory);
+    if (answer.number != OLBIOTHAR_DONE && memcmp(&before, station, sizeof before) != 0) fail("a refused beginning changed the station");
+    give_answer(answer);
 }
 
 static void tick(void) {
@@ -181,21 +206,65 @@ static void tick(void) {
     take(input.given, sizeof input.given);
     take(input.modes, sizeof input.modes);
     take(input.changed, sizeof input.changed);
-    olbiothar_tick_answer tick = olbiothar_tick(&station, input);
+    olbiothar_tick_answer tick = olbiothar_tick(station, input);
+    look_before(&station_memory);
     give_answer(tick.answer);
-    give(&tick.row.kind, 1);
-    give(&tick.row.sender, 1);
+    give_u8(tick.row.kind);
+    give_u8(tick.row.sender);
     give_u32(tick.row.deadline);
     give_u32(tick.row.start);
     give_u32(tick.row.stop);
     for (size_t node = 0; node < OLBIOTHAR_NODES; node++)
-        give(station.nodes[node].shown, sizeof station.nodes[node].shown);
+        give(station->nodes[node].shown, sizeof station->nodes[node].shown);
+}
+
+static void give_time(void) {
+    olbiothar_time_now time = olbiothar_time(station);
+    give_u8(time.begun);
+    give_u32(time.clock);
+    give_u32(time.period);
+}
+
+static void give_modules(void) {
+    for (unsigned module = 0; module <= UINT8_MAX; module++) {
+        olbiothar_module_now now = olbiothar_module(station, (uint8_t)module);
+        if (module >= OLBIOTHAR_MODULES) {
+            if (now.there != 0 || now.node != 0 || now.mode != 0 || now.age != 0) fail("a module behind the last is there");
+            continue;
+        }
+        give_u8(now.there);
+        give_u8(now.node);
+        give_u8(now.mode);
+        give_u32(now.age);
+    }
+}
+
+static void give_tasks(void) {
+    for (unsigned task = 0; task <= UINT8_MAX; task++) {
+        olbiothar_task_now now = olbiothar_task(station, (uint8_t)task);
+        if (task >= OLBIOTHAR_TASKS) {
+            if (now.there != 0 || now.home != 0 || now.awaits != 0 || now.left != 0) fail("a task behind the last is there");
+            continue;
+        }
+        give_u8(now.there);
+        give_u8(now.home);
+        give_u8(now.awaits);
+        give_u32(now.left);
+    }
+}
+
+static void now(void) {
+    static olbiothar_station before;
+    memcpy(&before, station, sizeof before);
+    give_time();
+    give_modules();
+    give_tasks();
+    if (memcmp(&before, station, sizeof before) != 0) fail("a station that is only read changed");
 }
 
 static void sheet(void) {
     size_t plan_length = take_u32(), table_length = take_u32(), room = take_u32();
-    uint8_t old;
-    take(&old, sizeof old);
+    uint8_t old = take_u8();
     take_file(&plan, plan_length);
     take_file(&table, table_length);
     uint8_t *buffer = lend(&buffer_memory, room);
@@ -208,7 +277,7 @@ static void sheet(void) {
     if (answer.length > room) fail("a text is longer than its room");
     look_old(buffer + answer.length, room - answer.length, old);
     give_answer(answer.checked);
-    give(&answer.length, sizeof answer.length);
+    give_u64(answer.length);
     give(buffer, answer.length);
 }
 
@@ -224,22 +293,75 @@ static void sheet_table(void) {
     give(buffer, room);
 }
 
+static void plan_text(void) {
+    size_t plan_length = take_u32(), room = take_u32();
+    uint8_t old = take_u8();
+    take_file(&plan, plan_length);
+    uint8_t *buffer = lend(&buffer_memory, room);
+    memset(buffer, old, room);
+    olbiothar_answer answer = olbiothar_plan_text(plan.memory.lent, plan_length, buffer, room);
+    look_unchanged(&plan);
+    look_before(&buffer_memory);
+    size_t length = answer.number == OLBIOTHAR_DONE ? answer.place : 0;
+    if (length > room) fail("a text is longer than its room");
+    look_old(buffer + length, room - length, old);
+    give_answer(answer);
+    give(buffer, length);
+}
+
+static void text_plan(void) {
+    size_t text_length = take_u32(), room = take_u32();
+    take_file(&text, text_length);
+    uint8_t *buffer = lend(&buffer_memory, room);
+    take(buffer, room);
+    olbiothar_plan_answer read = olbiothar_text_plan(text.memory.lent, text_length, buffer, room);
+    look_unchanged(&text);
+    look_before(&buffer_memory);
+    give_answer(read.answer);
+    give_u32(read.reason);
+    give(buffer, room);
+}
+
+static void words(void) {
+    uint8_t of_a_reason = take_u8();
+    uint32_t number = take_u32();
+    size_t room = take_u32();
+    uint8_t *buffer = lend(&buffer_memory, room);
+    take(buffer, room);
+    uint64_t length = of_a_reason ? olbiothar_reason_words(number, buffer, room) : olbiothar_words(number, buffer, room);
+    look_before(&buffer_memory);
+    give_u64(length);
+    give(buffer, room);
+}
+
+static void answer_to(int asked) {
+    switch (asked) {
+    case 'M': make(); break;
+    case 'C': check(); break;
+    case 'B': begin(); break;
+    case 'F': forget(); break;
+    case 'T': tick(); break;
+    case 'N': now(); break;
+    case 'S': sheet(); break;
+    case 'R': sheet_table(); break;
+    case 'P': plan_text(); break;
+    case 'Q': text_plan(); break;
+    case 'W': words(); break;
+    default: fail("an unknown request");
+    }
+}
+
 int main(void) {
     plan = new_file();
     table = new_file();
     text = new_file();
     row_memory = new_arena();
     buffer_memory = new_arena();
+    station_memory = new_arena();
+    station = lend(&station_memory, sizeof *station);
+    forget();
     for (int asked; (asked = getchar()) != EOF;) {
-        switch (asked) {
-        case 'M': make(); break;
-        case 'C': check(); break;
-        case 'B': begin(); break;
-        case 'T': tick(); break;
-        case 'S': sheet(); break;
-        case 'R': sheet_table(); break;
-        default: fail("an unknown request");
-        }
+        answer_to(asked);
         if (fflush(stdout) != 0) fail("an answer cannot be written");
     }
     return 0;

@@ -22,7 +22,7 @@ type ControlRecord = [u8; record_length(CONTROL_ROW)];
 type DataRecord = [u8; record_length(DATA_ROW)];
 
 /// A table's data rows, in the lent file.
-#[derive(Clone, Copy)]
+#[derive(Clone, Copy, Debug)]
 pub struct DataRows<'a>(&'a [DataRecord]);
 
 /// By data row, the number of the frame that it names.
@@ -40,6 +40,7 @@ impl<'a> DataRows<'a> {
 }
 
 /// A passed table's data rows, and the plan it was checked for.
+#[derive(Debug)]
 pub struct Passed<'a> {
     pub plan: Plan,
     pub bus: Bus,

@@ -10,6 +10,7 @@ use std::process::{Child, ChildStdin, ChildStdout, Command, Stdio};
 /// Bytes of a frame row in a request and in an answer.
 const ROW: usize = 16;
 
+#[derive(Debug)]
 pub struct Driver {
     child: Child,
     requests: ChildStdin,

@@ -5,6 +5,7 @@ use crate::plan::Plan;
 use crate::station::{Modes, Results};
 use crate::{MOST_MODULES, MOST_TASKS, Refusal, refuse_at};
 
+#[derive(Debug)]
 pub struct OneBoard {
     plan: Plan,
     modes: [u8; MOST_MODULES],

@@ -58,6 +58,7 @@ pub trait Program {
 }
 
 /// The Rust program of this package.
+#[derive(Debug)]
 pub struct Reference {
     station: Station,
 }

@@ -41,6 +41,7 @@ pub const fn record_length(kind: u8) -> usize {
 
 /// A sort of file: records that stand once, in this order, each of one of the kinds of its place; then
 /// kinds that may repeat, never descending.
+#[derive(Debug)]
 pub struct Sort<const ONCE: usize, const REPEATED: usize> {
     once: [&'static [u8]; ONCE],
     repeated: [u8; REPEATED],
@@ -54,6 +55,7 @@ pub const PLAN_FILE: Sort<2, 5> = Sort {
 pub const TABLE_FILE: Sort<1, 2> = Sort { once: [&[TABLE]], repeated: [CONTROL_ROW, DATA_ROW] };
 
 /// A well-formed file cut into its records that stand once and its runs of records of one kind.
+#[derive(Debug)]
 pub struct Outline<'a, const ONCE: usize, const REPEATED: usize> {
     pub once: [&'a [u8]; ONCE],
     pub repeated: [&'a [u8]; REPEATED],

@@ -13,6 +13,7 @@ use crate::generate::{PLENTY, job_a};
 use crate::{FrameRow, MOST_FRAMES, make};
 use cases::Case;
 
+#[derive(Debug)]
 pub struct Stored {
     /// From the root of the repository.
     pub path: String,

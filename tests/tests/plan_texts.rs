@@ -427,7 +427,7 @@ fn plans_seeded() {
         count(&mut counts, &answer);
         assert!(lent[answer.unwrap_or(0)..].iter().all(|&byte| byte == OLD_BYTE), "seed {seed}");
         let Some(text) = text_of(&plan) else {
-            let place = outline(&plan, &PLAN_FILE).err().expect("broken records");
+            let place = outline(&plan, &PLAN_FILE).expect_err("broken records");
             assert_eq!(answer, Err(Refusal { number: 1, place }), "seed {seed}");
             continue;
         };

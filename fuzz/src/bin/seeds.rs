@@ -1,7 +1,8 @@
-//! Writes inputs to begin with into a folder: good and broken plans, tables, histories and sheets.
+//! Writes inputs to begin with into a folder: good and broken plans, tables, histories, sheets and plans as text.
 
 use reference::generate::{CheckCase, History, MakeCase, PlayCase, Rng, SheetCase};
-use reference::generate::{any_text, check_case, make_case, play_case, sheet_case};
+use reference::generate::{any_plan, any_plan_text, any_sheet};
+use reference::generate::{check_case, make_case, play_case, sheet_case};
 use reference::plan;
 use std::path::Path;
 
@@ -51,8 +52,9 @@ fn sheet_input(rng: &mut Rng) -> Vec<u8> {
     [vec![3, 0], file(&plan), table].concat()
 }
 
-fn text_input(rng: &mut Rng) -> Vec<u8> {
-    [vec![4, rng.number() as u8], any_text(rng)].concat()
+/// What is read or printed, with nothing in front of it but how few bytes are lent.
+fn alone(what: u8, rng: &mut Rng, bytes: Vec<u8>) -> Vec<u8> {
+    [vec![what, rng.number() as u8], bytes].concat()
 }
 
 fn main() -> std::io::Result<()> {
@@ -60,12 +62,15 @@ fn main() -> std::io::Result<()> {
     std::fs::create_dir_all(&folder)?;
     for seed in 0..CASES {
         let rng = &mut Rng::new(seed);
+        let (text, plan, plan_text) = (any_sheet(rng), any_plan(rng), any_plan_text(rng));
         for (name, input) in [
             ("make", make_input(rng)),
             ("check", check_input(rng)),
             ("play", play_input(rng)),
             ("sheet", sheet_input(rng)),
-            ("text", text_input(rng)),
+            ("text", alone(4, rng, text)),
+            ("plan", alone(5, rng, plan)),
+            ("plan-text", alone(6, rng, plan_text)),
         ] {
             std::fs::write(Path::new(&folder).join(format!("{name}-{seed}")), input)?;
         }

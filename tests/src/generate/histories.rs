@@ -35,6 +35,7 @@ pub struct Tick {
 }
 
 /// Gives the ticks of one history, and what the station must answer to each, as far as refusals go.
+#[derive(Debug)]
 pub struct History {
     board: OneBoard,
     rng: Rng,

@@ -1,8 +1,9 @@
 /* How many bytes of stack each function of the library takes: it is called on a stack of its own that was painted before, and the deepest
- * byte that lost its paint tells how far down it went. The word on the command line is the plan of job A.
+ * byte that lost its paint tells how far down it went. No function may take more than the header says. The word on the command line is the
+ * plan of job A.
  *
  * Counted is what lies below the caller's own variables: arguments that go by the stack, the function, and all that it calls. What the
- * caller lends, and the station that olbiothar_begin gives back, are the caller's. Bytes that are reserved and never written are not seen.
+ * caller lends is the caller's. Bytes that are reserved and never written are not seen.
  */
 #define _XOPEN_SOURCE 600
 #include "olbiothar.h"
@@ -12,7 +13,7 @@
 #include <string.h>
 #include <ucontext.h>
 
-enum { STACK = 1 << 20, PAINT = 0xa5, CYCLE = 60000 };
+enum { STACK = 1 << 20, PAINT = 0xa5, CYCLE = 60000, NUMBERS = 64 };
 
 static void fail(const char *why) {
     fprintf(stderr, "stack: %s\n", why);
@@ -30,10 +31,11 @@ static olbiothar_frame rows[OLBIOTHAR_FRAMES];
 static uint8_t room[OLBIOTHAR_LONGEST_TABLE], text[OLBIOTHAR_LONGEST_SHEET];
 static size_t text_length;
 static olbiothar_starting starting;
-static olbiothar_begun begun;
 static olbiothar_station station;
 static olbiothar_input input;
 static olbiothar_answer answer;
+static uint32_t number;
+static volatile uint64_t said;
 
 static const uint8_t *caller;
 
@@ -52,9 +54,7 @@ static void check(void) {
 
 static void begin(void) {
     count_from_here();
-    begun = olbiothar_begin(plan->bytes, plan->length, table->bytes, table->length, starting);
-    station = begun.station;
-    answer = begun.answer;
+    answer = olbiothar_begin(plan->bytes, plan->length, table->bytes, table->length, starting, &station);
 }
 
 /* A cycle, or up to a refusal. Each task is given a result as soon as it awaits one: a refused tick changes nothing, so a result that is
@@ -68,6 +68,22 @@ static void ticks(void) {
     }
 }
 
+/* Of the station that the ticks have left, and of every number. */
+static void time_now(void) {
+    count_from_here();
+    said = olbiothar_time(&station).clock;
+}
+
+static void modules(void) {
+    count_from_here();
+    for (number = 0; number <= UINT8_MAX; number++) said = olbiothar_module(&station, (uint8_t)number).age;
+}
+
+static void tasks(void) {
+    count_from_here();
+    for (number = 0; number <= UINT8_MAX; number++) said = olbiothar_task(&station, (uint8_t)number).left;
+}
+
 static void sheet(void) {
     count_from_here();
     olbiothar_sheet_answer printed = olbiothar_sheet(plan->bytes, plan->length, table->bytes, table->length, text, sizeof text);
@@ -79,6 +95,28 @@ static void sheet(void) {
 static void sheet_table(void) {
     count_from_here();
     answer = olbiothar_sheet_table(text, text_length, room, sizeof room);
+}
+
+static void plan_text(void) {
+    count_from_here();
+    answer = olbiothar_plan_text(plan->bytes, plan->length, text, sizeof text);
+    text_length = answer.number == OLBIOTHAR_DONE ? answer.place : 0;
+}
+
+/* Of what the plan's text has left. */
+static void text_plan(void) {
+    count_from_here();
+    answer = olbiothar_text_plan(text, text_length, room, sizeof room).answer;
+}
+
+static void words(void) {
+    count_from_here();
+    for (number = 0; number < NUMBERS; number++) said = olbiothar_words(number, text, sizeof text);
+}
+
+static void reason_words(void) {
+    count_from_here();
+    for (number = 0; number < NUMBERS; number++) said = olbiothar_reason_words(number, text, sizeof text);
 }
 
 static _Alignas(16) uint8_t stack[STACK];
@@ -98,21 +136,44 @@ static ptrdiff_t bytes_of(void (*function)(void)) {
     return caller - (stack + painted);
 }
 
-static void (*const functions[])(void) = {make, check, begin, ticks, sheet, sheet_table};
-static const char *const names[] = {"make", "check", "begin", "ticks", "sheet", "sheet_table"};
+/* The functions in the order in which they are called, each with what the header says, and what it has taken. */
+static struct {
+    const char *name;
+    void (*call)(void);
+    ptrdiff_t most, taken;
+} functions[] = {
+    {"make", make, OLBIOTHAR_STACK_MAKE, 0},
+    {"check", check, OLBIOTHAR_STACK_CHECK, 0},
+    {"begin", begin, OLBIOTHAR_STACK_BEGIN, 0},
+    {"tick", ticks, OLBIOTHAR_STACK_TICK, 0},
+    {"time", time_now, OLBIOTHAR_STACK_TIME, 0},
+    {"module", modules, OLBIOTHAR_STACK_MODULE, 0},
+    {"task", tasks, OLBIOTHAR_STACK_TASK, 0},
+    {"sheet", sheet, OLBIOTHAR_STACK_SHEET, 0},
+    {"sheet_table", sheet_table, OLBIOTHAR_STACK_SHEET_TABLE, 0},
+    {"plan_text", plan_text, OLBIOTHAR_STACK_PLAN_TEXT, 0},
+    {"text_plan", text_plan, OLBIOTHAR_STACK_TEXT_PLAN, 0},
+    {"words", words, OLBIOTHAR_STACK_WORDS, 0},
+    {"reason_words", reason_words, OLBIOTHAR_STACK_REASON_WORDS, 0},
+};
 enum { FUNCTIONS = sizeof functions / sizeof *functions };
-static ptrdiff_t most[FUNCTIONS];
 
-/* Behind the bytes of each function stands its answer. */
-static void line(const char *name, const file *plan_given, const file *table_given, olbiothar_starting modes) {
+static void call_all(const file *plan_given, const file *table_given, olbiothar_starting modes) {
     plan = plan_given, table = table_given, starting = modes;
-    printf("%-36s", name);
     for (size_t k = 0; k < FUNCTIONS; k++) {
-        ptrdiff_t bytes = bytes_of(functions[k]);
-        if (bytes > most[k]) most[k] = bytes;
-        printf("%8td (%2u)", bytes, answer.number);
+        ptrdiff_t bytes = bytes_of(functions[k].call);
+        if (bytes > functions[k].taken) functions[k].taken = bytes;
     }
-    puts("");
+}
+
+/* A line for each function; whether all take at most what the header says. */
+static int say_all(void) {
+    int within = 1;
+    for (size_t k = 0; k < FUNCTIONS; k++) {
+        printf("stack: olbiothar_%-12s %7td bytes, the header says %7td\n", functions[k].name, functions[k].taken, functions[k].most);
+        within = within && functions[k].taken <= functions[k].most;
+    }
+    return within;
 }
 
 static file read_file(const char *path) {
@@ -173,18 +234,13 @@ int main(int count, char **words) {
     if (count != 2) fail("which plan?");
     const file job_a = read_file(words[1]), longest = plan_with(rates), too_many = plan_with(one_more), nothing = {.length = 0};
     const file table_a = table_of(&job_a), longest_table = table_of(&longest), early_table = early(&longest_table);
-    printf("%-36s", "bytes of stack (answer)");
-    for (size_t k = 0; k < FUNCTIONS; k++) printf("%*s", k == 0 ? 8 : 13, names[k]);
-    puts("");
-    line("job A", &job_a, &table_a, of_a);
-    line("1,024 frames, the longest table", &longest, &longest_table, of_eight);
-    line("refused: no starting modes", &longest, &longest_table, none);
-    line("refused: a row before its release", &longest, &early_table, of_eight);
-    line("refused: another plan's table", &longest, &table_a, of_eight);
-    line("refused: 1,025 frames", &too_many, &longest_table, of_eight);
-    line("refused: an empty plan", &nothing, &nothing, none);
-    printf("%-36s", "at most");
-    for (size_t k = 0; k < FUNCTIONS; k++) printf("%*td", k == 0 ? 8 : 13, most[k]);
-    puts("");
+    call_all(&job_a, &table_a, of_a);
+    call_all(&longest, &longest_table, of_eight);
+    call_all(&longest, &longest_table, none);      /* refused: no starting modes */
+    call_all(&longest, &early_table, of_eight);    /* refused: a row before its release */
+    call_all(&longest, &table_a, of_eight);        /* refused: another plan's table */
+    call_all(&too_many, &longest_table, of_eight); /* refused: 1,025 frames */
+    call_all(&nothing, &nothing, none);            /* refused: an empty plan */
+    if (!say_all()) fail("a call takes more than the header says");
     return 0;
 }
