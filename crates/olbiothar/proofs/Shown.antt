@@ -25,12 +25,13 @@ use Rattle.stationruns.specs.declared.Starting.{Starting}
 use Rattle.station.specs.Memory.{keptOf, ruled, stateOf}
 use Rattle.station.specs.declared.Station.{Station}
 use Rattle.station.proofs.Plays.{Plays, start, plays-on}
-use Rattle.beginning.specs.Begins.{stationLaid}
+use Rattle.beginning.specs.Begins.{stationLaid, verdict}
 use Rattle.beginning.proofs.Shown.{shows-told, history-allowed, call-exact}
+use Rattle.outward.specs.Answers.{answerOf}
 use Rattle.outward.specs.Numbers.{tickBy}
+use Rattle.outward.specs.declared.Answer.{Answer}
 use Rattle.outward.specs.declared.TickAnswer.{TickAnswer}
-use Rattle.olbiothar.specs.Playing.{Ticks, begunBy}
-use Rattle.olbiothar.specs.declared.Begun.{Begun}
+use Rattle.olbiothar.specs.Playing.{BeginsIn, Ticks}
 
 -- ---- calls
 
@@ -86,15 +87,15 @@ calls-play (refused input calls c other) = plays-refused input c other (calls-pl
 
 -- ---- a beginning that answered number 0
 
-module _ (plan table : List ℕ) (modes : Starting) (r : Begun) (begins : r ≡ begunBy (begin plan table (startingAt modes)))
-    (fine : r .answer .number ≡ 0) where
+module _ (plan table : List ℕ) (modes : Starting) (before station : Station) (r : Answer) (begins : BeginsIn (begin plan table (startingAt modes)) before r station)
+    (fine : r .number ≡ 0) where
   abbrev starting : ℕ → Option ℕ
   starting = startingAt modes
 
   began : (b : rules.Begun) × (begin plan table starting ≡ ok b)
-  began = go (begin plan table starting) refl (rw begins at fine)
+  began = go (begin plan table starting) refl (rw (begins .answers) at fine)
     where
-      go : (x : Res rules.Begun) → begin plan table starting ≡ x → begunBy x .answer .number ≡ 0
+      go : (x : Res rules.Begun) → begin plan table starting ≡ x → answerOf (verdict x) .number ≡ 0
           → (b : rules.Begun) × (begin plan table starting ≡ ok b)
       go (ok b) q e = (b, q)
       go (refuse n p) q e =
@@ -105,9 +106,9 @@ module _ (plan table : List ℕ) (modes : Starting) (r : Begun) (begins : r ≡ 
   pub began-plan : (p : Plan) × (readPlan plan ≡ ok p)
   began-plan = let told = begun plan table starting (began .0) (began .1) in (told .read, told .isRead)
 
-  module _ (p : Plan) (reads : readPlan plan ≡ ok p) (history : List Input) (after : Station) (calls : Calls (r .station) history after) where
+  module _ (p : Plan) (reads : readPlan plan ≡ ok p) (history : List Input) (after : Station) (calls : Calls station history after) where
     played : Plays (stationLaid (began .0)) history after
-    played = subst (λ (st : Station). Plays st history after) (ap (λ (x : Begun). x .station) begins ∙ rw (began .1)) (calls-play calls)
+    played = subst (λ (st : Station). Plays st history after) (begins .leaves ∙ rw (began .1)) (calls-play calls)
 
     -- what the lent station shows is told by the history
     pub calls-shown : ShowsTold p (startingAt modes) history (stateOf after .shown)

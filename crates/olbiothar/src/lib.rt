@@ -8,14 +8,16 @@ ghost use Rattle.olbiothar.specs.Lent.{ChecksRows, MakesRows};
 ghost use Rattle.olbiothar.specs.Scanned.{Scans};
 ghost use Rattle.rules.specs.Station.{begin};
 ghost use Rattle.stationruns.specs.Inputs.{startingAt};
-ghost use Rattle.olbiothar.specs.Playing.{Ticks, begunBy};
+ghost use Rattle.olbiothar.specs.Playing.{BeginsIn, Ticks, begunBy};
 ghost use Rattle.olbiothar.specs.Sheets.{backSaid, hasRoom, isRead, sheetLeft, sheetSaid, tableLeft, tableSaid};
+use answers::Verdict;
 use checker::CheckedRows;
 use outward::Answer;
 use outward::TickAnswer;
 use outward::answer_before_nodes;
 use outward::judged;
 use outward::made;
+use outward::refused;
 use rows::passes::clear;
 use rows::passes::fill;
 use rows::passes::some_early;
@@ -92,25 +94,51 @@ fn scanned(plan: &[u8], table: &[u8], rows: &mut [Frame], unscanned: CheckedRows
     judged(settled.answer)
 }
 
-// A beginning: the answer, and the station beside it.
-#[repr(C)]
+// A beginning by value: the answer, whether the station begins, and the station.
 pub struct Begun {
     pub answer: Answer,
+    pub begins: bool,
     pub station: Station,
 }
 
-// A station begins with a plan, a table and a mode for each module.
-#[no_mangle]
-pub extern "C" fn olbiothar_begin(plan: &[u8], table: &[u8], starting: Starting) -> Begun
+fn begin_by_value(plan: &[u8], table: &[u8], starting: Starting) -> Begun
     ensures { λ r. ⌜ r ≡ begunBy (begin (now (plan .entry)) (now (table .entry)) (startingAt starting)) ⌝ }
 {
     let b = beginning::begin(plan, table, starting);
     let answer = b.answer;
-    let begun = b.station;
-    Begun {
-        answer: judged(answer),
-        station: begun,
+    let station = b.station;
+    match answer {
+        Verdict::Fine => Begun {
+            answer: Answer {
+                number: 0,
+                place: 0,
+            },
+            begins: true,
+            station,
+        },
+        Verdict::Refused(why) => Begun {
+            answer: refused(why),
+            begins: false,
+            station,
+        },
     }
+}
+
+// A station begins with a plan, a table and a mode for each module, in place; where that is refused it is left as it stood.
+#[no_mangle]
+pub extern "C" fn olbiothar_begin(
+    plan: &[u8],
+    table: &[u8],
+    starting: Starting,
+    station: &mut Station,
+) -> Answer
+    ensures { λ r. ⌜ BeginsIn (begin (now (plan .entry)) (now (table .entry)) (startingAt starting)) (now (station .entry)) r (now (station .exit)) ⌝ }
+{
+    let b = begin_by_value(plan, table, starting);
+    if b.begins {
+        *station = b.station;
+    }
+    b.answer
 }
 
 // One tick, in place; a refused one leaves the station as it stood.
