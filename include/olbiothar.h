@@ -7,8 +7,8 @@
  *
  * What the archive needs: `memcpy` and `memset`, and nothing else of a C library or of the system. It has no data that is written to, takes
  * nothing from a heap, has no state and no lock: threads may share it, and calls on different memory may run at the same time. What a call
- * takes of the stack is said below (OLBIOTHAR_STACK_..). It is machine code for x86-64 by the System V calling convention, as Linux has
- * it; its code may stand at any address. Where the library is installed,
+ * takes of the stack is said below (OLBIOTHAR_STACK_..). It is machine code for x86-64 (with SSE2, as each has it) by the System V calling
+ * convention, as Linux has it; it may stand at any address. Where the library is installed,
  *
  *     cc client.c $(pkg-config --cflags --libs olbiothar)
  *
