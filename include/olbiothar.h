@@ -7,8 +7,8 @@
  *
  * What the archive needs: `memcpy` and `memset`, and nothing else of a C library or of the system. It has no data that is written to, takes
  * nothing from a heap, has no state and no lock: threads may share it, and calls on different memory may run at the same time. What a call
- * takes of the stack is said below (OLBIOTHAR_STACK_..). It is machine code for x86-64 by the System V calling convention, as Linux has
- * it; its code may stand at any address. Where the library is installed,
+ * takes of the stack is said below (OLBIOTHAR_STACK_..). It is machine code for x86-64 (with SSE2, as each has it) by the System V calling
+ * convention, as Linux has it; it may stand at any address. Where the library is installed,
  *
  *     cc client.c $(pkg-config --cflags --libs olbiothar)
  *
@@ -267,12 +267,13 @@ olbiothar_tick_answer olbiothar_tick(olbiothar_station *station, olbiothar_input
 
 /* The time of a station. */
 typedef struct olbiothar_time_now {
-    uint8_t begun;   /* 1 if the station has begun, else 0, and the rest is 0 */
+    uint8_t begun;   /* 1 if the station has begun (it has a period), else 0, and the rest is 0 */
     uint32_t clock;  /* the bus time of its next tick: 0 at first, then from 1 to `period` and again from 1 */
     uint32_t period; /* the length of the table's cycle */
 } olbiothar_time_now;
 
-/* The functions from here to olbiothar_task only read a station, and any numbers may stand in it. */
+/* This and the two functions below only read a station. Any numbers may stand in it: of one that holds a number outside its range, and so
+ * is refused by every tick, they say what its fields come to. */
 olbiothar_time_now olbiothar_time(const olbiothar_station *station);
 
 /* A module of a station. */

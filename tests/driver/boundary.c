@@ -333,13 +333,16 @@ static uint8_t any_byte(void) {
     return (uint8_t)(seed >> 56);
 }
 
-/* What is said of a station that may hold any bytes: of one that a tick refuses with 40 nothing, of any other what a tick goes by. */
+/* Of a station that holds any bytes the same is said, by its fields; one that a tick takes has begun. */
 static void said_of_any(const olbiothar_station *station, olbiothar_answer answer) {
-    const uint8_t begun = !is(answer, OLBIOTHAR_NOT_BEGUN, 0);
-    HOLDS(olbiothar_time(station).begun == begun);
+    const uint8_t begun = station->fixed.period > 0;
+    HOLDS(begun || is(answer, OLBIOTHAR_NOT_BEGUN, 0));
+    HOLDS(time_is(station, begun, begun ? station->play.clock : 0, station->fixed.period));
     for (unsigned place = 0; place < 256; place++) {
+        olbiothar_task_now task = olbiothar_task(station, (uint8_t)place);
         HOLDS(olbiothar_module(station, (uint8_t)place).there == (begun && place < station->fixed.modules.count));
-        HOLDS(olbiothar_task(station, (uint8_t)place).there == (begun && place < station->fixed.tasks.count));
+        HOLDS(task.there == (begun && place < station->fixed.tasks.count));
+        HOLDS(task.awaits <= task.there && (task.awaits || task.left == 0));
     }
 }
 

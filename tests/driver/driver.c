@@ -17,8 +17,8 @@
  * kind u8, sender u8, deadline u32, start u32, stop u32. A sheet or a plan's text is lent `room` bytes that are all `old`; that those behind
  * the text still are is looked at here, so that a quarter of a megabyte need not go there and back for each.
  *
- * There is one station. It is not begun at first, and again when it is to be forgotten; that a refused beginning leaves it as it stood, and
- * that modules and tasks behind the places of an answer are not there, is looked at here.
+ * There is one station. It is not begun at first, and again when it is to be forgotten; that a refused beginning leaves it as it stood is
+ * looked at here.
  *
  * All memory that the library is lent ends at a page that nothing may touch, and what stands before it is looked at after each call.
  */
@@ -226,12 +226,8 @@ static void give_time(void) {
 }
 
 static void give_modules(void) {
-    for (unsigned module = 0; module <= UINT8_MAX; module++) {
-        olbiothar_module_now now = olbiothar_module(station, (uint8_t)module);
-        if (module >= OLBIOTHAR_MODULES) {
-            if (now.there != 0 || now.node != 0 || now.mode != 0 || now.age != 0) fail("a module behind the last is there");
-            continue;
-        }
+    for (uint8_t module = 0; module < OLBIOTHAR_MODULES; module++) {
+        olbiothar_module_now now = olbiothar_module(station, module);
         give_u8(now.there);
         give_u8(now.node);
         give_u8(now.mode);
@@ -240,12 +236,8 @@ static void give_modules(void) {
 }
 
 static void give_tasks(void) {
-    for (unsigned task = 0; task <= UINT8_MAX; task++) {
-        olbiothar_task_now now = olbiothar_task(station, (uint8_t)task);
-        if (task >= OLBIOTHAR_TASKS) {
-            if (now.there != 0 || now.home != 0 || now.awaits != 0 || now.left != 0) fail("a task behind the last is there");
-            continue;
-        }
+    for (uint8_t task = 0; task < OLBIOTHAR_TASKS; task++) {
+        olbiothar_task_now now = olbiothar_task(station, task);
         give_u8(now.there);
         give_u8(now.home);
         give_u8(now.awaits);
