@@ -258,6 +258,10 @@ impl From<Refusal> for TextRefusal {
     }
 }
 
+/// No text is so long that its plan is longer: most bytes to a line have modes, and 7,487 have a place.
+pub const LONGEST_PLAN_READ: usize =
+    record_length(BUS) + record_length(NODES) + 7_487 * record_length(MODE) + record_length(END);
+
 /// Reads a plan's text: the plan at the front of the lent bytes, and its length.
 pub fn text_plan(text: &[u8], plan: &mut [u8]) -> Result<usize, TextRefusal> {
     if text.len() > LONGEST_TEXT {

@@ -6,6 +6,7 @@ use counts::{Counts, assert_reached, count};
 use reference::generate::{
     self, PlanCase, Rng, TextCase, any_plan, any_records, job_a, rewritten, text_of,
 };
+use reference::plan_text::LONGEST_PLAN_READ;
 use reference::records::{PLAN_FILE, outline};
 use reference::text::LONGEST_TEXT;
 use reference::{Reason, Refusal, TextRefusal, plan_text, text_plan};
@@ -32,8 +33,6 @@ const BUS: &str =
 const BUS_RECORD: [u8; 17] = [1, 1, 0, 0, 0, 2, 0, 3, 0, 4, 0, 5, 0, 6, 0, 0, 0];
 
 const OLD_BYTE: u8 = 0xa5;
-/// No text is so short that its plan is longer.
-const PLENTY: usize = 74_890;
 
 /// The text; behind it the lent bytes are as they were, all after a refusal.
 fn printed(plan: &[u8]) -> Result<String, Refusal> {
@@ -47,7 +46,7 @@ fn printed(plan: &[u8]) -> Result<String, Refusal> {
 
 /// The plan that a text reads as; the lent bytes likewise.
 fn read(text: impl AsRef<[u8]>) -> Result<Vec<u8>, TextRefusal> {
-    let mut plan = vec![OLD_BYTE; PLENTY];
+    let mut plan = vec![OLD_BYTE; LONGEST_PLAN_READ];
     let answer = text_plan(text.as_ref(), &mut plan);
     let length = answer.unwrap_or(0);
     assert!(plan[length..].iter().all(|&byte| byte == OLD_BYTE));
@@ -348,7 +347,7 @@ fn the_longest() {
     let mut text = top.to_string() + &line.repeat((LONGEST_TEXT - top.len()) / line.len());
     text.pop();
     assert!(text.len() + line.len() > LONGEST_TEXT);
-    assert_eq!(read(text).map(|plan| plan.len()), Ok(PLENTY));
+    assert_eq!(read(text).map(|plan| plan.len()), Ok(LONGEST_PLAN_READ));
     let plan = [&job_a().bytes()[..19], &[3].repeat(2 * 32_000), &[0]].concat();
     assert!(plan.len() <= 65_536);
     let text = text_of(&plan).unwrap();
