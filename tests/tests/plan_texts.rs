@@ -4,8 +4,9 @@ mod counts;
 
 use counts::{Counts, assert_reached, count};
 use reference::generate::{
-    self, PlanCase, Rng, TextCase, any_plan, any_records, job_a, rewritten, text_of,
+    self, Made, PlanCase, Rng, TextCase, any_plan, any_records, job_a, rewritten, text_of,
 };
+use reference::plan::Plan;
 use reference::plan_text::LONGEST_PLAN_READ;
 use reference::records::{PLAN_FILE, outline};
 use reference::text::LONGEST_TEXT;
@@ -86,6 +87,25 @@ fn stations() {
         assert_eq!(printed(plan).unwrap().as_bytes(), text);
         assert_eq!(read(text), Ok(plan.to_vec()));
     }
+}
+
+/// A text with a person's own comments, spaces and blank lines.
+#[test]
+fn a_wiping_station() {
+    let text = include_str!("../../docs/examples/wiping-station.plan.txt");
+    let plan = read(text).unwrap();
+    let made = Made::of(&plan).expect("a table");
+    let Plan { nodes, modules, tasks, modes, .. } = made.read_plan;
+    assert_eq!((nodes, modules.len(), tasks.len(), modes.len()), (4, 4, 10, 6));
+    // What is printed has other comments, and a line for each that has words.
+    let printed = printed(&plan).unwrap();
+    let told = |text: &str| -> Vec<String> {
+        let words = |line: &str| {
+            line.split('#').next().unwrap_or("").split_whitespace().collect::<Vec<_>>().join(" ")
+        };
+        text.lines().map(words).filter(|line| !line.is_empty()).collect()
+    };
+    assert_eq!(told(&printed), told(text));
 }
 
 /// Kind 9 keeps its bits, also where they are those that kind 1 means.
