@@ -117,6 +117,33 @@ fn compare_sheet_table(frames: usize, sheet: &[u8], table: &[u8]) {
     );
 }
 
+fn compare_plan_text(frames: usize, plan: &[u8]) -> Vec<u8> {
+    let (mut proved_text, mut text) = (vec![0; LONGEST_SHEET], vec![0; LONGEST_SHEET]);
+    let length = reference::plan_text(plan, &mut text).expect("the plan keeps the record rules");
+    assert_eq!(olbiothar::plan_text(plan, &mut proved_text), Ok(length));
+    assert_eq!(proved_text, text);
+    let printed = text[..length].to_vec();
+    compare(
+        &line("plan_text", frames),
+        1,
+        || olbiothar::plan_text(black_box(plan), &mut proved_text),
+        || reference::plan_text(black_box(plan), &mut text),
+    );
+    printed
+}
+
+fn compare_text_plan(frames: usize, text: &[u8], plan: &[u8]) {
+    let (mut proved_plan, mut rust_plan) = (vec![0; plan.len()], vec![0; plan.len()]);
+    assert_eq!(olbiothar::text_plan(text, &mut proved_plan), Ok(plan.len()));
+    assert_eq!(proved_plan, plan);
+    compare(
+        &line("text_plan", frames),
+        1,
+        || olbiothar::text_plan(black_box(text), &mut proved_plan),
+        || reference::text_plan(black_box(text), &mut rust_plan),
+    );
+}
+
 /// The same history again and again, each time from the beginning.
 fn compare_ticks(frames: usize, plan: &[u8], table: &[u8]) {
     let (modes, ticks) = ticks_of(plan);
@@ -173,6 +200,8 @@ fn main() {
         compare_ticks(frames, &plan, &table);
         let sheet = compare_sheet(frames, &plan, &table);
         compare_sheet_table(frames, &sheet, &table);
+        let text = compare_plan_text(frames, &plan);
+        compare_text_plan(frames, &text, &plan);
     }
     println!("\nrefused 9 at 0");
     println!("tasks  ticks          P   messages    proved ns    Rust ns    ratio   middle half");
