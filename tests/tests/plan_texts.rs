@@ -175,10 +175,19 @@ fn broken_records() {
     assert_eq!(changed(|plan| plan[19] = 4), Refusal { number: 1, place: 29 });
 }
 
-/// Each place of each line: another word, none, and one more at the end; then the numbers.
+/// What is said of a line at its place in a text, and the number that it has there.
+fn said_of(words: &[&str]) -> (String, usize) {
+    let line = words.join(" ");
+    match words[0] {
+        "bus" => (said(format!("{line}\nnodes 2")), 1),
+        "nodes" => (said(format!("{BUS}\n{line}")), 2),
+        _ => (said(format!("{BUS}\nnodes 2\n\n{line}")), 4),
+    }
+}
+
+/// Each place of each line: another word, none, and one more at the end.
 #[test]
 fn places_of_lines() {
-    let top = format!("{BUS}\nnodes 2\n");
     for line in [
         BUS,
         &format!("{BUS} bits-per-byte 7"),
@@ -189,32 +198,24 @@ fn places_of_lines() {
         "run in mode 1 task 2 rate 3",
         "connect task 1 to task 2",
     ] {
-        let (above, number) = match line.split(' ').next() {
-            Some("bus") => ("", 1),
-            Some("nodes") => (BUS, 2),
-            _ => (top.as_str(), 4),
-        };
-        let below = if number == 1 { "\nnodes 2" } else { "" };
-        let said =
-            |words: &[&str]| said(format!("{above}\n{}{below}", words.join(" ")).trim_start());
         let words: Vec<&str> = line.split(' ').collect();
-        assert!(said(&words).starts_with("a plan"), "{line}");
+        let (read, number) = said_of(&words);
+        assert!(read.starts_with("a plan"), "{line}");
         for place in 1..words.len() {
             let is_number = words[place].parse::<u64>().is_ok();
             let expected = if is_number { "number" } else { words[place] };
             let expected = format!("line {number}: {expected} expected");
             let mut other = words.clone();
             other[place] = "other";
-            assert_eq!(said(&other), expected, "{other:?}");
+            assert_eq!(said_of(&other).0, expected, "{other:?}");
             // A bus line that ends before its last two words is one of kind 1.
             if place != 13 {
-                assert_eq!(said(&words[..place]), expected, "{:?}", &words[..place]);
+                assert_eq!(said_of(&words[..place]).0, expected, "{:?}", &words[..place]);
             }
         }
+        let left_over = if words.len() == 13 { "bits-per-byte" } else { "end of line" };
         let more = [&words[..], &["more"]].concat();
-        let left_over =
-            if words.len() == 13 { "bits-per-byte expected" } else { "end of line expected" };
-        assert_eq!(said(&more), format!("line {number}: {left_over}"), "{more:?}");
+        assert_eq!(said_of(&more).0, format!("line {number}: {left_over} expected"), "{more:?}");
     }
 }
 
@@ -280,44 +281,52 @@ fn what_is_a_number() {
     }
 }
 
+/// A line of each kind, in their order.
+const LINES: [&str; 7] = [
+    BUS,
+    "nodes 2",
+    "module on node 0",
+    "mode of module 0 period 1 switch 1",
+    "task of module 0 bytes 1 worst 1",
+    "run in mode 0 task 0 rate 1",
+    "connect task 0 to task 0",
+];
+
 #[test]
 fn order_of_lines() {
-    let all = [
-        BUS,
-        "nodes 2",
-        "module on node 0",
-        "mode of module 0 period 1 switch 1",
-        "task of module 0 bytes 1 worst 1",
-        "run in mode 0 task 0 rate 1",
-        "connect task 0 to task 0",
-    ];
-    for (earlier, first) in all.iter().enumerate().skip(1) {
-        for (later, second) in all.iter().enumerate() {
-            let text = if earlier == 1 {
-                format!("{BUS}\n{first}\n{second}")
-            } else {
-                format!("{BUS}\nnodes 2\n{first}\n\n{second}")
-            };
-            let fits = later >= 2 && later >= earlier;
-            let lines = text.lines().count();
-            if fits {
+    for (earlier, first) in LINES.iter().enumerate().skip(2) {
+        for (later, second) in LINES.iter().enumerate() {
+            let text = format!("{BUS}\nnodes 2\n{first}\n\n{second}");
+            if later >= earlier {
                 assert!(read(&text).is_ok(), "{text}");
             } else {
-                assert_eq!(said(&text), format!("line {lines}: out of order"), "{text}");
+                assert_eq!(said(&text), "line 5: out of order", "{text}");
             }
         }
         assert_eq!(said(first), "line 1: bus expected");
+        assert_eq!(said(format!("{BUS}\n{first}")), "line 2: nodes expected");
+        assert!(read(format!("{BUS}\nnodes 2\n{first}")).is_ok());
     }
+}
+
+/// Each once, the one behind the other, whichever kind the bus is of.
+#[test]
+fn bus_and_nodes() {
     let nine = format!("{BUS} bits-per-byte 8");
     for bus in [BUS, &nine] {
-        for second in [BUS, &nine, "module on node 0", "node 2", "# nodes 2\nNodes 2"] {
+        for second in [BUS, &nine, "node 2", "# nodes 2\nNodes 2"] {
             let line = 1 + second.lines().count();
             assert_eq!(said(format!("{bus}\n{second}")), format!("line {line}: nodes expected"));
         }
-        for (second, reason) in
-            [("nodes", "out of order"), ("bus", "out of order"), ("record", "unknown word")]
-        {
-            assert_eq!(said(format!("{bus}\nnodes 2\n{second}")), format!("line 3: {reason}"));
+        for (third, reason) in [
+            (BUS, "out of order"),
+            (&nine, "out of order"),
+            ("bus", "out of order"),
+            ("nodes 2", "out of order"),
+            ("nodes", "out of order"),
+            ("record", "unknown word"),
+        ] {
+            assert_eq!(said(format!("{bus}\nnodes 2\n{third}")), format!("line 3: {reason}"));
         }
     }
 }

@@ -282,24 +282,28 @@ fn plan_text_cases(comparison: &mut Comparison) {
 /// A room beyond any that words need.
 const AMPLE: usize = 512;
 
+/// The words that stand in so many lent bytes; a zero byte ends them, and the rest is as it was.
+fn words_in(proved: &mut Driver, sort: Words, number: u32, room: usize) -> String {
+    const OLD: u8 = 0xa5;
+    let mut text = vec![OLD; room];
+    let length = proved.words(sort, number, &mut text);
+    let (words, behind) = text.split_at(length);
+    let rest = match behind {
+        [0, rest @ ..] => rest,
+        _ if length == 0 => behind,
+        _ => panic!("{sort:?} {number} in {room} bytes: no zero byte"),
+    };
+    assert!(rest.iter().all(|&byte| byte == OLD), "{sort:?} {number} in {room} bytes");
+    String::from_utf8(words.to_vec()).expect("words are text")
+}
+
 /// The words of a number, and the least room that gets any.
 fn words_of(proved: &mut Driver, sort: Words, number: u32) -> (String, usize) {
-    let mut words = |room: usize| {
-        let mut text = vec![0xa5; room];
-        let length = proved.words(sort, number, &mut text);
-        let words = String::from_utf8(text[..length].to_vec()).expect("words are text");
-        let behind = if length > 0 { &text[length..] } else { &text[..] };
-        let ends = |behind: &[u8]| {
-            behind.starts_with(&[0]) && behind[1..].iter().all(|&byte| byte == 0xa5)
-        };
-        let untouched = length == 0 && behind.iter().all(|&byte| byte == 0xa5);
-        assert!(untouched || ends(behind), "{sort:?} {number} in {room} bytes");
-        words
-    };
-    let longest = words(AMPLE);
-    let least = (0..AMPLE).find(|&room| !words(room).is_empty()).unwrap_or(AMPLE);
-    assert!((least..AMPLE).all(|room| words(room) == longest), "{sort:?} {number}");
-    (longest, least)
+    let words = words_in(proved, sort, number, AMPLE);
+    let rooms: Vec<String> = (0..AMPLE).map(|room| words_in(proved, sort, number, room)).collect();
+    let least = rooms.iter().position(|words| !words.is_empty()).unwrap_or(AMPLE);
+    assert!(rooms[least..].iter().all(|same| *same == words), "{sort:?} {number}");
+    (words, least)
 }
 
 /// Each number of an answer has words of its own, each reason those that a line is refused with; all ask
