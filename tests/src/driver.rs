@@ -17,6 +17,13 @@ pub struct Driver {
     answers: BufReader<ChildStdout>,
 }
 
+/// What words are asked for.
+#[derive(Clone, Copy, Debug)]
+pub enum Words {
+    OfNumber = 0,
+    OfReason = 1,
+}
+
 impl Driver {
     /// Starts the driver: a program, and the words that it is given.
     pub fn start(command: &[String]) -> std::io::Result<Driver> {
@@ -37,6 +44,17 @@ impl Driver {
         let Driver { mut child, requests, answers } = self;
         drop((requests, answers));
         child.wait().is_ok_and(|status| status.success())
+    }
+
+    /// The length of a number's words, which are put into the lent text.
+    pub fn words(&mut self, sort: Words, number: u32, text: &mut [u8]) -> usize {
+        let mut request = vec![b'W', sort as u8];
+        [number, text.len() as u32].iter().for_each(|number| request.extend(number.to_le_bytes()));
+        request.extend(text.iter());
+        self.ask(&request);
+        let length = self.long_number() as usize;
+        self.bytes(text);
+        length
     }
 
     /// The driver reads a request whole before it answers: neither waits for the other's pipe.

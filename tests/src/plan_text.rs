@@ -38,45 +38,56 @@ const BUS_PLACES: [Place; 15] = [
 ];
 const BUS_WORDS: usize = BUS_PLACES.len() - 2;
 
+const NODES_PLACES: [Place; 2] = [Word("nodes"), Number(1, 1)];
+
+const MODULE_PLACES: [Place; 4] = [Word("module"), Word("on"), Word("node"), Number(1, 1)];
+
+const MODE_PLACES: [Place; 8] = [
+    Word("mode"),
+    Word("of"),
+    Word("module"),
+    Number(1, 2),
+    Word("period"),
+    Number(4, 7),
+    Word("switch"),
+    Number(4, 7),
+];
+
+const TASK_PLACES: [Place; 8] = [
+    Word("task"),
+    Word("of"),
+    Word("module"),
+    Number(1, 2),
+    Word("bytes"),
+    Number(1, 1),
+    Word("worst"),
+    Number(4, 7),
+];
+
+const RUN_PLACES: [Place; 8] = [
+    Word("run"),
+    Word("in"),
+    Word("mode"),
+    Number(1, 2),
+    Word("task"),
+    Number(1, 2),
+    Word("rate"),
+    Number(2, 5),
+];
+
+const CONNECTION_PLACES: [Place; 6] =
+    [Word("connect"), Word("task"), Number(1, 2), Word("to"), Word("task"), Number(1, 2)];
+
 fn places(kind: u8) -> &'static [Place] {
     match kind {
         BUS => &BUS_PLACES[..BUS_WORDS],
         BUS_WITH_BYTE_BITS => &BUS_PLACES,
-        NODES => &[Word("nodes"), Number(1, 1)],
-        MODULE => &[Word("module"), Word("on"), Word("node"), Number(1, 1)],
-        MODE => &[
-            Word("mode"),
-            Word("of"),
-            Word("module"),
-            Number(1, 2),
-            Word("period"),
-            Number(4, 7),
-            Word("switch"),
-            Number(4, 7),
-        ],
-        TASK => &[
-            Word("task"),
-            Word("of"),
-            Word("module"),
-            Number(1, 2),
-            Word("bytes"),
-            Number(1, 1),
-            Word("worst"),
-            Number(4, 7),
-        ],
-        INVOCATION => &[
-            Word("run"),
-            Word("in"),
-            Word("mode"),
-            Number(1, 2),
-            Word("task"),
-            Number(1, 2),
-            Word("rate"),
-            Number(2, 5),
-        ],
-        CONNECTION => {
-            &[Word("connect"), Word("task"), Number(1, 2), Word("to"), Word("task"), Number(1, 2)]
-        }
+        NODES => &NODES_PLACES,
+        MODULE => &MODULE_PLACES,
+        MODE => &MODE_PLACES,
+        TASK => &TASK_PLACES,
+        INVOCATION => &RUN_PLACES,
+        CONNECTION => &CONNECTION_PLACES,
         _ => &[],
     }
 }
@@ -257,6 +268,10 @@ impl From<Refusal> for TextRefusal {
         TextRefusal { refusal, reason: None }
     }
 }
+
+/// No text is so long that its plan is longer: most bytes to a line have modes, and 7,487 have a place.
+pub const LONGEST_PLAN_READ: usize =
+    record_length(BUS) + record_length(NODES) + 7_487 * record_length(MODE) + record_length(END);
 
 /// Reads a plan's text: the plan at the front of the lent bytes, and its length.
 pub fn text_plan(text: &[u8], plan: &mut [u8]) -> Result<usize, TextRefusal> {

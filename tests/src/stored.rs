@@ -1,9 +1,10 @@
-//! Files that the repository keeps for its programs: example plans and sheets, what a program reads, what
+//! Files that the repository keeps for its programs: example plans, texts and sheets, what a program reads, what
 //! it must write. `cargo run --release --bin store` writes them; a test holds them against what stands there.
 
 mod cases;
 mod jobs;
 mod limits;
+mod plan_texts;
 mod plans;
 mod requests;
 mod sheets;
@@ -38,6 +39,7 @@ pub fn all() -> Vec<Stored> {
         files.push(stored(&format!("crates/{program}/data/table"), table.clone()));
     }
     files.extend(sheets::all());
+    files.extend(plan_texts::all());
     files.extend(vectors());
     files
 }
@@ -45,7 +47,7 @@ pub fn all() -> Vec<Stored> {
 fn table_of(plan: &[u8]) -> Vec<u8> {
     let mut table = vec![0; PLENTY];
     let length = make(plan, &mut [FrameRow::default(); MOST_FRAMES], &mut table);
-    table.truncate(length.expect("job A is made"));
+    table.truncate(length.expect("a plan of an example is made"));
     table
 }
 

@@ -19,6 +19,8 @@ use crate::{
     FrameRow, LONGEST_SHEET, MOST_MODULES, MOST_NODES, MOST_TASKS, Refusal, Sheet, TextRefusal,
 };
 
+pub const MAKE: &str = include_str!("../vectors/make.txt");
+pub const CHECK: &str = include_str!("../vectors/check.txt");
 pub const ASK_01: &str = include_str!("../vectors/ask-01.txt");
 const ASK_02: &str = include_str!("../vectors/ask-02.txt");
 pub const ASK_03: &str = include_str!("../vectors/ask-03.txt");
@@ -167,11 +169,11 @@ fn textplan(program: &mut dyn Program, text: &str) {
 }
 
 pub fn make_tables(program: &mut dyn Program) {
-    include_str!("../vectors/make.txt").lines().for_each(|text| make(program, text));
+    MAKE.lines().for_each(|text| make(program, text));
 }
 
 pub fn check_tables(program: &mut dyn Program) {
-    include_str!("../vectors/check.txt").lines().for_each(|text| check(program, text));
+    CHECK.lines().for_each(|text| check(program, text));
 }
 
 pub fn play_histories(program: &mut dyn Program) {

@@ -4,8 +4,10 @@ mod counts;
 
 use counts::{Counts, assert_reached, count};
 use reference::generate::{
-    self, PlanCase, Rng, TextCase, any_plan, any_records, job_a, rewritten, text_of,
+    self, Made, PlanCase, Rng, TextCase, any_plan, any_records, job_a, rewritten, text_of,
 };
+use reference::plan::Plan;
+use reference::plan_text::LONGEST_PLAN_READ;
 use reference::records::{PLAN_FILE, outline};
 use reference::text::LONGEST_TEXT;
 use reference::{Reason, Refusal, TextRefusal, plan_text, text_plan};
@@ -32,8 +34,6 @@ const BUS: &str =
 const BUS_RECORD: [u8; 17] = [1, 1, 0, 0, 0, 2, 0, 3, 0, 4, 0, 5, 0, 6, 0, 0, 0];
 
 const OLD_BYTE: u8 = 0xa5;
-/// No text is so short that its plan is longer.
-const PLENTY: usize = 74_890;
 
 /// The text; behind it the lent bytes are as they were, all after a refusal.
 fn printed(plan: &[u8]) -> Result<String, Refusal> {
@@ -47,7 +47,7 @@ fn printed(plan: &[u8]) -> Result<String, Refusal> {
 
 /// The plan that a text reads as; the lent bytes likewise.
 fn read(text: impl AsRef<[u8]>) -> Result<Vec<u8>, TextRefusal> {
-    let mut plan = vec![OLD_BYTE; PLENTY];
+    let mut plan = vec![OLD_BYTE; LONGEST_PLAN_READ];
     let answer = text_plan(text.as_ref(), &mut plan);
     let length = answer.unwrap_or(0);
     assert!(plan[length..].iter().all(|&byte| byte == OLD_BYTE));
@@ -87,6 +87,25 @@ fn stations() {
         assert_eq!(printed(plan).unwrap().as_bytes(), text);
         assert_eq!(read(text), Ok(plan.to_vec()));
     }
+}
+
+/// A text with a person's own comments, spaces and blank lines.
+#[test]
+fn a_wiping_station() {
+    let text = include_str!("../../docs/examples/wiping-station.plan.txt");
+    let plan = read(text).unwrap();
+    let made = Made::of(&plan).expect("a table");
+    let Plan { nodes, modules, tasks, modes, .. } = made.read_plan;
+    assert_eq!((nodes, modules.len(), tasks.len(), modes.len()), (4, 4, 10, 6));
+    // What is printed has other comments, and a line for each that has words.
+    let printed = printed(&plan).unwrap();
+    let told = |text: &str| -> Vec<String> {
+        let words = |line: &str| {
+            line.split('#').next().unwrap_or("").split_whitespace().collect::<Vec<_>>().join(" ")
+        };
+        text.lines().map(words).filter(|line| !line.is_empty()).collect()
+    };
+    assert_eq!(told(&printed), told(text));
 }
 
 /// Kind 9 keeps its bits, also where they are those that kind 1 means.
@@ -156,10 +175,19 @@ fn broken_records() {
     assert_eq!(changed(|plan| plan[19] = 4), Refusal { number: 1, place: 29 });
 }
 
-/// Each place of each line: another word, none, and one more at the end; then the numbers.
+/// What is said of a line at its place in a text, and the number that it has there.
+fn said_of(words: &[&str]) -> (String, usize) {
+    let line = words.join(" ");
+    match words[0] {
+        "bus" => (said(format!("{line}\nnodes 2")), 1),
+        "nodes" => (said(format!("{BUS}\n{line}")), 2),
+        _ => (said(format!("{BUS}\nnodes 2\n\n{line}")), 4),
+    }
+}
+
+/// Each place of each line: another word, none, and one more at the end.
 #[test]
 fn places_of_lines() {
-    let top = format!("{BUS}\nnodes 2\n");
     for line in [
         BUS,
         &format!("{BUS} bits-per-byte 7"),
@@ -170,32 +198,24 @@ fn places_of_lines() {
         "run in mode 1 task 2 rate 3",
         "connect task 1 to task 2",
     ] {
-        let (above, number) = match line.split(' ').next() {
-            Some("bus") => ("", 1),
-            Some("nodes") => (BUS, 2),
-            _ => (top.as_str(), 4),
-        };
-        let below = if number == 1 { "\nnodes 2" } else { "" };
-        let said =
-            |words: &[&str]| said(format!("{above}\n{}{below}", words.join(" ")).trim_start());
         let words: Vec<&str> = line.split(' ').collect();
-        assert!(said(&words).starts_with("a plan"), "{line}");
+        let (read, number) = said_of(&words);
+        assert!(read.starts_with("a plan"), "{line}");
         for place in 1..words.len() {
             let is_number = words[place].parse::<u64>().is_ok();
             let expected = if is_number { "number" } else { words[place] };
             let expected = format!("line {number}: {expected} expected");
             let mut other = words.clone();
             other[place] = "other";
-            assert_eq!(said(&other), expected, "{other:?}");
+            assert_eq!(said_of(&other).0, expected, "{other:?}");
             // A bus line that ends before its last two words is one of kind 1.
             if place != 13 {
-                assert_eq!(said(&words[..place]), expected, "{:?}", &words[..place]);
+                assert_eq!(said_of(&words[..place]).0, expected, "{:?}", &words[..place]);
             }
         }
+        let left_over = if words.len() == 13 { "bits-per-byte" } else { "end of line" };
         let more = [&words[..], &["more"]].concat();
-        let left_over =
-            if words.len() == 13 { "bits-per-byte expected" } else { "end of line expected" };
-        assert_eq!(said(&more), format!("line {number}: {left_over}"), "{more:?}");
+        assert_eq!(said_of(&more).0, format!("line {number}: {left_over} expected"), "{more:?}");
     }
 }
 
@@ -261,44 +281,52 @@ fn what_is_a_number() {
     }
 }
 
+/// A line of each kind, in their order.
+const LINES: [&str; 7] = [
+    BUS,
+    "nodes 2",
+    "module on node 0",
+    "mode of module 0 period 1 switch 1",
+    "task of module 0 bytes 1 worst 1",
+    "run in mode 0 task 0 rate 1",
+    "connect task 0 to task 0",
+];
+
 #[test]
 fn order_of_lines() {
-    let all = [
-        BUS,
-        "nodes 2",
-        "module on node 0",
-        "mode of module 0 period 1 switch 1",
-        "task of module 0 bytes 1 worst 1",
-        "run in mode 0 task 0 rate 1",
-        "connect task 0 to task 0",
-    ];
-    for (earlier, first) in all.iter().enumerate().skip(1) {
-        for (later, second) in all.iter().enumerate() {
-            let text = if earlier == 1 {
-                format!("{BUS}\n{first}\n{second}")
-            } else {
-                format!("{BUS}\nnodes 2\n{first}\n\n{second}")
-            };
-            let fits = later >= 2 && later >= earlier;
-            let lines = text.lines().count();
-            if fits {
+    for (earlier, first) in LINES.iter().enumerate().skip(2) {
+        for (later, second) in LINES.iter().enumerate() {
+            let text = format!("{BUS}\nnodes 2\n{first}\n\n{second}");
+            if later >= earlier {
                 assert!(read(&text).is_ok(), "{text}");
             } else {
-                assert_eq!(said(&text), format!("line {lines}: out of order"), "{text}");
+                assert_eq!(said(&text), "line 5: out of order", "{text}");
             }
         }
         assert_eq!(said(first), "line 1: bus expected");
+        assert_eq!(said(format!("{BUS}\n{first}")), "line 2: nodes expected");
+        assert!(read(format!("{BUS}\nnodes 2\n{first}")).is_ok());
     }
+}
+
+/// Each once, the one behind the other, whichever kind the bus is of.
+#[test]
+fn bus_and_nodes() {
     let nine = format!("{BUS} bits-per-byte 8");
     for bus in [BUS, &nine] {
-        for second in [BUS, &nine, "module on node 0", "node 2", "# nodes 2\nNodes 2"] {
+        for second in [BUS, &nine, "node 2", "# nodes 2\nNodes 2"] {
             let line = 1 + second.lines().count();
             assert_eq!(said(format!("{bus}\n{second}")), format!("line {line}: nodes expected"));
         }
-        for (second, reason) in
-            [("nodes", "out of order"), ("bus", "out of order"), ("record", "unknown word")]
-        {
-            assert_eq!(said(format!("{bus}\nnodes 2\n{second}")), format!("line 3: {reason}"));
+        for (third, reason) in [
+            (BUS, "out of order"),
+            (&nine, "out of order"),
+            ("bus", "out of order"),
+            ("nodes 2", "out of order"),
+            ("nodes", "out of order"),
+            ("record", "unknown word"),
+        ] {
+            assert_eq!(said(format!("{bus}\nnodes 2\n{third}")), format!("line 3: {reason}"));
         }
     }
 }
@@ -348,7 +376,7 @@ fn the_longest() {
     let mut text = top.to_string() + &line.repeat((LONGEST_TEXT - top.len()) / line.len());
     text.pop();
     assert!(text.len() + line.len() > LONGEST_TEXT);
-    assert_eq!(read(text).map(|plan| plan.len()), Ok(PLENTY));
+    assert_eq!(read(text).map(|plan| plan.len()), Ok(LONGEST_PLAN_READ));
     let plan = [&job_a().bytes()[..19], &[3].repeat(2 * 32_000), &[0]].concat();
     assert!(plan.len() <= 65_536);
     let text = text_of(&plan).unwrap();

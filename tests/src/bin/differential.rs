@@ -1,14 +1,15 @@
 //! The proved library against the Rust program: every vector, then seeded cases. The words of the
 //! command line start the driver. The run ends with an error at the first difference, and if a
-//! refusal of docs/RULES.md was not reached.
+//! refusal of docs/RULES.md, or a reason why a line is unreadable, was not reached.
 
-use reference::driver::Driver;
+use reference::driver::{Driver, Words};
 use reference::generate::{
-    self, CheckCase, History, MakeCase, PLENTY, PlayCase, Rng, SheetCase, TextCase, job_a, job_j,
+    self, CheckCase, History, MakeCase, PLENTY, PlanCase, PlayCase, Rng, SheetCase, TextCase,
+    job_a, job_j,
 };
 use reference::plan;
 use reference::program::{Program, Reference};
-use reference::{FrameRow, MOST_FRAMES, Refusal, vectors};
+use reference::{FrameRow, MOST_FRAMES, Reason, Refusal, vectors};
 use std::collections::BTreeMap;
 use std::time::Instant;
 
@@ -17,8 +18,13 @@ const CHECK_CASES: u64 = 40_000;
 const NOISE_CASES: u64 = 10_000;
 const PLAY_CASES: u64 = 1_200;
 const SHEET_CASES: u64 = 20_000;
-const TEXT_CASES: u64 = 20_000;
+const SHEET_TEXT_CASES: u64 = 20_000;
+const PLAN_CASES: u64 = 20_000;
+const PLAN_TEXT_CASES: u64 = 20_000;
 const MOST_TICKS: usize = 400;
+/// A station is asked about itself behind its first ticks, and then now and then: each time by 512 calls.
+const FIRST_ASKED: usize = 4;
+const ASKED_EACH: usize = 61;
 /// A table of so many bytes is played for more than its cycle, so that every row starts.
 const LONG_TABLE: usize = 4_096;
 const WHOLE_CYCLE: usize = 1_500;
@@ -28,10 +34,21 @@ fn numbers() -> impl Iterator<Item = u32> {
     (0..=13).chain(19..=28).chain(40..=44).chain(60..=61)
 }
 
+/// The reasons that a run must reach. Some words only begin lines, and no line lacks its beginning.
+fn reasons() -> impl Iterator<Item = Reason> {
+    let begins = |word: &str| matches!(word, "bus" | "nodes" | "run" | "connect");
+    let reached = move |reason: &Reason| !matches!(reason, Reason::Word(word) if begins(word));
+    (0..ALL_REASONS).filter_map(Reason::numbered).filter(reached)
+}
+
+/// Above any number of a reason.
+const ALL_REASONS: u32 = 100;
+
 struct Comparison {
     proved: Driver,
     rust: Reference,
     reached: BTreeMap<u32, u64>,
+    reasons: BTreeMap<String, u64>,
 }
 
 impl Comparison {
@@ -63,9 +80,15 @@ impl Comparison {
 
     fn play(&mut self, case: &str, rng: &mut Rng, given: &PlayCase) {
         let PlayCase { plan, table, modes } = given;
+        // Behind a refused beginning a station plays on, if there is one.
+        if rng.one_in(2) {
+            self.proved.forget();
+            self.rust.forget();
+        }
         let proved = self.proved.begin(plan, table, modes);
         let rust = self.rust.begin(plan, table, modes);
         assert_eq!(proved, rust, "begin, {case}");
+        self.now(&format!("{case}, begun"));
         self.count(&rust);
         match plan::read(plan) {
             Ok(read) if rust.is_ok() => {
@@ -82,8 +105,16 @@ impl Comparison {
     fn play_on(&mut self, case: &str, mut history: History, ticks: usize) {
         for time in 0..ticks {
             let (tick, _) = history.next_tick();
-            self.tick(&format!("{case}, tick {time}"), &tick);
+            let case = format!("{case}, tick {time}");
+            self.tick(&case, &tick);
+            if time < FIRST_ASKED || time % ASKED_EACH == 0 {
+                self.now(&case);
+            }
         }
+    }
+
+    fn now(&mut self, case: &str) {
+        assert_eq!(self.proved.now(), self.rust.now(), "{case}");
     }
 
     fn tick(&mut self, case: &str, given: &generate::Tick) {
@@ -110,6 +141,31 @@ impl Comparison {
         assert_eq!(proved, rust, "sheet_table, {case}: {}", text.escape_ascii());
         assert_eq!(proved_buffer, rust_buffer, "sheet_table, {case}: {}", text.escape_ascii());
         self.count(&rust);
+    }
+
+    /// Gives the bytes needed, where they are too few.
+    fn plan_text(&mut self, case: &str, plan: &[u8], old: u8, room: usize) -> Option<usize> {
+        let (mut proved_text, mut text) = (vec![old; room], vec![old; room]);
+        let proved = self.proved.plan_text(plan, &mut proved_text);
+        let rust = self.rust.plan_text(plan, &mut text);
+        assert_eq!(proved, rust, "plan_text, {case}: {plan:02x?}");
+        assert!(proved_text == text, "plan_text, text, {case}: {plan:02x?}");
+        self.count(&rust);
+        rust.err().filter(|refusal| refusal.number == 13).map(|refusal| refusal.place)
+    }
+
+    fn text_plan(&mut self, case: &str, text: &[u8], buffer: &[u8]) -> Option<usize> {
+        let (mut proved_buffer, mut rust_buffer) = (buffer.to_vec(), buffer.to_vec());
+        let proved = self.proved.text_plan(text, &mut proved_buffer);
+        let rust = self.rust.text_plan(text, &mut rust_buffer);
+        assert_eq!(proved, rust, "text_plan, {case}: {}", text.escape_ascii());
+        assert_eq!(proved_buffer, rust_buffer, "text_plan, {case}: {}", text.escape_ascii());
+        if let Some(reason) = rust.err().and_then(|unread| unread.reason) {
+            *self.reasons.entry(reason.to_string()).or_default() += 1;
+        }
+        let rust = rust.map_err(|unread| unread.refusal);
+        self.count(&rust);
+        rust.err().filter(|refusal| refusal.number == 13).map(|refusal| refusal.place)
     }
 }
 
@@ -189,19 +245,100 @@ fn sheet_cases(comparison: &mut Comparison) {
     }
 }
 
-fn text_cases(comparison: &mut Comparison) {
-    for seed in 0..TEXT_CASES {
+fn sheet_text_cases(comparison: &mut Comparison) {
+    for seed in 0..SHEET_TEXT_CASES {
         let rng = &mut Rng::new(seed);
         let TextCase { text, room } = generate::sheet_text_case(rng);
         comparison.sheet_table(&format!("seed {seed}"), &text, &any_bytes(rng, room));
     }
 }
 
+/// Where the room is too small, also one that is just enough, and one byte less.
+fn plan_cases(comparison: &mut Comparison) {
+    for seed in 0..PLAN_CASES {
+        let rng = &mut Rng::new(seed);
+        let PlanCase { plan, room } = generate::plan_case(rng);
+        let (case, old) = (format!("seed {seed}"), rng.number() as u8);
+        if let Some(needed) = comparison.plan_text(&case, &plan, old, room) {
+            assert_eq!(comparison.plan_text(&case, &plan, old, needed), None, "{case}");
+            assert_eq!(comparison.plan_text(&case, &plan, old, needed - 1), Some(needed), "{case}");
+        }
+    }
+}
+
+fn plan_text_cases(comparison: &mut Comparison) {
+    for seed in 0..PLAN_TEXT_CASES {
+        let rng = &mut Rng::new(seed);
+        let TextCase { text, room } = generate::plan_text_case(rng);
+        let case = format!("seed {seed}");
+        if let Some(needed) = comparison.text_plan(&case, &text, &any_bytes(rng, room)) {
+            let buffer = any_bytes(rng, needed);
+            assert_eq!(comparison.text_plan(&case, &text, &buffer), None, "{case}");
+            assert_eq!(comparison.text_plan(&case, &text, &buffer[1..]), Some(needed), "{case}");
+        }
+    }
+}
+
+/// A room beyond any that words need.
+const AMPLE: usize = 512;
+
+/// The words that stand in so many lent bytes; a zero byte ends them, and the rest is as it was.
+fn words_in(proved: &mut Driver, sort: Words, number: u32, room: usize) -> String {
+    const OLD: u8 = 0xa5;
+    let mut text = vec![OLD; room];
+    let length = proved.words(sort, number, &mut text);
+    let (words, behind) = text.split_at(length);
+    let rest = match behind {
+        [0, rest @ ..] => rest,
+        _ if length == 0 => behind,
+        _ => panic!("{sort:?} {number} in {room} bytes: no zero byte"),
+    };
+    assert!(rest.iter().all(|&byte| byte == OLD), "{sort:?} {number} in {room} bytes");
+    String::from_utf8(words.to_vec()).expect("words are text")
+}
+
+/// The words of a number, and the least room that gets any.
+fn words_of(proved: &mut Driver, sort: Words, number: u32) -> (String, usize) {
+    let words = words_in(proved, sort, number, AMPLE);
+    let rooms: Vec<String> = (0..AMPLE).map(|room| words_in(proved, sort, number, room)).collect();
+    let least = rooms.iter().position(|words| !words.is_empty()).unwrap_or(AMPLE);
+    assert!(rooms[least..].iter().all(|same| *same == words), "{sort:?} {number}");
+    (words, least)
+}
+
+/// Each number of an answer has words of its own, each reason those that a line is refused with; all ask
+/// for the same room, which is longer than any words.
+fn words_of_numbers(comparison: &mut Comparison) {
+    let mut answers = BTreeMap::new();
+    let (_, room) = words_of(&mut comparison.proved, Words::OfNumber, 1);
+    for number in numbers().skip(1) {
+        let (words, least) = words_of(&mut comparison.proved, Words::OfNumber, number);
+        assert!(words.len() < room && least == room, "{number}: {words} {least}");
+        assert_eq!(answers.insert(words, number), None, "{number}");
+    }
+    for number in [14, 18, 29, 39, 45, 59, 62, 256, 268, u32::MAX] {
+        let (words, _) = words_of(&mut comparison.proved, Words::OfNumber, number);
+        assert!(!answers.contains_key(&words), "{number}: {words}");
+    }
+    for reason in (1..ALL_REASONS).chain([256 + 32, u32::MAX]) {
+        let (words, least) = words_of(&mut comparison.proved, Words::OfReason, reason);
+        if let Some(known) = Reason::numbered(reason) {
+            assert_eq!((words, least), (known.to_string(), room), "{reason}");
+        } else {
+            assert!(!words.ends_with("expected"), "{reason}: {words}");
+        }
+    }
+}
+
 fn main() {
     let command: Vec<String> = std::env::args().skip(1).collect();
     let proved = Driver::start(&command).expect("the driver starts");
-    let mut comparison =
-        Comparison { proved, rust: Reference::default(), reached: BTreeMap::new() };
+    let mut comparison = Comparison {
+        proved,
+        rust: Reference::default(),
+        reached: BTreeMap::new(),
+        reasons: BTreeMap::new(),
+    };
     let run = |name: &str, comparison: &mut Comparison, part: fn(&mut Comparison)| {
         let began = Instant::now();
         part(comparison);
@@ -218,12 +355,21 @@ fn main() {
     run("noise", &mut comparison, noise_cases);
     run("histories played", &mut comparison, play_cases);
     run("sheets printed", &mut comparison, sheet_cases);
-    run("sheets read", &mut comparison, text_cases);
-    for number in numbers() {
-        println!("{number:>2}: {}", comparison.reached.get(&number).unwrap_or(&0));
-    }
-    let missed: Vec<u32> =
-        numbers().filter(|number| !comparison.reached.contains_key(number)).collect();
-    assert!(missed.is_empty(), "not reached: {missed:?}");
+    run("sheets read", &mut comparison, sheet_text_cases);
+    run("plans printed", &mut comparison, plan_cases);
+    run("plans read", &mut comparison, plan_text_cases);
+    run("words", &mut comparison, words_of_numbers);
+    all_were_reached(&comparison);
     assert!(comparison.proved.stop(), "the driver ends well");
+}
+
+fn all_were_reached(comparison: &Comparison) {
+    let times = |number: &u32| comparison.reached.get(number).copied().unwrap_or(0);
+    let times_said =
+        |reason: &Reason| comparison.reasons.get(&reason.to_string()).copied().unwrap_or(0);
+    numbers().for_each(|number| println!("{number:>2}: {}", times(&number)));
+    reasons().for_each(|reason| println!("{reason}: {}", times_said(&reason)));
+    let missed: Vec<u32> = numbers().filter(|number| times(number) == 0).collect();
+    let never_said: Vec<Reason> = reasons().filter(|reason| times_said(reason) == 0).collect();
+    assert!(missed.is_empty() && never_said.is_empty(), "not reached: {missed:?} {never_said:?}");
 }

@@ -1,97 +1,228 @@
-//! The programs `tablesheet` and `sheettable` on every line of `vectors/ask-01.txt` that is theirs, and on
-//! both sides of the limits of their files: standard output, byte for byte. The words of the command line
-//! are the folder of the programs, and what they are to run under, if anything.
+//! The programs on lines of the vectors that are theirs, and on both sides of the limits of their files:
+//! standard output, byte for byte, and the status that they end with. The words of the command line are
+//! the folder of the programs, and what they are to run under, if anything.
 
-use reference::LONGEST_SHEET;
-use reference::vectors::{ASK_01, bytes, named};
+use reference::generate::{Made, job_a, text_of};
+use reference::plan_text::LONGEST_PLAN_READ;
+use reference::text::LONGEST_TEXT;
+use reference::vectors::{ASK_01, CHECK, MAKE, bytes, named};
+use reference::{MOST_FRAMES, text_plan};
+use std::collections::BTreeMap;
 use std::fs::{self, File};
 use std::io::{Error, Result};
 use std::path::Path;
-use std::process::{Command, Stdio};
+use std::process::Command;
 
 /// No longer plan or table is read by a program.
 const LONGEST_FILE: usize = 65_536;
 
-enum Given {
-    Files([Vec<u8>; 2]),
-    Text(Vec<u8>),
-}
-
 struct Case {
     name: String,
-    given: Given,
+    program: &'static str,
+    /// Named on the command line.
+    files: Vec<Vec<u8>>,
+    input: Vec<u8>,
     written: Vec<u8>,
 }
 
-fn case(name: &str, given: Given, written: &[u8]) -> Case {
-    Case { name: name.to_string(), given, written: written.to_vec() }
+impl Case {
+    fn new(name: &str, program: &'static str, written: impl Into<Vec<u8>>) -> Case {
+        let (files, input) = (Vec::new(), Vec::new());
+        Case { name: name.to_string(), program, files, input, written: written.into() }
+    }
+
+    fn files(self, plan: impl Into<Vec<u8>>, table: impl Into<Vec<u8>>) -> Case {
+        Case { files: vec![plan.into(), table.into()], ..self }
+    }
+
+    fn input(self, input: impl Into<Vec<u8>>) -> Case {
+        Case { input: input.into(), ..self }
+    }
+
+    /// A line in the place of a result, or a refused sheet's first.
+    fn status(&self) -> i32 {
+        let refusals: [&[u8]; 3] = [b"refused ", b"too long\n", b"unreadable line "];
+        i32::from(refusals.iter().any(|line| self.written.starts_with(line)))
+    }
 }
 
-fn vectors() -> Vec<Case> {
+/// Sheets and plans as text.
+fn texts() -> Vec<Case> {
     let mut cases = Vec::new();
     for (number, [comment, word, rest]) in named(ASK_01).into_iter().enumerate() {
+        let name = format!("case {number}, {comment}");
         let (given, answer) = rest.split_once(" -> ").expect("an arrow");
-        let given = match (word, given.split_once(' ')) {
-            ("sheet", Some((plan, table))) => Given::Files([plan, table].map(bytes)),
-            ("back", None) => Given::Text(bytes(given)),
-            _ => continue,
-        };
-        cases.push(case(&format!("case {number}, {comment}"), given, &bytes(answer)));
+        let case = |program| Case::new(&name, program, bytes(answer));
+        cases.push(match (word, given.split_once(' ')) {
+            ("sheet", Some((plan, table))) => case("tablesheet").files(bytes(plan), bytes(table)),
+            ("back", None) => case("sheettable").input(bytes(given)),
+            ("plantext", None) => case("plantext").input(bytes(given)),
+            ("textplan", None) => case("textplan").input(bytes(given)),
+            _ => panic!("{word}"),
+        });
     }
     cases
 }
 
-fn limits() -> Vec<Case> {
-    let no_records = |length: usize| vec![0; length];
-    let text = |length: usize| {
-        let mut text = b"cycle 0".to_vec();
-        text.resize(length, b' ');
-        Given::Text(text)
+/// Some of the tables made and checked; the library is run on all of them.
+const ONE_IN: usize = 10;
+
+fn tables() -> Vec<Case> {
+    let words = |line: &'static str| {
+        let (given, answer) = line.split_once(" -> ").expect("an arrow");
+        let [one, two, three] = given.split(' ').collect::<Vec<_>>()[..] else { panic!("{line}") };
+        ([one, two, three], answer)
     };
-    let files = |plan: usize, table: usize| Given::Files([plan, table].map(no_records));
+    let frames = MOST_FRAMES.to_string();
+    let made =
+        MAKE.lines().map(words).filter(|([_, rows, room], _)| *rows == frames && *room == "-");
+    let checked = CHECK.lines().map(words).filter(|([_, _, rows], _)| *rows == frames);
+    let mut cases = Vec::new();
+    for (number, ([plan, ..], answer)) in made.enumerate().step_by(ONE_IN) {
+        let written = match answer.strip_prefix("table ") {
+            Some(table) => bytes(table.split_once(' ').expect("rows").0),
+            None => format!("{answer}\n").into_bytes(),
+        };
+        cases.push(Case::new(&format!("made {number}"), "bustable", written).input(bytes(plan)));
+    }
+    for (number, ([plan, table, _], answer)) in checked.enumerate().step_by(ONE_IN) {
+        let line = answer.split(" rows").next().expect("a line");
+        let case = Case::new(&format!("checked {number}"), "checktable", format!("{line}\n"));
+        cases.push(case.files(bytes(plan), bytes(table)));
+    }
+    cases
+}
+
+/// Beginnings and ends of histories: docs/HISTORY.md has what stands between them.
+fn histories() -> Vec<Case> {
+    let case = |name: &str, written: &str| Case::new(name, "playstation", written);
+    let (plan, table) = made_a();
+    let play = |name: &str, history: &str, written: &str| {
+        case(name, written).files(plan.as_slice(), table.as_slice()).input(history)
+    };
     vec![
-        case("the longest plan", files(LONGEST_FILE, 0), b"refused 1 at 0\n"),
-        case("a plan too long", files(LONGEST_FILE + 1, 0), b"too long\n"),
-        case("the longest table", files(0, LONGEST_FILE), b"refused 1 at 0\n"),
-        case("a table too long", files(0, LONGEST_FILE + 1), b"too long\n"),
-        case("the longest text", text(LONGEST_SHEET), &[16, 0, 0, 0, 0, 0, 0, 0, 0]),
-        case("a text too long", text(LONGEST_SHEET + 1), b"too long\n"),
+        play("a tick", "begin 0=0 1=2\ntick results - modes -\n", "begun\nshown -\n"),
+        play(
+            "a refused tick",
+            "begin 0=0 1=2\ntick results 0=1 modes -\ntick results - modes -\n",
+            "begun\nrefused 41 at 0\nshown -\n",
+        ),
+        play("no history", "tick\n", "unreadable line 1\n"),
     ]
 }
 
-/// Standard output; a program ends well whatever it is given.
-fn output(programs: &Path, under: &[String], folder: &Path, given: &Given) -> Result<Vec<u8>> {
+/// Job A's plan and table.
+fn made_a() -> (Vec<u8>, Vec<u8>) {
+    let made = Made::of(&job_a().bytes()).expect("job A is made");
+    (made.plan, made.table.bytes())
+}
+
+fn limits() -> Vec<Case> {
+    let too_long = |name: &str, program| Case::new(name, program, "too long\n");
+    let no_plan = |name: &str, program| Case::new(name, program, "refused 1 at 0\n");
+    let (longest, longer) = (vec![0; LONGEST_FILE], vec![0; LONGEST_FILE + 1]);
+    let (plan, table) = made_a();
+    let mut cases = vec![
+        no_plan("the longest plan", "bustable").input(longest.clone()),
+        too_long("a plan too long", "bustable").input(longer.clone()),
+        too_long("a history too long", "playstation")
+            .files(plan, table)
+            .input(padded("begin 0=0 1=2\n", LONGEST_TEXT + 1)),
+    ];
+    for program in ["checktable", "tablesheet"] {
+        cases.push(no_plan("the longest plan", program).files(longest.clone(), []));
+        cases.push(too_long("a plan too long", program).files(longer.clone(), []));
+        cases.push(no_plan("the longest table", program).files([], longest.clone()));
+        cases.push(too_long("a table too long", program).files([], longer.clone()));
+    }
+    cases.extend(text_limits());
+    cases
+}
+
+fn text_limits() -> Vec<Case> {
+    let sheet = |length: usize| padded("cycle 0", length);
+    let no_rows = [16, 0, 0, 0, 0, 0, 0, 0, 0];
+    let plan = many_modules();
+    let mut plan_and_more = plan.clone();
+    plan_and_more.push(0);
+    let text = many_modes();
+    let mut read = vec![0; LONGEST_PLAN_READ];
+    text_plan(&text, &mut read).expect("modes are read");
+    let case = |name: &str, program, written: &[u8]| Case::new(name, program, written);
+    vec![
+        case("the longest sheet", "sheettable", &no_rows).input(sheet(LONGEST_TEXT)),
+        case("a sheet too long", "sheettable", b"too long\n").input(sheet(LONGEST_TEXT + 1)),
+        case("the longest plan", "plantext", &text_of(&plan).expect("modules")).input(plan),
+        case("a plan too long", "plantext", b"too long\n").input(plan_and_more),
+        case("the longest text", "textplan", &read).input(text.clone()),
+        case("a text too long", "textplan", b"too long\n").input([text, vec![b'\n']].concat()),
+        case("what is read is too long", "bustable", b"too long\n").input(read),
+    ]
+}
+
+fn padded(text: &str, length: usize) -> Vec<u8> {
+    let mut text = text.as_bytes().to_vec();
+    text.resize(length, b' ');
+    text
+}
+
+/// A plan of the greatest length that keeps the record rules and prints the longest text.
+fn many_modules() -> Vec<u8> {
+    let front = &job_a().bytes()[..19];
+    [front, &[3, 255].repeat((LONGEST_FILE - front.len()) / 2), &[0]].concat()
+}
+
+/// The longest text, which gives the longest plan.
+fn many_modes() -> Vec<u8> {
+    let front = "bus kbit/s 0 overhead-bytes 0 least-payload 0 largest-payload 0 gap-bits 0 resolution 0\nnodes 0\n";
+    let mode = "mode of module 0 period 0 switch 0\n";
+    let modes = mode.repeat((LONGEST_TEXT - front.len()) / mode.len());
+    padded(&format!("{front}{modes}"), LONGEST_TEXT)
+}
+
+/// Standard output, and the status.
+fn run_one(
+    programs: &Path,
+    under: &[String],
+    folder: &Path,
+    case: &Case,
+) -> Result<(Vec<u8>, i32)> {
     let file = |name: &str, bytes: &[u8]| {
         let path = folder.join(name);
         fs::write(&path, bytes).map(|()| path)
     };
     // `env` runs the words behind it, be there something to run under or not.
     let mut command = Command::new("env");
-    command.args(under).stderr(Stdio::inherit());
-    match given {
-        Given::Files([plan, table]) => command
-            .arg(programs.join("tablesheet"))
-            .args([file("plan", plan)?, file("table", table)?])
-            .stdin(Stdio::null()),
-        Given::Text(text) => {
-            command.arg(programs.join("sheettable")).stdin(File::open(file("text", text)?)?)
-        }
-    };
-    let ended = command.output()?;
-    if ended.status.success() { Ok(ended.stdout) } else { Err(Error::other("no good end")) }
+    command.args(under).arg(programs.join(case.program));
+    for (name, bytes) in ["plan", "table"].into_iter().zip(&case.files) {
+        command.arg(file(name, bytes)?);
+    }
+    command.stdin(File::open(file("input", &case.input)?)?);
+    let ended = command.stderr(std::process::Stdio::inherit()).output()?;
+    let status = ended.status.code().ok_or_else(|| Error::other("ended by a signal"))?;
+    Ok((ended.stdout, status))
 }
 
-/// How many cases passed, if all have.
-fn run(words: &[String], folder: &Path) -> Result<usize> {
+/// The beginning of what was written, and how long it is.
+fn shown(bytes: &[u8]) -> String {
+    let first = &bytes[..bytes.len().min(400)];
+    format!("\"{}\" ({} bytes)", first.escape_ascii(), bytes.len())
+}
+
+/// How many cases of each program passed, if all have.
+fn run(words: &[String], folder: &Path) -> Result<BTreeMap<&'static str, usize>> {
     let (programs, under) = words.split_first().expect("the folder of the programs");
-    let mut passed = 0;
-    for Case { name, given, written } in vectors().iter().chain(&limits()) {
-        let output = output(Path::new(programs), under, folder, given)?;
-        if output != *written {
-            let (is, shall) = (output.escape_ascii(), written.escape_ascii());
-            return Err(Error::other(format!("{name}: \"{is}\" is not \"{shall}\"")));
+    let mut passed = BTreeMap::new();
+    for case in [texts(), tables(), histories(), limits()].iter().flatten() {
+        let Case { name, program, written, .. } = case;
+        let (output, status) = run_one(Path::new(programs), under, folder, case)?;
+        if (&output, status) != (written, case.status()) {
+            let (is, shall) = (shown(&output), shown(written));
+            let shall = format!("{shall} with status {}", case.status());
+            let message = format!("{program}, {name}: {is} with status {status} is not {shall}");
+            return Err(Error::other(message));
         }
-        passed += 1;
+        *passed.entry(*program).or_default() += 1;
     }
     Ok(passed)
 }
@@ -102,6 +233,8 @@ fn main() -> Result<()> {
     fs::create_dir_all(&folder)?;
     let passed = run(&words, &folder);
     fs::remove_dir_all(&folder)?;
-    println!("tablesheet, sheettable: {} cases passed", passed?);
+    for (program, cases) in passed? {
+        println!("{program}: {cases} cases passed");
+    }
     Ok(())
 }

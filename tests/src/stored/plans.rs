@@ -1,8 +1,7 @@
 //! Plans: those of the vectors, each read and its table made, and our own, read.
 
 use super::cases::{Case, made};
-
-const VECTORS: &str = include_str!("../../vectors/make.txt");
+use crate::vectors::MAKE;
 
 /// Our own plans, each behind its length in four bytes: the empty file and every other proper prefix of
 /// job A's plan; files that break the order of kinds, with known and unknown kinds; each count, name,
@@ -24,7 +23,7 @@ pub fn own() -> Vec<Case> {
 
 pub fn vectors() -> Vec<Case> {
     let mut cases: Vec<Case> = Vec::new();
-    for made in VECTORS.lines().map(made) {
+    for made in MAKE.lines().map(made) {
         if cases.last().is_none_or(|last| last.plan != made.plan) {
             cases.push(Case::read(&made.plan));
         }

@@ -23,7 +23,7 @@ pub fn all() -> Vec<Stored> {
     ]
 }
 
-fn sheet_of(plan: &[u8], table: &[u8]) -> Vec<u8> {
+pub fn sheet_of(plan: &[u8], table: &[u8]) -> Vec<u8> {
     let mut text = vec![0; LONGEST_SHEET];
     let printed = sheet(plan, table, &mut text);
     text.truncate(printed.length);

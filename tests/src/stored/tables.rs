@@ -4,13 +4,13 @@ use super::cases::{Case, checked};
 use super::jobs;
 use crate::MOST_FRAMES;
 use crate::generate::{Made, Rng, check_case, job_a};
+use crate::vectors::CHECK;
 
-const VECTORS: &str = include_str!("../../vectors/check.txt");
 const SEED: u64 = 5;
 const SEEDED: usize = 60;
 
 pub fn all() -> Vec<Case> {
-    let mut cases: Vec<Case> = VECTORS.lines().map(checked).collect();
+    let mut cases: Vec<Case> = CHECK.lines().map(checked).collect();
     cases.extend(damaged());
     // A start whose sum with the sending time is 2^32 more than its stop.
     cases.push(jobs::moved(0, u32::MAX - 95, 0));
