@@ -1,22 +1,29 @@
 -- How long a line is: at most 42 bytes for each byte of its record, where records are counted with five digits. Item by item, and then one computed
 -- test for each kind. So the longest plan that is read, of 65,536 bytes, has at most 2,752,512 bytes of text.
-use mathlib.Core.Path.{_≡_, refl, subst}
-use mathlib.Core.Bool.{Bool, true, _&&_}
-use mathlib.Core.List.{List, [], _∷_, _++_}
+use mathlib.Core.Path.{_≡_, refl, ap, _∙_, subst}
+use mathlib.Core.Bool.{Bool, true, false, cond, _&&_}
+use mathlib.Core.List.{List, [], _∷_, _++_, map}
 use native.Mathlib.Nat.{lt-of-lt-of-le, pow-zero, pow-succ'}
 use native.Mathlib.Omega.{arith}
 use borrow.Author.Tests.{leb-true}
-use lib.Dec.{leb}
+use lib.Dec.{eqb, leb}
 use lib.ListN.{length, length-append}
 use Prim.Native.Nat.{ℕ, zero, suc, _+_, _-_, _*_, _^_, _≤_, _<_, max}
+use Rattle.laws.specs.Res.{Res, ok, refuse}
+use Rattle.laws.specs.Lists.{joined}
+use Rattle.laws.proofs.Res.{refuse≢ok, ok-injective}
 use Rattle.laws.proofs.Lists.{both-left, both-right}
-use Rattle.rules.specs.Records.{Rec, kinds, fields, bodyLength}
+use Rattle.laws.proofs.Little.{Bytes}
+use Rattle.rules.specs.Records.{Rec, kinds, fields, bodyLength, decoded, recordOf, records, planFollows}
+use Rattle.rules.specs.Obeys.{AreRecords, theEnd, oneMore}
+use Rattle.rules.proofs.RecordsExact.{records-exact}
+use Rattle.rules.proofs.TableFile.{body-fits, body-bytes, rest-bytes}
 use Rattle.text.specs.Text.{ascii, decimal, ended, lineFeed, marked, padLeft, padRight}
 use Rattle.text.proofs.Padded.{decimal-few, left-few, right-few}
 use Rattle.planwords.specs.declared.Item.{Item}
 use Rattle.planwords.specs.declared.Item.the-variants.{Word, Number, End}
 use Rattle.planwords.specs.Items.{spelled, forms, formOf, firstOf, itemsOf, thingOf}
-use Rattle.planwords.specs.PlanText.{itemsText, recordText, countedAs, commentText, planLine}
+use Rattle.planwords.specs.PlanText.{itemsText, recordText, countedAs, commentText, planLine, countOf, planLines, textOf, printed, planText}
 use Rattle.planwords.proofs.LineKinds.{
   PlanKind,
   aBus,
@@ -27,10 +34,12 @@ use Rattle.planwords.proofs.LineKinds.{
   aRun,
   aConnection,
   framedBus,
+  plan-kind,
   Fits,
   fits-none,
   fits-word,
   fits-number,
+  fits-items,
 }
 
 -- a byte takes at most three digits
@@ -122,3 +131,45 @@ line-short {kind} K {ns} f k number h g =
     let comment : length (commentText kind k number) ≤ length (thingOf kind) + 24 = comment-few kind k number h g in
     rw (length-append (padRight 47 (first ++ items) ++ commentText kind k number) lineFeed, length-append (padRight 47 (first ++ items)) (commentText kind k number))
     (omega arith)
+
+-- ---- the whole text
+
+record-short : {kind : ℕ} → PlanKind kind → (body : List ℕ) → Fits (itemsOf kind) (decoded (fields kind) body) → (k number : ℕ) → k < 100000
+    → number < 100000 → length (ended (planLine (recordOf kind body) k number)) ≤ 42 * suc (bodyLength kind)
+unfolding recordOf
+record-short K body f k number h g = line-short K f k number h g
+
+count-few : (previous k kind : ℕ) → countOf previous k kind ≤ k
+unfolding countOf
+count-few previous k kind = go (eqb kind previous)
+  where
+    go : (b : Bool) → cond b k 0 ≤ k
+    go true = omega arith
+    go false = omega arith
+
+lines-short : {previous : ℕ} {file : List ℕ} {rs : List Rec} → AreRecords planFollows previous file rs → Bytes file → (k number : ℕ) → k ≤ number
+    → number + length file < 100000 → length (joined (map ended (planLines previous k number rs))) ≤ 42 * length file
+unfolding planLines recordOf
+lines-short (theEnd s e) h k number few room = omega arith
+lines-short (oneMore {previous} {kind} {file} {rest} {rs} body s z b e r) h k number few room =
+    let before = countOf previous k kind in
+    let counted : before ≤ k = count-few previous k kind in
+    let own : Bytes body = body-bytes kind body rest e h in
+    let fits : Fits (itemsOf kind) (decoded (fields kind) body) = fits-items (plan-kind previous kind (s .isNext) z) (body-fits kind body own b) in
+    let long : length file ≡ suc (length body + length rest) = ap length e ∙ ap suc (length-append body rest) in
+    let line : length (ended (planLine (recordOf kind body) before number)) ≤ 42 * suc (bodyLength kind) =
+    record-short (plan-kind previous kind (s .isNext) z) body fits before number (omega arith) (omega arith) in
+    let others : length (joined (map ended (planLines kind (suc before) (suc number) rs))) ≤ 42 * length rest =
+    lines-short r (rest-bytes kind body rest e h) (suc before) (suc number) (omega arith) (omega arith) in
+    rw (length-append (ended (planLine (recordOf kind body) before number)) (joined (map ended (planLines kind (suc before) (suc number) rs)))) (omega arith)
+
+-- no text of a plan that is read is longer than this
+pub text-short : (file text : List ℕ) → Bytes file → length file ≤ 65536 → planText file ≡ ok text → length text ≤ 2752512
+unfolding planText textOf
+text-short file text h few e = go (records planFollows 1 file) refl e
+  where
+    go : (m : Res (List Rec)) → records planFollows 1 file ≡ m → printed m ≡ ok text → length text ≤ 2752512
+    go (ok rs) q p =
+        let short = lines-short (records-exact planFollows 1 file rs .0 q) h 0 0 (omega arith) (omega arith) in
+        subst (λ (t : List ℕ). length t ≤ 2752512) (ok-injective p) (omega (arith, short))
+    go (refuse n at) q p = refuse≢ok p
