@@ -3,3 +3,4 @@ pub mod Spelled
 pub mod LineKinds
 pub mod LineBack
 pub mod ReadsBack
+pub mod Shorter
