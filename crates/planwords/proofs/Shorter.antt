@@ -1,6 +1,6 @@
 -- A plan is no longer than its text, but for the end record: a line that says a record has at least as many bytes as the record, since each of
 -- its words has one and a blank parts it from the next.
-use mathlib.Core.Path.{_≡_, refl, sym, ap, _∙_, subst}
+use mathlib.Core.Path.{_≡_, refl, sym, ap, subst}
 use mathlib.Core.Bool.{Bool, true, false, cond}
 use mathlib.Core.List.{List, [], _∷_, _++_, map}
 use native.Mathlib.Omega.{arith}
@@ -10,7 +10,6 @@ use Prim.Native.Nat.{ℕ, suc, _+_, _^_, _≤_}
 use Rattle.laws.specs.Lists.{joined}
 use Rattle.rules.specs.Records.{Rec, kinds, fields, planFollows}
 use Rattle.rules.specs.Table.{recordBytes}
-use Rattle.text.specs.Text.{front}
 use Rattle.text.specs.Lines.{blankFirst, blankOr, inFront, isBlank, isOther, isWord, letterFirst, linesOf, orFeed, uncommented, wholeNumber, words}
 use Rattle.text.specs.declared.lines.Whole.{Whole}
 use Rattle.text.specs.declared.lines.Whole.the-variants as whole
