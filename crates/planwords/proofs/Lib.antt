@@ -4,3 +4,4 @@ pub mod LineKinds
 pub mod LineBack
 pub mod ReadsBack
 pub mod Longest
+pub mod Shorter

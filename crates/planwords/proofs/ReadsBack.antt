@@ -147,31 +147,31 @@ prints-differently file other text h g e q =
 -- ---- what is read is a plan
 
 module _ {C : Type 0} where
-  fails≢fits : {why : Reason} {ns : List ℕ} → fails why ≡ fits ns → C
+  pub fails≢fits : {why : Reason} {ns : List ℕ} → fails why ≡ fits ns → C
   fails≢fits e = let z : _≡_ {A = ℕ} 0 1 = cc in absurd (omega arith)
 
-  blank≢says : {r : Rec} → blank ≡ says r → C
+  pub blank≢says : {r : Rec} → blank ≡ says r → C
   blank≢says e = let z : _≡_ {A = ℕ} 0 1 = cc in absurd (omega arith)
 
-  wrong≢says : {why : Reason} {r : Rec} → wrong why ≡ says r → C
+  pub wrong≢says : {why : Reason} {r : Rec} → wrong why ≡ says r → C
   wrong≢says e = let z : _≡_ {A = ℕ} 0 1 = cc in absurd (omega arith)
 
-  unreadable≢plan : {n : ℕ} {why : Reason} {rs : List Rec} → unreadable n why ≡ plan rs → C
+  pub unreadable≢plan : {n : ℕ} {why : Reason} {rs : List Rec} → unreadable n why ≡ plan rs → C
   unreadable≢plan e = let z : _≡_ {A = ℕ} 0 1 = cc in absurd (omega arith)
 
-  unreadable≢file : {n : ℕ} {why : Reason} {file : List ℕ} → unreadableLine n why ≡ planFile file → C
+  pub unreadable≢file : {n : ℕ} {why : Reason} {file : List ℕ} → unreadableLine n why ≡ planFile file → C
   unreadable≢file e = let z : _≡_ {A = ℕ} 0 1 = cc in absurd (omega arith)
 
-fits-injective : {ms ns : List ℕ} → fits ms ≡ fits ns → ms ≡ ns
+pub fits-injective : {ms ns : List ℕ} → fits ms ≡ fits ns → ms ≡ ns
 fits-injective e = cc
 
-says-injective : {r t : Rec} → says r ≡ says t → r ≡ t
+pub says-injective : {r t : Rec} → says r ≡ says t → r ≡ t
 says-injective e = cc
 
-plan-injective : {rs ts : List Rec} → plan rs ≡ plan ts → rs ≡ ts
+pub plan-injective : {rs ts : List Rec} → plan rs ≡ plan ts → rs ≡ ts
 plan-injective e = cc
 
-file-injective : {f g : List ℕ} → planFile f ≡ planFile g → f ≡ g
+pub file-injective : {f g : List ℕ} → planFile f ≡ planFile g → f ≡ g
 file-injective e = cc
 
 -- a number that was taken fits its bytes, and the rest was taken too
@@ -193,7 +193,7 @@ word-taken : (name : Name) (items : List Item) (b : Bool) (rest : Matched) (ns :
 word-taken name items true rest ns others e = fits-word (others ns e)
 word-taken name items false rest ns others e = fails≢fits e
 
-matched-fits : (items : List Item) (ws : List (List ℕ)) (ns : List ℕ) → matched items ws ≡ fits ns → Fits items ns
+pub matched-fits : (items : List Item) (ws : List (List ℕ)) (ns : List ℕ) → matched items ws ≡ fits ns → Fits items ns
 unfolding matched
 matched-fits [] [] ns e = subst (Fits []) (fits-injective e) fits-none
 matched-fits [] (w ∷ ws) ns e = fails≢fits e

@@ -5,7 +5,7 @@ ghost use Prim.Native.Nat.{_-_, _≤_};
 ghost use lib.ListN.{length, take, drop};
 ghost use Rattle.records.specs.Reader.{nextAt};
 
-mod kinds;
+pub mod kinds;
 mod reader;
 
 use reader::Reader;

@@ -27,23 +27,6 @@ use Rattle.sheetreader.specs.declared.Taken.the-variants.{Number, Wrong}
 use Rattle.sheetreader.specs.declared.Numbers.{Numbers}
 use Rattle.sheetreader.specs.Memory.{endedWith, formsLaid, numbersLaid, takenAt, takenFrom, takenWith}
 
--- ---- one word
-
-module _ (s : List ℕ) (at : ℕ) {found : Word} (next-is : found ≡ nextWord s at) where
-  found-words : (w : Word) → found ≡ w → WordsFrom s at w
-  found-words w e = rw (← e, next-is) (words-from s at)
-
-  pub none-found : found ≡ None → words (drop at s) ≡ []
-  none-found e = found-words None e
-
-  module _ {from to : ℕ} (e : found ≡ Stands from to) where
-    pub word-found : words (drop at s) ≡ take (to - from) (drop from s) ∷ words (drop to s)
-    word-found = found-words (Stands from to) e .0
-
-    -- the word is a part of the line
-    pub part-found : (from ≤ to) × (to ≤ length s)
-    part-found = let w = found-words (Stands from to) e in (omega (arith, w .1), omega (arith, w .2))
-
 -- ---- a sign in front
 
 module _ (s : List ℕ) {found : End} (read : found ≡ behindWord s 0 dash) where

@@ -4,8 +4,8 @@ use mathlib.Core.Bool.{Bool, true, false, cond, true≢false}
 use mathlib.Core.List.{List, [], _∷_, _++_}
 use mathlib.Core.Option.{Option, none, some}
 use native.Mathlib.Omega.{arith}
-use lib.ListN.{length, take}
-use Prim.Native.Nat.{ℕ, _+_, _<_}
+use lib.ListN.{length}
+use Prim.Native.Nat.{ℕ, _<_}
 use Rattle.laws.specs.Loops.{padTo}
 use Rattle.laws.proofs.Lists.{length-snoc, getD-padTo}
 use Rattle.laws.proofs.Arrays.{placed-column}
@@ -13,8 +13,7 @@ use Rattle.rules.specs.Limits.{mostNodes, mostFrames}
 use Rattle.rules.specs.Plan.{nth}
 use Rattle.rules.specs.Frames.{ControlRow}
 use Rattle.rules.specs.Table.{DataRow}
-use Rattle.text.specs.Lines.{isOther, uncommented, words}
-use Rattle.text.proofs.Runs.{front-taken}
+use Rattle.text.specs.Lines.{uncommented, words}
 use Rattle.sheet.specs.declared.Kind.{Kind}
 use Rattle.sheet.specs.declared.Kind.the-variants as kind
 use Rattle.sheet.proofs.Pinned.{number-within}
@@ -98,11 +97,6 @@ module _ (k : Kind) (ws : List (List ℕ)) {r : Numbers} (read : r ≡ numbersLa
       go (some ns) q = absurd (true≢false (sym (fine-is (some ns) q) ∙ e))
 
 -- ---- what a line adds
-
--- the part in front of the comment
-pub uncommented-part : (line : List ℕ) {end : ℕ} → end ≡ length (uncommented line) → take end line ≡ uncommented line
-unfolding uncommented
-uncommented-part line e = rw e (front-taken (isOther 35) line)
 
 -- what was read with what a line says
 abbrev pub more : Said → SoFar → SoFar

@@ -13,12 +13,12 @@ use Prim.Native.Nat.{ℕ, zero, suc, _+_, _-_, _^_, _≤_, _<_}
 use Rattle.laws.specs.Lists.{all, tab}
 use Rattle.laws.proofs.Lists.{tab-more, both-left, both-right}
 use Rattle.text.specs.Text.{runOn, front, spaces, padLeft, padRight, texts, decimal, isDigit, readDecimal, numberAt, digitRun}
-use Rattle.text.specs.Lines.{runEnd, isOther, isBlank, isLetter, blankFirst, letterFirst, words, wordFrom, nextWord, wholeNumber}
+use Rattle.text.specs.Lines.{runEnd, isOther, isBlank, isLetter, blankFirst, letterFirst, words, wordFrom, nextWord, uncommented, wholeNumber}
 use Rattle.text.specs.declared.lines.Word.{Word}
 use Rattle.text.specs.declared.lines.Word.the-variants.{Stands, None}
 use Rattle.text.specs.declared.lines.Whole.the-variants as whole
 use Rattle.text.specs.declared.Number.the-variants as number
-use Rattle.text.proofs.Runs.{front-over, run-part}
+use Rattle.text.proofs.Runs.{front-over, front-taken, run-part}
 use Rattle.text.proofs.Decimals.{value-decimal, all-decimal, decimal-long}
 use Rattle.text.proofs.Reading.{all-read}
 
@@ -132,6 +132,30 @@ words-from s at =
     let skipped : words (drop at s) ≡ words (drop from s) = blanks-passed (drop at s) ∙ ap words there in
     behind-blanks (drop at s) (λ e. none-stands s at from (omega arith) skipped (sym there ∙ e))
     (λ b r e letter. one-stands s at from (omega arith) skipped b r (sym there ∙ e) letter)
+
+-- what was found, by its cases
+module _ (s : List ℕ) (at : ℕ) {found : Word} (next-is : found ≡ nextWord s at) where
+  found-words : (w : Word) → found ≡ w → WordsFrom s at w
+  found-words w e = rw (← e, next-is) (words-from s at)
+
+  pub none-found : found ≡ None → words (drop at s) ≡ []
+  none-found e = found-words None e
+
+  module _ {from to : ℕ} (e : found ≡ Stands from to) where
+    pub word-found : words (drop at s) ≡ take (to - from) (drop from s) ∷ words (drop to s)
+    word-found = found-words (Stands from to) e .0
+
+    -- the word is a part of the line, further on
+    pub part-found : (from ≤ to) × (to ≤ length s)
+    part-found = let w = found-words (Stands from to) e in (omega (arith, w .1), omega (arith, w .2))
+
+    pub later-found : at < to
+    later-found = let w = found-words (Stands from to) e in omega (arith, w .1, w .3)
+
+-- the part in front of the comment
+pub uncommented-part : (line : List ℕ) {end : ℕ} → end ≡ length (uncommented line) → take end line ≡ uncommented line
+unfolding uncommented
+uncommented-part line e = rw e (front-taken (isOther 35) line)
 
 -- the word is found by its places, or there is none
 pub next-found : (s : List ℕ) (at : ℕ) {from to : ℕ} → from ≡ runEnd isBlank s at → from < length s → to ≡ runEnd isLetter s from → Stands from to ≡ nextWord s at

@@ -1,5 +1,5 @@
 -- Two cases of what stands next (`none-found`, `word-found`).
-use Rattle.sheetreader.proofs.Numbering.{none-found, word-found}
+use Rattle.text.proofs.Words.{none-found, word-found}
 use borrow.Author.Needs.{needs}
 use Rattle.sheetreader.proofs.ended.Statement.{statement}
 use Rattle.sheetreader.proofs.ended.Tie as tie

@@ -2,7 +2,7 @@
 use mathlib.Core.Path.{sym}
 use lib.Seq.{length-take-le}
 use denote.Ref.{now}
-use Rattle.sheetreader.proofs.Sayings.{uncommented-part}
+use Rattle.text.proofs.Words.{uncommented-part}
 use Rattle.sheetreader.specs.Memory.{lineSaid}
 use borrow.Author.Needs.{needs}
 use Rattle.sheetreader.proofs.line_said.Statement.{statement}

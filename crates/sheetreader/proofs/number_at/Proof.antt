@@ -1,5 +1,5 @@
 -- The word that stands next is a part of the line (`part-found`); its number, by cases, as `takenAt` has it.
-use Rattle.sheetreader.proofs.Numbering.{part-found}
+use Rattle.text.proofs.Words.{part-found}
 use Rattle.sheetreader.specs.Memory.{takenAt}
 use borrow.Author.Needs.{needs}
 use Rattle.sheetreader.proofs.number_at.Statement.{statement}

@@ -1,6 +1,6 @@
 -- No word, or a first one that tells the kind (`word-found`); then by the test whether the kind may stand.
 use denote.Ref.{now}
-use Rattle.sheetreader.proofs.Numbering.{none-found, word-found, part-found}
+use Rattle.text.proofs.Words.{none-found, word-found, part-found}
 use borrow.Author.Needs.{needs}
 use Rattle.sheetreader.proofs.words_said.Statement.{statement}
 use Rattle.sheetreader.proofs.words_said.Tie as tie
