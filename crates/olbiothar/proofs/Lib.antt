@@ -1,5 +1,6 @@
 pub mod Beginning
 pub mod Stored
+pub mod Reading
 pub mod Shown
 pub mod Filling
 pub mod FewFrames

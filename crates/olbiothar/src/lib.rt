@@ -9,15 +9,23 @@ ghost use Rattle.olbiothar.specs.Scanned.{Scans};
 ghost use Rattle.rules.specs.Station.{begin};
 ghost use Rattle.stationruns.specs.Inputs.{startingAt};
 ghost use Rattle.olbiothar.specs.Playing.{BeginsIn, Ticks, begunBy};
+ghost use Rattle.station.specs.Memory.{keptOf, stateOf};
+ghost use Rattle.outward.specs.Seen.{moduleNow, taskNow, timeNow};
 ghost use Rattle.olbiothar.specs.Sheets.{backSaid, hasRoom, isRead, sheetLeft, sheetSaid, tableLeft, tableSaid};
 use answers::Verdict;
 use checker::CheckedRows;
 use outward::Answer;
+use outward::ModuleNow;
+use outward::TaskNow;
 use outward::TickAnswer;
+use outward::TimeNow;
 use outward::answer_before_nodes;
 use outward::judged;
 use outward::made;
+use outward::module_now;
 use outward::refused;
+use outward::task_now;
+use outward::time_now;
 use rows::passes::clear;
 use rows::passes::fill;
 use rows::passes::some_early;
@@ -162,6 +170,30 @@ pub extern "C" fn olbiothar_tick(station: &mut Station, input: Input) -> TickAns
         station.nodes = nodes_after_tick(station.nodes, station.fixed, first.part);
     }
     first.tick
+}
+
+// The bus time of the tick to come, and the bus period, of a station that has begun. Any numbers may stand in the station, here and below.
+#[no_mangle]
+pub extern "C" fn olbiothar_time(station: &Station) -> TimeNow
+    ensures { λ r. ⌜ r ≡ timeNow (keptOf (now (station .entry))) (stateOf (now (station .entry))) ⌝ }
+{
+    time_now(station.fixed, station.play)
+}
+
+// A module's node, the mode that runs, and the time since that mode began.
+#[no_mangle]
+pub extern "C" fn olbiothar_module(station: &Station, m: u8) -> ModuleNow
+    ensures { λ r. ⌜ r ≡ moduleNow (keptOf (now (station .entry))) (stateOf (now (station .entry))) m ⌝ }
+{
+    module_now(station.fixed, station.play, m)
+}
+
+// A task's module, whether it awaits a result, and how many ticks may still pass without it.
+#[no_mangle]
+pub extern "C" fn olbiothar_task(station: &Station, t: u8) -> TaskNow
+    ensures { λ r. ⌜ r ≡ taskNow (keptOf (now (station .entry))) (stateOf (now (station .entry))) t ⌝ }
+{
+    task_now(station.fixed, station.play, &station.runs, t)
 }
 
 // A sheet: what check says of plan and table, and how long the text is.

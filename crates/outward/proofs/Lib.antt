@@ -1,1 +1,3 @@
 pub mod Ticking
+pub mod Seen
+pub mod Asked

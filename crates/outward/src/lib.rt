@@ -1,21 +1,36 @@
-// Answers, rows and ticks in the numbers that C has: C has no enums that carry values.
+// Answers, rows and ticks in the numbers that C has, which has no enums that carry values; and what may be asked of a station.
 ghost use mathlib.Core.Path.{_≡_};
+ghost use Prim.Native.Nat.{_-_};
 ghost use Rattle.answers.specs.Refusals.{said, heard};
 ghost use Rattle.linetable.specs.Making as making;
 ghost use Rattle.outward.specs.Answers.{answerOf, madeOf};
 ghost use Rattle.outward.specs.Numbers.{CompletesWith, answerSaid, rowFor, rowSaid};
+ghost use Rattle.outward.specs.Seen.{leftOf, moduleAt, moduleBy, taskAt, taskBy, timeBy};
 ghost use Rattle.station.specs.Parts.{stationBy};
+ghost use Rattle.stationruns.specs.Runs.{sinceRelease};
 use answers::Refusal;
 use answers::Verdict;
+use figures::both;
+use figures::place;
+use figures::rest;
+use places::byte_at;
+use places::flag_at;
+use places::flag_byte;
+use places::number_at;
 use station::BeforeNodes;
 use station::tick_before_nodes;
 use stationmoves::Said;
 use stationrefusals::Fixed;
 use stationrefusals::Play;
 use stationruns::Input;
+use stationruns::Run;
+use stationruns::is_awaited;
+use stationruns::run_at;
 use units::Frame;
 use units::ModeNo;
+use units::ModuleNo;
 use units::TaskNo;
+use units::Ticks;
 
 // Number 0: not refused; the place is then what was made, or 0. Else the refusal's number and its place.
 #[repr(C)]
@@ -168,5 +183,151 @@ pub fn answer_before_nodes<'a>(
             row: row_said(said),
         },
         part,
+    }
+}
+
+// What may be asked of a station. All is zero where it has not begun, or has no such module or task.
+#[repr(C)]
+pub struct TimeNow {
+    pub begun: u8,
+    pub clock: u32,
+    pub period: u32,
+}
+
+// The time: a station that has begun has a bus period.
+pub fn time_now(fixed: Fixed, play: Play) -> TimeNow
+    ensures { λ r. ⌜ r ≡ timeBy fixed play ⌝ }
+{
+    if 0 < fixed.period.0 {
+        TimeNow {
+            begun: 1,
+            clock: play.clock.0,
+            period: fixed.period.0,
+        }
+    } else {
+        TimeNow {
+            begun: 0,
+            clock: 0,
+            period: 0,
+        }
+    }
+}
+
+// A module's node, the mode that runs, and the time since that mode began.
+#[repr(C)]
+pub struct ModuleNow {
+    pub there: u8,
+    pub node: u8,
+    pub mode: u8,
+    pub age: u32,
+}
+
+fn module_at<'a>(
+    sites: &'a [u8; ModuleNo::MOST],
+    running: &'a [u8; ModuleNo::MOST],
+    ages: &'a [u32; ModuleNo::MOST],
+    m: usize,
+) -> ModuleNow
+    ensures { λ r. ⌜ r ≡ moduleAt (now (sites .entry)) (now (running .entry)) (now (ages .entry)) m ⌝ }
+{
+    ModuleNow {
+        there: 1,
+        node: byte_at(sites, m) as u8,
+        mode: byte_at(running, m) as u8,
+        age: number_at(ages, m),
+    }
+}
+
+pub fn module_now(fixed: Fixed, play: Play, m: u8) -> ModuleNow
+    ensures { λ r. ⌜ r ≡ moduleBy fixed play m ⌝ }
+{
+    if both(0 < fixed.period.0, m < fixed.modules.count) {
+        module_at(&fixed.modules.sites, &play.running, &play.ages, place(m))
+    } else {
+        ModuleNow {
+            there: 0,
+            node: 0,
+            mode: 0,
+            age: 0,
+        }
+    }
+}
+
+// A task's module, whether a result is awaited, and how many ticks may still pass without it.
+#[repr(C)]
+pub struct TaskNow {
+    pub there: u8,
+    pub home: u8,
+    pub awaits: u8,
+    pub left: u32,
+}
+
+fn less(a: u32, b: u32) -> u32
+    ensures { λ r. ⌜ r ≡ a - b ⌝ }
+{
+    if b < a { a - b } else { 0 }
+}
+
+fn left(awaited: bool, run: Run, worst: Ticks) -> u32
+    ensures { λ r. ⌜ r ≡ leftOf awaited (worst .0) (sinceRelease run) ⌝ }
+{
+    if awaited {
+        let passed = rest(less(run.age.0, 1), run.period.0);
+        less(less(worst.0, passed), 1)
+    } else {
+        0
+    }
+}
+
+fn task_at<'a>(
+    t: TaskNo,
+    tasks: u8,
+    runs: &'a [u32; ModeNo::MOST * TaskNo::MOST],
+    running: &'a [u8; ModuleNo::MOST],
+    ages: &'a [u32; ModuleNo::MOST],
+    homes: &'a [u8; TaskNo::MOST],
+    had: &'a [u8; TaskNo::MOST],
+    worsts: &'a [u32; TaskNo::MOST],
+) -> TaskNow
+    ensures { λ r. ⌜ r ≡ taskAt tasks (now (runs .entry)) (now (running .entry)) (now (ages .entry)) (now (homes .entry)) (now (had .entry)) (now (worsts .entry)) (t .0) ⌝ }
+{
+    let run = run_at(runs, running, ages, homes, t);
+    let k = place(t.0);
+    let worst = Ticks(number_at(worsts, k));
+    let awaited = is_awaited(true, run, t.0 < tasks, flag_at(had, k), worst);
+    TaskNow {
+        there: 1,
+        home: byte_at(homes, k) as u8,
+        awaits: flag_byte(awaited),
+        left: left(awaited, run, worst),
+    }
+}
+
+pub fn task_now<'a>(
+    fixed: Fixed,
+    play: Play,
+    runs: &'a [u32; ModeNo::MOST * TaskNo::MOST],
+    t: u8,
+) -> TaskNow
+    ensures { λ r. ⌜ r ≡ taskBy fixed play (now (runs .entry)) t ⌝ }
+{
+    if both(0 < fixed.period.0, t < fixed.tasks.count) {
+        task_at(
+            TaskNo(t),
+            fixed.tasks.count,
+            runs,
+            &play.running,
+            &play.ages,
+            &fixed.tasks.homes,
+            &play.givens,
+            &fixed.tasks.worsts,
+        )
+    } else {
+        TaskNow {
+            there: 0,
+            home: 0,
+            awaits: 0,
+            left: 0,
+        }
     }
 }
