@@ -161,7 +161,8 @@ typedef struct olbiothar_node {
  * olbiothar_time, olbiothar_module and olbiothar_task say what a caller needs from tick to tick, and `nodes[n].shown[t]` is what node n
  * shows of task t. All other fields may be read too; what stands in them is said here, in the words of section 8 of docs/RULES.md.
  * Any numbers may stand in a station that is ticked, also in one that was kept elsewhere and read back: one outside its range (rule 8.19)
- * makes the tick answer 40 at 0. Flags are set where the byte is not 0, and stored as 0 or 1.
+ * makes the tick answer 40 at 0. Flags are set where the byte is not 0, and stored as 0 or 1. What lies between the fields may be anything:
+ * two stations are compared field by field.
  *
  * A pair is a frame: a bus task with one deadline. Pair q and the arrays `pair_..` go by the frame's number. */
 typedef struct olbiothar_station {

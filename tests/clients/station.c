@@ -164,10 +164,11 @@ static uint8_t first_not_awaited(void) {
 
 static void try_refused(olbiothar_input input, uint32_t number, uint8_t task) {
     static olbiothar_station before;
-    memcpy(&before, &station, sizeof before);
+    before = station;
     olbiothar_answer answer = olbiothar_tick(&station, input).answer;
     EXPECT(answer.number == number && answer.place == task);
-    EXPECT(memcmp(&before, &station, sizeof before) == 0);
+    EXPECT(station.play.clock == before.play.clock && memcmp(station.play.out, before.play.out, sizeof before.play.out) == 0);
+    EXPECT(memcmp(station.nodes, before.nodes, sizeof before.nodes) == 0);
 }
 
 /* What the station says of its tasks is what its tick refuses. */

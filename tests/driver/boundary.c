@@ -5,6 +5,7 @@
  * That the structs have the sizes, alignments and offsets of the library is asserted in the header, which is compiled here.
  */
 #include "olbiothar.h"
+#include "same.h"
 
 #include <stdio.h>
 #include <stdlib.h>
@@ -176,22 +177,6 @@ static olbiothar_station begun_by_hand(void) {
     return s;
 }
 
-#define SAME(field) (memcmp(&a->field, &b->field, sizeof a->field) == 0)
-
-static int same_kept(const olbiothar_station *a, const olbiothar_station *b) {
-    return SAME(fixed.modules.count) && SAME(fixed.modules.sites) && SAME(fixed.modules.sending) && SAME(fixed.modes.count) &&
-           SAME(fixed.modes.homes) && SAME(fixed.modes.periods) && SAME(fixed.modes.switches) && SAME(fixed.tasks.count) &&
-           SAME(fixed.tasks.homes) && SAME(fixed.tasks.sizes) && SAME(fixed.tasks.worsts) &&
-           SAME(fixed.controls.count) && SAME(fixed.controls.nodes) && SAME(fixed.controls.starts) && SAME(fixed.controls.stops) &&
-           SAME(fixed.period) && SAME(fixed.pairs) && SAME(runs) && SAME(pair_tasks) && SAME(pair_deadlines) && SAME(pair_starts) &&
-           SAME(pair_stops) && SAME(pair_modes);
-}
-
-static int same_state(const olbiothar_station *a, const olbiothar_station *b) {
-    return SAME(play.clock) && SAME(play.running) && SAME(play.ages) && SAME(play.bytes) && SAME(play.givens) && SAME(play.out) &&
-           SAME(play.held) && SAME(play.full) && SAME(play.loads) && SAME(nodes);
-}
-
 /* A tick; both tasks get their result at time 1. */
 static olbiothar_tick_answer play(olbiothar_station *station, uint32_t time) {
     olbiothar_input input = {.results = {VALUE, VALUE + 1}, .given = {time == 1, time == 1}};
@@ -202,7 +187,7 @@ static void fields(olbiothar_station *station) {
     olbiothar_station by_hand = begun_by_hand();
     memset(station, 0xff, sizeof *station);
     HOLDS(is(olbiothar_begin(plan, plan_length, table, LENGTH, two_modes, station), OLBIOTHAR_DONE, 0));
-    HOLDS(same_kept(station, &by_hand) && same_state(station, &by_hand));
+    HOLDS(same_station(station, &by_hand));
     for (uint32_t time = 0; time < FRAME_STARTS; time++) HOLDS(is(play(station, time).answer, OLBIOTHAR_DONE, 0));
     olbiothar_station sent = *station;
     olbiothar_row row = play(&sent, FRAME_STARTS).row;
@@ -219,21 +204,25 @@ static void fields(olbiothar_station *station) {
         by_hand.play.held[node * OLBIOTHAR_MODULES] = MODE;
         by_hand.nodes[node].landed[0] = by_hand.nodes[node].shown[0] = VALUE;
     }
-    HOLDS(same_kept(&sent, &by_hand) && same_state(&sent, &by_hand));
+    HOLDS(same_station(&sent, &by_hand));
 }
 
-/* A refused beginning leaves every byte of the station, whatever stands there. */
+static void begin_refused(olbiothar_station *station) {
+    HOLDS(is(olbiothar_begin(plan, plan_length - 1, table, LENGTH, two_modes, station), OLBIOTHAR_BAD_RECORDS, plan_length - 1));
+    HOLDS(is(olbiothar_begin(plan, plan_length, table, LENGTH - 1, two_modes, station), OLBIOTHAR_BAD_TABLE_RECORDS, LENGTH - 1));
+    HOLDS(is(olbiothar_begin(plan, plan_length, table, LENGTH, no_modes, station), OLBIOTHAR_NOT_BEGUN, 0));
+}
+
+/* A refused beginning leaves a station that has begun, and whatever bytes stand where there is none. */
 static void refused_beginnings(const olbiothar_station *station) {
-    static olbiothar_station kept, any, before;
+    static olbiothar_station kept, any;
+    kept = *station;
+    begin_refused(&kept);
+    HOLDS(same_station(&kept, station));
     memset(&any, 0xa5, sizeof any);
-    for (unsigned of_any = 0; of_any < 2; of_any++) {
-        memcpy(&kept, of_any ? &any : station, sizeof kept);
-        memcpy(&before, &kept, sizeof kept);
-        HOLDS(is(olbiothar_begin(plan, plan_length - 1, table, LENGTH, two_modes, &kept), OLBIOTHAR_BAD_RECORDS, plan_length - 1));
-        HOLDS(is(olbiothar_begin(plan, plan_length, table, LENGTH - 1, two_modes, &kept), OLBIOTHAR_BAD_TABLE_RECORDS, LENGTH - 1));
-        HOLDS(is(olbiothar_begin(plan, plan_length, table, LENGTH, no_modes, &kept), OLBIOTHAR_NOT_BEGUN, 0));
-        HOLDS(memcmp(&before, &kept, sizeof kept) == 0);
-    }
+    memset(&kept, 0xa5, sizeof kept);
+    begin_refused(&kept);
+    HOLDS(memcmp(&kept, &any, sizeof any) == 0);
 }
 
 static int time_is(const olbiothar_station *station, uint8_t begun, uint32_t clock, uint32_t period) {
@@ -362,7 +351,7 @@ static void any_station(const olbiothar_station *station) {
         said_of_any(&before, answer);
         HOLDS(answer.number == OLBIOTHAR_DONE || (answer.number >= OLBIOTHAR_NOT_BEGUN && answer.number <= OLBIOTHAR_CHANGE_NOT_ALLOWED));
         if (changed == sizeof ticked) HOLDS(is(answer, OLBIOTHAR_NOT_BEGUN, 0));
-        if (answer.number != OLBIOTHAR_DONE) HOLDS(same_kept(&ticked, &before) && same_state(&ticked, &before));
+        if (answer.number != OLBIOTHAR_DONE) HOLDS(same_station(&ticked, &before));
     }
 }
 

@@ -24,6 +24,7 @@
  */
 #define _GNU_SOURCE
 #include "olbiothar.h"
+#include "same.h"
 
 #include <stdio.h>
 #include <stdlib.h>
@@ -190,13 +191,13 @@ static void begin(void) {
     take_file(&table, table_length);
     take(starting.modes, sizeof starting.modes);
     take(starting.given, sizeof starting.given);
-    memcpy(&before, station, sizeof before);
+    before = *station;
     olbiothar_answer answer =
         olbiothar_begin(plan.memory.lent, plan_length, table.memory.lent, table_length, starting, station);
     look_unchanged(&plan);
     look_unchanged(&table);
     look_before(&station_memory);
-    if (answer.number != OLBIOTHAR_DONE && memcmp(&before, station, sizeof before) != 0) fail("a refused beginning changed the station");
+    if (answer.number != OLBIOTHAR_DONE && !same_station(&before, station)) fail("a refused beginning changed the station");
     give_answer(answer);
 }
 
@@ -247,11 +248,11 @@ static void give_tasks(void) {
 
 static void now(void) {
     static olbiothar_station before;
-    memcpy(&before, station, sizeof before);
+    before = *station;
     give_time();
     give_modules();
     give_tasks();
-    if (memcmp(&before, station, sizeof before) != 0) fail("a station that is only read changed");
+    if (!same_station(&before, station)) fail("a station that is only read changed");
 }
 
 static void sheet(void) {
