@@ -1,0 +1,13 @@
+-- Plans as text in C's numbers (rules 19.6 and 20.8).
+use Rattle.planreader.specs.declared.Back.{Back}
+use Rattle.planreader.specs.declared.Back.the-variants.{Needs, Plan, TooLong, Unreadable}
+use Rattle.planreader.specs.Memory.{longestText}
+use Rattle.reasons.specs.Numbers.{reasonNumber}
+use Rattle.olbiothar.specs.declared.texts.PlanAnswer.{PlanAnswer}
+
+-- a plan that was read from a text: its length; the line and the reason; the bytes needed; the bytes that are read
+abbrev pub planSaid : Back → PlanAnswer
+planSaid (Plan length) = record { answer = record { number = 0; place = length }; reason = 0 }
+planSaid (Unreadable line why) = record { answer = record { number = 60; place = line }; reason = reasonNumber why }
+planSaid (Needs bytes) = record { answer = record { number = 13; place = bytes }; reason = 0 }
+planSaid TooLong = record { answer = record { number = 61; place = longestText }; reason = 0 }
