@@ -3,3 +3,4 @@ pub mod Playing
 pub mod Scanned
 pub mod Sheets
 pub mod Texts
+pub mod Words

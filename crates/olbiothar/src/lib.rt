@@ -12,6 +12,7 @@ ghost use Rattle.olbiothar.specs.Playing.{BeginsIn, Ticks, begunBy};
 ghost use Rattle.station.specs.Memory.{keptOf, stateOf};
 ghost use Rattle.outward.specs.Seen.{moduleNow, taskNow, timeNow};
 ghost use Rattle.olbiothar.specs.Sheets.{backSaid, hasRoom, isRead, sheetLeft, sheetSaid, tableLeft, tableSaid};
+
 mod texts;
 
 use answers::Verdict;

@@ -1,10 +1,16 @@
-// Plans as text (docs/RULES.md, sections 19 and 20), in C's numbers.
+// Plans as text (docs/RULES.md, sections 19 and 20) in C's numbers, and numbers in words.
 ghost use mathlib.Core.Path.{_≡_};
 ghost use Rattle.planreader.specs.Memory as reading;
+ghost use Rattle.meanings.specs.Meanings.{meaning};
+ghost use Rattle.reasons.specs.Numbers.{reasonWords};
 ghost use Rattle.olbiothar.specs.Texts.{planSaid};
+ghost use Rattle.olbiothar.specs.Words.{holdsWords, wordsLeft, wordsSaid};
+use meanings::put_meaning;
 use outward::Answer;
 use planreader::Back;
 use reasons::number_of;
+use reasons::put_words;
+use text::put_bytes;
 
 // A plan from a text: the answer, and beside 60 the number of the reason.
 #[repr(C)]
@@ -56,4 +62,36 @@ pub extern "C" fn olbiothar_text_plan(text: &[u8], plan: &mut [u8]) -> PlanAnswe
 {
     let back = planreader::read(text, plan);
     plan_said(back)
+}
+
+// As many bytes have to be lent for words.
+const LONGEST_WORDS: usize = 128;
+
+// The words of an answer's number, at the front of the lent bytes, then a zero byte; their length without it. Where there is no room for the
+// longest nothing is written, and the length is 0.
+#[no_mangle]
+pub extern "C" fn olbiothar_words(number: u32, text: &mut [u8]) -> u64
+    ensures { λ r. ⌜ r ≡ wordsSaid (holdsWords (now (text .entry))) (meaning number) ⌝ }
+    ensures { λ r. ⌜ now (text .exit) ≡ wordsLeft (holdsWords (now (text .entry))) (now (text .entry)) (meaning number) ⌝ }
+{
+    if text.len() < LONGEST_WORDS {
+        return 0;
+    }
+    let end = put_meaning(&mut *text, 0, number);
+    put_bytes(&mut *text, end, b"\0");
+    end as u64
+}
+
+// The same of a reason's number.
+#[no_mangle]
+pub extern "C" fn olbiothar_reason_words(reason: u32, text: &mut [u8]) -> u64
+    ensures { λ r. ⌜ r ≡ wordsSaid (holdsWords (now (text .entry))) (reasonWords reason) ⌝ }
+    ensures { λ r. ⌜ now (text .exit) ≡ wordsLeft (holdsWords (now (text .entry))) (now (text .entry)) (reasonWords reason) ⌝ }
+{
+    if text.len() < LONGEST_WORDS {
+        return 0;
+    }
+    let end = put_words(&mut *text, 0, reason);
+    put_bytes(&mut *text, end, b"\0");
+    end as u64
 }
