@@ -8,3 +8,4 @@ pub mod MakeRules
 pub mod CheckRules
 pub mod Unique
 pub mod Sheets
+pub mod Words

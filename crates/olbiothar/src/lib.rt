@@ -11,9 +11,11 @@ ghost use Rattle.stationruns.specs.Inputs.{startingAt};
 ghost use Rattle.olbiothar.specs.Playing.{BeginsIn, Ticks, begunBy};
 ghost use Rattle.station.specs.Memory.{keptOf, stateOf};
 ghost use Rattle.outward.specs.Seen.{moduleNow, taskNow, timeNow};
+ghost use Rattle.olbiothar.specs.Words.{holdsWords, wordsLeft, wordsSaid};
 ghost use Rattle.olbiothar.specs.Sheets.{backSaid, hasRoom, isRead, sheetLeft, sheetSaid, tableLeft, tableSaid};
 use answers::Verdict;
 use checker::CheckedRows;
+use meanings::put_meaning;
 use outward::Answer;
 use outward::ModuleNow;
 use outward::TaskNow;
@@ -36,6 +38,7 @@ use station::Station;
 use station::nodes_after_tick;
 use stationruns::Input;
 use stationruns::Starting;
+use text::put_bytes;
 use units::ByteCount;
 use units::Frame;
 
@@ -260,4 +263,22 @@ pub extern "C" fn olbiothar_sheet_table(text: &[u8], table: &mut [u8]) -> Answer
     }
     let back = sheetreader::read_back(text, table);
     read_said(back)
+}
+
+// The longest words of a number, with the zero byte behind them.
+const LONGEST_WORDS: usize = 101;
+
+// The words of an answer's number, at the front of the lent bytes, then a zero byte; their length without it. Where there is no room for the
+// longest nothing is written, and the length is 0.
+#[no_mangle]
+pub extern "C" fn olbiothar_words(number: u32, text: &mut [u8]) -> u64
+    ensures { λ r. ⌜ r ≡ wordsSaid (holdsWords (now (text .entry))) number ⌝ }
+    ensures { λ r. ⌜ now (text .exit) ≡ wordsLeft (holdsWords (now (text .entry))) (now (text .entry)) number ⌝ }
+{
+    if text.len() < LONGEST_WORDS {
+        return 0;
+    }
+    let end = put_meaning(&mut *text, 0, number);
+    put_bytes(&mut *text, end, b"\0");
+    end as u64
 }
