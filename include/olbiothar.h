@@ -40,7 +40,7 @@ enum {
     /* No sheet is longer, and no longer text is read, as a sheet or as a plan. */
     OLBIOTHAR_LONGEST_SHEET = 262144,
     /* As many bytes are lent for words, their zero byte among them. */
-    OLBIOTHAR_LONGEST_WORDS = 128
+    OLBIOTHAR_LONGEST_WORDS = 101
 };
 
 /* Bytes of stack that a call takes at most, below its caller's own variables: arguments that go by the stack, the function, and all that
@@ -50,14 +50,14 @@ enum {
 #define OLBIOTHAR_STACK_CHECK 56320
 #define OLBIOTHAR_STACK_BEGIN 115712
 #define OLBIOTHAR_STACK_TICK 14336
-#define OLBIOTHAR_STACK_TIME 512
-#define OLBIOTHAR_STACK_MODULE 512
-#define OLBIOTHAR_STACK_TASK 512
+#define OLBIOTHAR_STACK_TIME 256
+#define OLBIOTHAR_STACK_MODULE 2048
+#define OLBIOTHAR_STACK_TASK 2048
 #define OLBIOTHAR_STACK_SHEET 55296
 #define OLBIOTHAR_STACK_SHEET_TABLE 14336
 #define OLBIOTHAR_STACK_PLAN_TEXT 4096
 #define OLBIOTHAR_STACK_TEXT_PLAN 4096
-#define OLBIOTHAR_STACK_WORDS 1024
+#define OLBIOTHAR_STACK_WORDS 256
 #define OLBIOTHAR_STACK_REASON_WORDS 1024
 
 /* The numbers of the refusals, and what the place says. olbiothar_words has them in words. */
