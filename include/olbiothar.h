@@ -40,7 +40,7 @@ enum {
     /* No sheet is longer, and no longer text is read, as a sheet or as a plan. */
     OLBIOTHAR_LONGEST_SHEET = 262144,
     /* As many bytes are lent for words, their zero byte among them. */
-    OLBIOTHAR_LONGEST_WORDS = 101
+    OLBIOTHAR_LONGEST_WORDS = 128
 };
 
 /* Bytes of stack that a call takes at most, below its caller's own variables: arguments that go by the stack, the function, and all that
