@@ -1,6 +1,6 @@
 //! The programs `tablesheet` and `sheettable` on every line of `vectors/ask-01.txt` that is theirs, and on
-//! both sides of the limits of their files: standard output, byte for byte. The words of the command line
-//! are the folder of the programs, and what they are to run under, if anything.
+//! both sides of the limits of their files: standard output, byte for byte, and the exit status. The words of
+//! the command line are the folder of the programs, and what they are to run under, if anything.
 
 use reference::LONGEST_SHEET;
 use reference::vectors::{ASK_01, bytes, named};
@@ -59,8 +59,19 @@ fn limits() -> Vec<Case> {
     ]
 }
 
-/// Standard output; a program ends well whatever it is given.
-fn output(programs: &Path, under: &[String], folder: &Path, given: &Given) -> Result<Vec<u8>> {
+/// How a program ends that has written this: with 1 where it is, or begins with, the line of a refusal.
+fn status_of(written: &[u8]) -> i32 {
+    let refusals = ["refused ", "too long\n", "unreadable line "];
+    i32::from(refusals.iter().any(|word| written.starts_with(word.as_bytes())))
+}
+
+/// Standard output, and the exit status.
+fn output(
+    programs: &Path,
+    under: &[String],
+    folder: &Path,
+    given: &Given,
+) -> Result<(Vec<u8>, Option<i32>)> {
     let file = |name: &str, bytes: &[u8]| {
         let path = folder.join(name);
         fs::write(&path, bytes).map(|()| path)
@@ -78,7 +89,7 @@ fn output(programs: &Path, under: &[String], folder: &Path, given: &Given) -> Re
         }
     };
     let ended = command.output()?;
-    if ended.status.success() { Ok(ended.stdout) } else { Err(Error::other("no good end")) }
+    Ok((ended.stdout, ended.status.code()))
 }
 
 /// How many cases passed, if all have.
@@ -86,10 +97,13 @@ fn run(words: &[String], folder: &Path) -> Result<usize> {
     let (programs, under) = words.split_first().expect("the folder of the programs");
     let mut passed = 0;
     for Case { name, given, written } in vectors().iter().chain(&limits()) {
-        let output = output(Path::new(programs), under, folder, given)?;
+        let (output, status) = output(Path::new(programs), under, folder, given)?;
         if output != *written {
             let (is, shall) = (output.escape_ascii(), written.escape_ascii());
             return Err(Error::other(format!("{name}: \"{is}\" is not \"{shall}\"")));
+        }
+        if status != Some(status_of(written)) {
+            return Err(Error::other(format!("{name}: it ends with {status:?}")));
         }
         passed += 1;
     }
