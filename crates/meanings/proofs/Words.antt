@@ -1,14 +1,15 @@
--- Which words a number has, list by list, and that no words have more than 100 bytes.
+-- Which words a number has, list by list, that no words have more than 100 bytes, and a line of the help from its pieces.
 use mathlib.Core.Bool.{true}
-use mathlib.Core.List.{List}
+use mathlib.Core.List.{List, _++_}
 use mathlib.Core.Path.{_≡_, refl}
 use borrow.Author.Tests.{leb-true, le-leb, lt-leb, ne-eqb}
 use lib.Dec.{leb}
 use lib.ListN.{length}
 use native.Mathlib.Omega.{arith}
 use Prim.Native.Nat.{ℕ, _+_, _≤_, _<_}
-use Rattle.text.proofs.Putting.{Put}
-use Rattle.meanings.specs.Meanings.{meaning, ofBus, ofMaking, ofRecords, ofStation, ofTable, ofText, unknown}
+use Rattle.text.proofs.Putting.{Put, both-put}
+use Rattle.text.specs.Text.{ascii, lineFeed, marked}
+use Rattle.meanings.specs.Meanings.{helpLine, meaning, ofBus, ofMaking, ofRecords, ofStation, ofTable, ofText, unknown}
 
 -- words as they are put, with a bound on the place behind them
 pub few-put : (old buf l : List ℕ) (at end : ℕ) → Put old at l buf end → leb (length l) 100 ≡ true → Put old at l buf end × (end ≤ at + 100)
@@ -65,3 +66,12 @@ in-station n above within = rw (lt-leb n 5 (omega arith), lt-leb n 11 (omega ari
 pub in-text : (n : ℕ) → 44 < n → meaning n ≡ ofText n
 unfolding meaning
 in-text n above = rw (lt-leb n 5 (omega arith), lt-leb n 11 (omega arith), lt-leb n 19 (omega arith), lt-leb n 28 (omega arith), lt-leb n 44 (omega arith)) refl
+
+-- ---- a line of the help: four pieces
+pub help-put : (b b₁ b₂ b₃ b₄ : List ℕ) (at k₁ k₂ k₃ k₄ n : ℕ) → Put b at (marked (ascii "  ") n) b₁ k₁ → Put b₁ k₁ (ascii ": ") b₂ k₂
+    → Put b₂ k₂ (meaning n) b₃ k₃ → Put b₃ k₃ lineFeed b₄ k₄ → Put b at (helpLine n) b₄ k₄
+unfolding helpLine
+help-put b b₁ b₂ b₃ b₄ at k₁ k₂ k₃ k₄ n p₁ p₂ p₃ p₄ =
+    let last : Put b₂ k₂ (meaning n ++ lineFeed) b₄ k₄ = both-put b₂ b₃ b₄ (meaning n) lineFeed k₂ k₃ k₄ p₃ p₄ in
+    let words : Put b₁ k₁ (ascii ": " ++ (meaning n ++ lineFeed)) b₄ k₄ = both-put b₁ b₂ b₄ (ascii ": ") (meaning n ++ lineFeed) k₁ k₂ k₄ p₂ last in
+    both-put b b₁ b₄ (marked (ascii "  ") n) (ascii ": " ++ (meaning n ++ lineFeed)) at k₁ k₄ p₁ words

@@ -1,11 +1,11 @@
 -- What each number of an answer means, in words: what is refused, and what the place counts (docs/RULES.md, sections 6 to 8, and 18.8).
 -- The library's words and the programs' help are these. No meaning has more than 100 bytes.
 use mathlib.Core.Bool.{cond}
-use mathlib.Core.List.{List}
+use mathlib.Core.List.{List, _++_}
 use lib.Dec.{eqb, leb}
-use Prim.Native.Nat.{ℕ}
+use Prim.Native.Nat.{ℕ, _+_}
 use Prim.Native.String.{String}
-use Rattle.text.specs.Text.{ascii}
+use Rattle.text.specs.Text.{ascii, lineFeed, marked, texts}
 
 -- where n is this number, these words, else the others
 abbrev pub at : ℕ → ℕ → String → List ℕ → List ℕ
@@ -75,3 +75,14 @@ unfoldable pub meaning : ℕ → List ℕ
 meaning n =
     cond (leb n 5) (ofRecords n)
     (cond (leb n 11) (ofBus n) (cond (leb n 19) (ofMaking n) (cond (leb n 28) (ofTable n) (cond (leb n 44) (ofStation n) (ofText n)))))
+
+-- a line of the programs' help: a number and its words
+unfoldable pub helpLine : ℕ → List ℕ
+helpLine n = marked (ascii "  ") n ++ (ascii ": " ++ (meaning n ++ lineFeed))
+
+abbrev pub helpLineFrom : ℕ → ℕ → List ℕ
+helpLineFrom first i = helpLine (first + i)
+
+-- the lines of so many numbers, from the first one on
+unfoldable pub helpLines : ℕ → ℕ → List ℕ
+helpLines first count = texts (helpLineFrom first) count

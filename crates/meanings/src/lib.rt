@@ -1,10 +1,11 @@
 // What each number of an answer means, put as text: the words that `meanings/Meanings` has.
 ghost use mathlib.Core.Path.{_≡_};
-ghost use Prim.Native.Nat.{_+_, _≤_};
+ghost use Prim.Native.Nat.{_+_, _*_, _≤_};
 ghost use lib.ListN.{length};
 ghost use lib.Seq.{sets};
-ghost use Rattle.meanings.specs.Meanings.{meaning, ofBus, ofMaking, ofRecords, ofStation, ofTable, ofText, unknown};
+ghost use Rattle.meanings.specs.Meanings.{helpLine, helpLines, meaning, ofBus, ofMaking, ofRecords, ofStation, ofTable, ofText, unknown};
 use text::put_bytes;
+use text::put_marked;
 
 fn put_unknown(out: &mut [u8], at: usize) -> usize
     requires { ⌜ at + 100 ≤ 18446744073709551615 ⌝ }
@@ -244,4 +245,31 @@ pub fn put_meaning(out: &mut [u8], at: usize, number: u32) -> usize
         return put_of_station(&mut *out, at, number);
     }
     put_of_text(&mut *out, at, number)
+}
+
+// A line of the programs' help.
+fn put_help_line(out: &mut [u8], at: usize, number: u32) -> usize
+    requires { ⌜ at + 125 ≤ 18446744073709551615 ⌝ }
+    ensures { λ r. ⌜ (now (out .exit) ≡ sets (now (out .entry)) at (helpLine number)) × (r ≡ at + length (helpLine number)) ⌝ }
+    ensures few { λ r. ⌜ r ≤ at + 125 ⌝ }
+{
+    let colon = put_marked(&mut *out, at, b"  ", number as u64);
+    let words = put_bytes(&mut *out, colon, b": ");
+    let end = put_meaning(&mut *out, words, number);
+    put_bytes(&mut *out, end, b"\n")
+}
+
+// The lines of so many numbers, from `first` on: what a program's help says of the refusals that it can give.
+pub fn put_help_lines(out: &mut [u8], at: usize, first: u32, count: u32) -> usize
+    requires { ⌜ (at ≤ 65536) × (first ≤ 255) × (count ≤ 255) ⌝ }
+    ensures { λ r. ⌜ (now (out .exit) ≡ sets (now (out .entry)) at (helpLines first count)) × (r ≡ at + length (helpLines first count)) ⌝ }
+    ensures few { λ r. ⌜ r ≤ at + 125 * count ⌝ }
+{
+    let mut next = at;
+    let mut i = 0;
+    while i < count {
+        next = put_help_line(&mut *out, next, first + i);
+        i += 1;
+    }
+    next
 }
