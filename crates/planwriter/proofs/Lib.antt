@@ -1,0 +1,4 @@
+pub mod LineByLine
+pub mod Pieces
+pub mod Unique
+pub mod Ways
