@@ -38,7 +38,7 @@ fn plans() -> Vec<(&'static str, Vec<u8>)> {
 }
 
 fn main() -> std::io::Result<()> {
-    let program = Path::new(env!("CARGO_MANIFEST_DIR")).join("../target/bin/bustable");
+    let program = Path::new(env!("CARGO_MANIFEST_DIR")).join("../target/programs/bustable");
     let folder = std::env::temp_dir().join(format!("olbiothar-{}", std::process::id()));
     std::fs::create_dir_all(&folder)?;
     let plans = plans();

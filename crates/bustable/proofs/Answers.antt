@@ -1,4 +1,4 @@
--- The three answers: the line for a long input, the table, the line for a refusal.
+-- The three answers, each with its status: the line for a long input, the table, the line for a refusal.
 use mathlib.Core.List.{List}
 use mathlib.Core.Path.{_≡_, refl, sym, ap, ap₂, subst, _∙_}
 use native.Mathlib.Omega.{arith}
@@ -21,7 +21,8 @@ use Rattle.linetable.proofs.Ways.{table-stored}
 use Rattle.text.specs.Text.{isShort, refusedLine, tooLongLine}
 use Rattle.text.proofs.Decimals.{refused-line-most}
 use Rattle.text.proofs.Fronts.{Front, front-counts}
-use Rattle.bustable.specs.Answer.{written, answerFor}
+use Rattle.manners.specs.Status.{statusOf}
+use Rattle.bustable.specs.Answer.{written, answerFor, statusFor}
 
 pub too-long : (room : ℕ) (input : List ℕ) → 65536 < length input → answerFor room input ≡ tooLongLine
 unfolding answerFor isShort
@@ -30,6 +31,14 @@ too-long room input h = rw (lt-leb (length input) 65536 h)
 not-too-long : (room : ℕ) (input : List ℕ) → length input ≤ 65536 → answerFor room input ≡ written (tableFor input room)
 unfolding answerFor isShort
 not-too-long room input h = rw (le-leb (length input) 65536 h)
+
+long-status : (room : ℕ) (input : List ℕ) → 65536 < length input → 1 ≡ statusFor room input
+unfolding statusFor isShort
+long-status room input h = rw (lt-leb (length input) 65536 h)
+
+short-status : (room : ℕ) (input : List ℕ) → length input ≤ 65536 → statusFor room input ≡ statusOf (tableFor input room)
+unfolding statusFor isShort
+short-status room input h = rw (le-leb (length input) 65536 h)
 
 -- a table has room in what was lent for it
 table-fits : (plan : List ℕ) (room : ℕ) (t : MadeTable) → tableFor plan room ≡ ok t → length (t .table) ≤ room
@@ -41,13 +50,18 @@ table-fits plan room t e =
 -- ---- the ways out
 
 -- what `respond` says of its result
-abbrev pub Responds : List ℕ → List ℕ → List ℕ → ℕ → Type 0
-Responds plan old out n = Front (answerFor (length old) plan) old out n × (53 ≤ length old → Counts n out)
+abbrev pub Responds : List ℕ → List ℕ → List ℕ → ℕ → ℕ → Type 0
+Responds plan old out n s = Front (answerFor (length old) plan) old out n × ((s ≡ statusFor (length old) plan) × (53 ≤ length old → Counts n out))
 
-pub long-response : (plan old out : List ℕ) (n : ℕ) → 65536 < length plan → Front tooLongLine old out n → Responds plan old out n
+-- what `done` and `refused` say of the response: its length and its status
+abbrev Says : ℕ → ℕ → ℕ → ℕ → Type 0
+Says l t n s = (l ≡ n) × (t ≡ s)
+
+pub long-response : (plan old out : List ℕ) (n l t : ℕ) → 65536 < length plan → Front tooLongLine old out n → Says l t n 1 → Responds plan old out l t
 unfolding tooLongLine
-long-response plan old out n h a =
-    (rw (too-long (length old) plan h) a, λ room. front-counts tooLongLine old out n a (omega arith))
+long-response plan old out n l t h a says =
+    rw (says .0, says .1)
+    (rw (too-long (length old) plan h) a, (long-status (length old) plan h, λ room. front-counts tooLongLine old out n a (omega arith)))
 
 -- with 1,024 rows lent, 19 does not apply
 rows-lent : (plan : List ℕ) (room : ℕ) → lentFor plan mostFrames room ≡ tableFor plan room
@@ -58,34 +72,37 @@ module _ (plan old out : List ℕ) (r : Making) (short : length plan ≤ 65536) 
   makes-table : Makes r old out (tableFor plan (length old))
   makes-table = subst (Makes r old out) (rows-lent plan (length old)) makes
 
-  pub made-response : (n : ℕ) → r .answer ≡ Made n → Responds plan old out n
-  made-response n e =
-      rw (not-too-long (length old) plan short)
+  pub made-response : (n l t : ℕ) → r .answer ≡ Made n → Says l t n 0 → Responds plan old out l t
+  made-response n l t e says =
+      rw (says .0, says .1, not-too-long (length old) plan short, short-status (length old) plan short)
       (go (tableFor plan (length old)) refl (sym (ap heardMade e) ∙ makes-table .answered) (makes-table .written))
     where
       go : (x : Res MadeTable) → tableFor plan (length old) ≡ x → ok n ≡ lengthOf x → out ≡ bufferLeft x old
-          → Front (written x) old out n × (53 ≤ length old → Counts n out)
+          → Front (written x) old out n × ((0 ≡ statusOf x) × (53 ≤ length old → Counts n out))
       go (ok t) is e q =
           let fits : length (t .table) ≤ length old = table-fits plan (length old) t is in
           let a : Front (t .table) old out n = (q ∙ sym (table-stored (t .table) old fits), ok-injective e) in
-          (a, λ _. front-counts (t .table) old out n a fits)
+          (a, (refl, λ _. front-counts (t .table) old out n a fits))
       go (refuse m p) is e q = refuse≢ok (sym e)
 
-  pub refused-response : (x : Refusal) (number place n : ℕ) (line : List ℕ) → r .answer ≡ Refused x → number ≡ numberOf x → place ≡ placeOf x
+  pub refused-response : (x : Refusal) (number place n l t : ℕ) (line : List ℕ) → r .answer ≡ Refused x → number ≡ numberOf x → place ≡ placeOf x
       → number < 18446744073709551616 → place < 18446744073709551616
-      → (line ≡ sets out 0 (refusedLine number place)) × (n ≡ length (refusedLine number place)) → Responds plan old line n
-  refused-response x number place n line e c d h k a =
-      rw (not-too-long (length old) plan short)
+      → (line ≡ sets out 0 (refusedLine number place)) × (n ≡ length (refusedLine number place)) → Says l t n 1 → Responds plan old line l t
+  refused-response x number place n l t line e c d h k a says =
+      rw (says .0, says .1, not-too-long (length old) plan short, short-status (length old) plan short)
       (go (tableFor plan (length old)) (ap₂ refuse c d ∙ sym (ap heardMade e) ∙ makes-table .answered) (makes-table .written))
     where
       go : (x : Res MadeTable) → refuse number place ≡ lengthOf x → out ≡ bufferLeft x old
-          → Front (written x) old line n × (53 ≤ length old → Counts n line)
+          → Front (written x) old line n × ((1 ≡ statusOf x) × (53 ≤ length old → Counts n line))
       go (ok t) e q = refuse≢ok e
       go (refuse m r) e q =
           let same : refusedLine number place ≡ refusedLine m r = ap₂ refusedLine (refuse-number e) (refuse-place e) in
           let b : Front (refusedLine number place) old line n = (a .0 ∙ ap (λ (l : List ℕ). sets l 0 (refusedLine number place)) q, a .1) in (
             rw (← same) b,
-            λ room.
-                let few : length (refusedLine number place) ≤ 53 = refused-line-most number place h k in
-                front-counts (refusedLine number place) old line n b (omega arith),
+            (
+              refl,
+              λ room.
+                  let few : length (refusedLine number place) ≤ 53 = refused-line-most number place h k in
+                  front-counts (refusedLine number place) old line n b (omega arith),
+            ),
           )

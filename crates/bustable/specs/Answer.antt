@@ -1,8 +1,9 @@
--- What the program writes, for each input.
+-- What the program writes, for each input, and how it ends.
 use mathlib.Core.List.{List}
 use Prim.Native.Nat.{ℕ}
 use Rattle.laws.specs.Res.{Res, ok, refuse}
 use Rattle.rules.specs.Table.{MadeTable, tableFor}
+use Rattle.manners.specs.Status.{statusOf, unlessLongStatus}
 use Rattle.text.specs.Text.{isShort, refusedLine, unlessLong}
 
 -- Rule 1.5: the table's bytes, or the line of the refusal.
@@ -13,3 +14,7 @@ written (refuse n p) = refusedLine n p
 -- Rule 1.5: at most 65,536 bytes are read; `room` bytes are lent for the table.
 unfoldable pub answerFor : ℕ → List ℕ → List ℕ
 answerFor room input = unlessLong (isShort 65536 input) (written (tableFor input room))
+
+-- How the program ends.
+unfoldable pub statusFor : ℕ → List ℕ → ℕ
+statusFor room input = unlessLongStatus (isShort 65536 input) (statusOf (tableFor input room))

@@ -3,6 +3,8 @@ ghost use mathlib.Core.Path.{_≡_};
 ghost use lib.ListN.{length};
 ghost use Rattle.input.specs.Room.{zeros};
 ghost use Rattle.input.specs.Within.{Within};
+use manners::fail;
+use manners::own_name;
 
 pub enum Input {
     // So many bytes stand at the front of the buffer.
@@ -31,13 +33,15 @@ fn failed(fd: i32) -> bool {
     libc::read(fd, &mut probe) < 0
 }
 
-pub fn read_open(fd: i32, name: &[u8], buf: &mut [u8]) -> Input
+pub fn read_open(fd: i32, what: &[u8], buf: &mut [u8]) -> Input
     ensures { λ r. ⌜ Within r (now (buf .exit)) ⌝ }
 {
+    let mut name = io::buffer();
+    let named = own_name(&mut name);
     let n = io::read_full(fd, buf);
     if n < buf.len() {
         if failed(fd) {
-            os::fail(name);
+            fail(&name[..named], what);
             return Input::Unreadable;
         }
     }
@@ -47,9 +51,11 @@ pub fn read_open(fd: i32, name: &[u8], buf: &mut [u8]) -> Input
 pub fn read_named(path: &[u8], buf: &mut [u8]) -> Input
     ensures { λ r. ⌜ Within r (now (buf .exit)) ⌝ }
 {
+    let mut name = io::buffer();
+    let named = own_name(&mut name);
     let fd = os::open_read(path);
     if fd < 0 {
-        os::fail(path);
+        fail(&name[..named], path);
         return Input::Unreadable;
     }
     let read = read_open(fd, path, buf);
@@ -57,14 +63,16 @@ pub fn read_named(path: &[u8], buf: &mut [u8]) -> Input
     read
 }
 
-// The file that an argument names; `what` says on standard error which argument could not be had.
+// The file that an argument names; `what` says on standard error which argument could not be had, as one that is too long for a path.
 pub fn read_argument(i: usize, what: &[u8], buf: &mut [u8]) -> Input
     ensures { λ r. ⌜ Within r (now (buf .exit)) ⌝ }
 {
+    let mut name = io::buffer();
+    let named = own_name(&mut name);
     let mut path = io::buffer();
     let length = os::arg(i, &mut path);
     if os::errno() != 0 {
-        os::fail(what);
+        fail(&name[..named], what);
         return Input::Unreadable;
     }
     read_named(&path[..length], buf)
