@@ -19,3 +19,8 @@ pub extern "C" fn olbiothar_run_tablesheet() -> i32 {
 pub extern "C" fn olbiothar_run_sheettable() -> i32 {
     sheettable::run()
 }
+
+#[no_mangle]
+pub extern "C" fn olbiothar_run_textplan() -> i32 {
+    textplan::run()
+}
