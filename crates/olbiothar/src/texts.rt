@@ -1,16 +1,51 @@
 // Plans as text (docs/RULES.md, sections 19 and 20) in C's numbers, and numbers in words.
 ghost use mathlib.Core.Path.{_≡_};
 ghost use Rattle.planreader.specs.Memory as reading;
+ghost use Rattle.planwriter.specs.Printing as printing;
 ghost use Rattle.meanings.specs.Meanings.{meaning};
 ghost use Rattle.reasons.specs.Numbers.{reasonWords};
-ghost use Rattle.olbiothar.specs.Texts.{planSaid};
+ghost use Rattle.olbiothar.specs.Texts.{planSaid, textSaid};
 ghost use Rattle.olbiothar.specs.Words.{holdsWords, wordsLeft, wordsSaid};
 use meanings::put_meaning;
 use outward::Answer;
 use planreader::Back;
+use planwriter::Printing;
 use reasons::number_of;
 use reasons::put_words;
 use text::put_bytes;
+
+fn text_said(printing: Printing) -> Answer
+    ensures { λ r. ⌜ r ≡ textSaid printing ⌝ }
+{
+    match printing {
+        Printing::Text(length) => Answer {
+            number: 0,
+            place: length as u64,
+        },
+        Printing::Refused(place) => Answer {
+            number: 1,
+            place: place as u64,
+        },
+        Printing::Needs(bytes) => Answer {
+            number: 13,
+            place: bytes as u64,
+        },
+        Printing::TooLong => Answer {
+            number: 61,
+            place: planwriter::LONGEST_PLAN as u64,
+        },
+    }
+}
+
+// The text of a plan, at the front of the lent bytes; its length, or 61, 1, 13.
+#[no_mangle]
+pub extern "C" fn olbiothar_plan_text(plan: &[u8], text: &mut [u8]) -> Answer
+    ensures { λ r. ⌜ r ≡ textSaid (printing.printingFor (now (plan .entry)) (now (text .entry))) ⌝ }
+    ensures { λ r. ⌜ now (text .exit) ≡ printing.leftBy (now (plan .entry)) (now (text .entry)) ⌝ }
+{
+    let printed = planwriter::print(plan, text);
+    text_said(printed)
+}
 
 // A plan from a text: the answer, and beside 60 the number of the reason.
 #[repr(C)]

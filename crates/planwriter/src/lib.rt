@@ -30,7 +30,7 @@ use text::put_spaces;
 use units::Offset;
 
 // The longest plan that is read.
-const LONGEST_PLAN: usize = 65536;
+pub const LONGEST_PLAN: usize = 65536;
 
 // The columns that a line is filled up to, in front of its comment.
 const COLUMNS: usize = 47;
