@@ -29,15 +29,10 @@ pub fn all() -> Vec<Stored> {
     let plan = job_a().bytes();
     let table = table_of(&plan);
     let mut files = vec![
-        stored("docs/examples/job-a.plan", plan.clone()),
+        stored("docs/examples/job-a.plan", plan),
         stored("docs/examples/job-a-ten-bits.plan", job_a().with_byte_bits(Some(10)).bytes()),
-        stored("crates/bustable/stdin", plan.clone()),
-        stored("crates/bustable/stdout", table.clone()),
+        stored("tests/runs/job-a.table", table),
     ];
-    for program in ["checktable", "playstation"] {
-        files.push(stored(&format!("crates/{program}/data/plan"), plan.clone()));
-        files.push(stored(&format!("crates/{program}/data/table"), table.clone()));
-    }
     files.extend(sheets::all());
     files.extend(plan_texts::all());
     files.extend(vectors());

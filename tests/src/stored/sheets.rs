@@ -1,5 +1,4 @@
-//! Example sheets: job A's table, and the same with the row that job G lays too early. `tablesheet` prints
-//! the second, and `sheettable` reads it back.
+//! Example sheets: job A's table, and the same with the row that job G lays too early.
 
 use super::{Stored, stored};
 use crate::generate::{Made, job_a};
@@ -13,13 +12,8 @@ pub fn all() -> Vec<Stored> {
     let refused = sheet_of(&plan, &early);
     vec![
         stored("docs/examples/job-a.sheet", passed),
-        stored("docs/examples/job-a-early.sheet", refused.clone()),
-        stored("docs/examples/job-a-early.table", early.clone()),
-        stored("crates/tablesheet/data/plan", plan),
-        stored("crates/tablesheet/data/table", early.clone()),
-        stored("crates/tablesheet/stdout", refused.clone()),
-        stored("crates/sheettable/stdin", refused),
-        stored("crates/sheettable/stdout", early),
+        stored("docs/examples/job-a-early.sheet", refused),
+        stored("docs/examples/job-a-early.table", early),
     ]
 }
 
