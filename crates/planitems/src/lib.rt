@@ -1,8 +1,10 @@
 // What the lines of a plan's text have, place by place, and how their words are spelled: for what prints a plan and for what reads one.
 ghost use mathlib.Core.Path.{_≡_};
+ghost use mathlib.Core.List.{[], _∷_};
 ghost use Prim.Native.Nat.{_+_, _≤_};
 ghost use lib.ListN.{length, getD};
 ghost use lib.Seq.{sets};
+ghost use Rattle.laws.specs.Loops.{padTo};
 ghost use Rattle.text.specs.Lines.{isWord};
 ghost use Rattle.planwords.specs.Items.{spelled, firstOf, itemsOf};
 ghost use Rattle.planwords.specs.TextPlan.{reasonText};
@@ -85,26 +87,41 @@ fn bus_items() -> [Item; ITEMS]
     ]
 }
 
+fn number(bytes: u8, columns: u8) -> Item
+    ensures { λ r. ⌜ r ≡ item.Number bytes columns ⌝ }
+{
+    Item::Number { bytes, columns }
+}
+
+// Seven items, filled up with `End`.
+fn seven(a: Item, b: Item, c: Item, d: Item, e: Item, f: Item, g: Item) -> [Item; ITEMS]
+    ensures { λ r. ⌜ r ≡ padTo 14 item.End (a ∷ b ∷ c ∷ d ∷ e ∷ f ∷ g ∷ []) ⌝ }
+{
+    let end = Item::End;
+    [a, b, c, d, e, f, g, end, end, end, end, end, end, end]
+}
+
 // The items of a kind's line, filled up with `End`.
 fn items_of(kind: u8) -> [Item; ITEMS]
     ensures { λ r. ⌜ r ≡ itemsLaid kind ⌝ }
 {
     let end = Item::End;
+    let on = Item::Word(Name::On);
+    let node = Item::Word(Name::Node);
     let of = Item::Word(Name::Of);
     let module = Item::Word(Name::Module);
+    let period = Item::Word(Name::Period);
+    let switch = Item::Word(Name::Switch);
+    let bytes = Item::Word(Name::Bytes);
+    let worst = Item::Word(Name::Worst);
+    let within = Item::Word(Name::In);
+    let mode = Item::Word(Name::Mode);
     let task = Item::Word(Name::Task);
-    let one = Item::Number {
-        bytes: 1,
-        columns: 0,
-    };
-    let number = Item::Number {
-        bytes: 1,
-        columns: 2,
-    };
-    let time = Item::Number {
-        bytes: 4,
-        columns: 7,
-    };
+    let rate = Item::Word(Name::Rate);
+    let to = Item::Word(Name::To);
+    let one = number(1, 0);
+    let name = number(1, 2);
+    let time = number(4, 7);
     match kind {
         fields::bus::KIND => bus_items(),
         fields::framed_bus::KIND => {
@@ -113,105 +130,12 @@ fn items_of(kind: u8) -> [Item; ITEMS]
             items[13] = one;
             items
         }
-        fields::nodes::KIND => [
-            one,
-            end,
-            end,
-            end,
-            end,
-            end,
-            end,
-            end,
-            end,
-            end,
-            end,
-            end,
-            end,
-            end,
-        ],
-        fields::module::KIND => [
-            Item::Word(Name::On),
-            Item::Word(Name::Node),
-            one,
-            end,
-            end,
-            end,
-            end,
-            end,
-            end,
-            end,
-            end,
-            end,
-            end,
-            end,
-        ],
-        fields::mode::KIND => [
-            of,
-            module,
-            number,
-            Item::Word(Name::Period),
-            time,
-            Item::Word(Name::Switch),
-            time,
-            end,
-            end,
-            end,
-            end,
-            end,
-            end,
-            end,
-        ],
-        fields::task::KIND => [
-            of,
-            module,
-            number,
-            Item::Word(Name::Bytes),
-            one,
-            Item::Word(Name::Worst),
-            time,
-            end,
-            end,
-            end,
-            end,
-            end,
-            end,
-            end,
-        ],
-        fields::invocation::KIND => [
-            Item::Word(Name::In),
-            Item::Word(Name::Mode),
-            number,
-            task,
-            number,
-            Item::Word(Name::Rate),
-            Item::Number {
-                bytes: 2,
-                columns: 5,
-            },
-            end,
-            end,
-            end,
-            end,
-            end,
-            end,
-            end,
-        ],
-        fields::connection::KIND => [
-            task,
-            number,
-            Item::Word(Name::To),
-            task,
-            number,
-            end,
-            end,
-            end,
-            end,
-            end,
-            end,
-            end,
-            end,
-            end,
-        ],
+        fields::nodes::KIND => seven(one, end, end, end, end, end, end),
+        fields::module::KIND => seven(on, node, one, end, end, end, end),
+        fields::mode::KIND => seven(of, module, name, period, time, switch, time),
+        fields::task::KIND => seven(of, module, name, bytes, one, worst, time),
+        fields::invocation::KIND => seven(within, mode, name, task, name, rate, number(2, 5)),
+        fields::connection::KIND => seven(task, name, to, task, name, end, end),
         _ => [end; ITEMS],
     }
 }

@@ -98,12 +98,6 @@ module _ {s old buf : List ℕ} {previous at k number end : ℕ} (h : SoFar s ol
       let f = found Plan s previous at kind body next (sym next-is ∙ e) in
       omega (arith, f .further, f .fits)
 
-  -- a record stands in front of the file's end
-  pub so-far-inside : {kind body next : ℕ} → step ≡ Record kind body next → at < length s
-  so-far-inside {kind} {body} {next} e =
-      let f = found Plan s previous at kind body next (sym next-is ∙ e) in
-      omega (arith, f .further, f .fits)
-
   pub so-far-end : step ≡ End → (Whole end ≡ linesFor (planText s)) × (buf ≡ linesLeft (planText s) old)
   unfolding planText planLines textOf
   so-far-end e = finished (records planFollows 1 s) (onwards e)

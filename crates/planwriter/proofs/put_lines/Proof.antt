@@ -3,7 +3,7 @@ use native.Mathlib.Omega.{arith}
 use lib.ListN.{length}
 use Prim.Native.Nat.{_-_}
 use Rattle.records.proofs.Steps.{body-within}
-use Rattle.planwriter.proofs.LineByLine.{SoFar, so-far-none, so-far-more, so-far-less, so-far-inside, so-far-end, so-far-wrong}
+use Rattle.planwriter.proofs.LineByLine.{SoFar, so-far-none, so-far-more, so-far-less, so-far-end, so-far-wrong}
 use borrow.Author.Needs.{needs}
 use Rattle.planwriter.proofs.put_lines.Statement.{statement}
 use Rattle.planwriter.proofs.put_lines.Tie as tie
