@@ -1,8 +1,10 @@
-// The library for C and Rust: make, check, begin and tick of docs/RULES.md, and a sheet written and read back, on byte slices, frame rows and
-// numbers.
+// The library for C and Rust: make, check, begin and tick of docs/RULES.md, what a station may be asked, a sheet written and read back, plans as
+// text, and numbers in words; on byte slices, frame rows, stations and numbers.
 // No function has a precondition; an answer is a number and a place, for C has no enums that carry values.
 // The lent frame rows are a slice of structs, and a tick changes a lent station in place. The prover's walk covers no function over a
 // reference to a struct, so these are thin: covered functions answer by value, and the passes of `rows` bring it into the lent rows.
+mod texts;
+
 ghost use mathlib.Core.Path.{_≡_};
 ghost use Rattle.olbiothar.specs.Lent.{ChecksRows, MakesRows};
 ghost use Rattle.olbiothar.specs.Scanned.{Scans};
@@ -12,9 +14,6 @@ ghost use Rattle.olbiothar.specs.Playing.{BeginsIn, Ticks, begunBy};
 ghost use Rattle.station.specs.Memory.{keptOf, stateOf};
 ghost use Rattle.outward.specs.Seen.{moduleNow, taskNow, timeNow};
 ghost use Rattle.olbiothar.specs.Sheets.{backSaid, hasRoom, isRead, sheetLeft, sheetSaid, tableLeft, tableSaid};
-
-mod texts;
-
 use answers::Verdict;
 use checker::CheckedRows;
 use outward::Answer;
