@@ -24,3 +24,8 @@ pub extern "C" fn olbiothar_run_sheettable() -> i32 {
 pub extern "C" fn olbiothar_run_textplan() -> i32 {
     textplan::run()
 }
+
+#[no_mangle]
+pub extern "C" fn olbiothar_run_plantext() -> i32 {
+    plantext::run()
+}
