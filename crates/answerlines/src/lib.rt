@@ -1,4 +1,5 @@
-// The answers to a history, each a line at the front of a lent buffer, and its length. A byte behind the buffer's end is not stored.
+// The answers to a history, each at the front of a lent buffer, and its length. A byte behind the buffer's end is not stored.
+ghost use mathlib.Core.Bool.{_||_};
 ghost use mathlib.Core.Path.{_≡_};
 ghost use Prim.Native.Nat.{_+_, _≤_};
 ghost use lib.ListN.{length};
@@ -6,17 +7,20 @@ ghost use lib.Seq.{sets};
 ghost use Rattle.laws.specs.Lists.{all, upTo};
 ghost use Rattle.rules.specs.Limits.{mostNodes, mostTasks};
 ghost use Rattle.text.specs.Text.{texts};
-ghost use Rattle.answerlines.specs.Writing.{afterLine, begunLine, nodeShown, placeShown, refusalLine, sameOn, samePlace, shownAt, shownLine, tickedLine};
+ghost use Rattle.answerlines.specs.Writing.{begunText, controlLine, dataLine, nodeShown, onlyIf, placeShown, quietText, refusalLine, saidText, sameOn, samePlace, shownAt, shownLine, speaks, tickedText, timesText};
 use answers::Refusal;
+use answers::Verdict;
 use figures::both;
+use stationmoves::ControlRow;
+use stationmoves::DataRow;
 use stationmoves::Said;
 use stationnodes::Node;
 use text::put_bytes;
 use text::put_marked;
 use text::put_numbered;
-use text::put_refused;
 use units::NodeNo;
 use units::TaskNo;
+use units::Ticks;
 
 // A place, where it is not zero, with at most 63 bytes.
 fn put_place(out: &mut [u8], at: usize, n: usize, t: usize, value: u64) -> usize
@@ -62,11 +66,12 @@ fn put_nodes(out: &mut [u8], at: usize, nodes: [Node; NodeNo::MOST]) -> usize
 }
 
 // The line `shown NODE/TASK=VALUE ..` of all places that are not zero, with at most 16,136 bytes.
-pub fn put_shown(out: &mut [u8], nodes: [Node; NodeNo::MOST]) -> usize
-    ensures { λ r. ⌜ (now (out .exit) ≡ sets (now (out .entry)) 0 (shownLine nodes)) × (r ≡ length (shownLine nodes)) ⌝ }
-    ensures few { λ r. ⌜ r ≤ 16136 ⌝ }
+fn put_shown(out: &mut [u8], at: usize, nodes: [Node; NodeNo::MOST]) -> usize
+    requires { ⌜ at + 16136 ≤ 18446744073709551615 ⌝ }
+    ensures { λ r. ⌜ (now (out .exit) ≡ sets (now (out .entry)) at (shownLine nodes)) × (r ≡ at + length (shownLine nodes)) ⌝ }
+    ensures few { λ r. ⌜ r ≤ at + 16136 ⌝ }
 {
-    let first = put_bytes(&mut *out, 0, b"shown");
+    let first = put_bytes(&mut *out, at, b"shown");
     let last = put_nodes(&mut *out, first, nodes);
     if last == first {
         return put_bytes(&mut *out, last, b" -\n");
@@ -74,40 +79,150 @@ pub fn put_shown(out: &mut [u8], nodes: [Node; NodeNo::MOST]) -> usize
     put_bytes(&mut *out, last, b"\n")
 }
 
-// The line `refused N at P` of a refusal.
-pub fn put_refusal(out: &mut [u8], why: Refusal) -> usize
-    ensures { λ r. ⌜ (now (out .exit) ≡ sets (now (out .entry)) 0 (refusalLine why)) × (r ≡ length (refusalLine why)) ⌝ }
-    ensures few { λ r. ⌜ r ≤ 53 ⌝ }
+fn put_shown_if(shows: bool, out: &mut [u8], at: usize, nodes: [Node; NodeNo::MOST]) -> usize
+    requires { ⌜ at + 16136 ≤ 18446744073709551615 ⌝ }
+    ensures { λ r. ⌜ (now (out .exit) ≡ sets (now (out .entry)) at (onlyIf shows (shownLine nodes))) × (r ≡ at + length (onlyIf shows (shownLine nodes))) ⌝ }
+    ensures few { λ r. ⌜ r ≤ at + 16136 ⌝ }
 {
-    put_refused(out, why.number(), why.place())
+    if shows {
+        return put_shown(out, at, nodes);
+    }
+    at
 }
 
-// What a tick is answered: its refusal, or what is shown after it.
-pub fn put_ticked(out: &mut [u8], said: Said, nodes: [Node; NodeNo::MOST]) -> usize
-    ensures { λ r. ⌜ (now (out .exit) ≡ sets (now (out .entry)) 0 (tickedLine said nodes)) × (r ≡ length (tickedLine said nodes)) ⌝ }
-    ensures few { λ r. ⌜ r ≤ 16136 ⌝ }
+// The line `refused N at P` of a refusal, with at most 53 bytes.
+fn put_refusal(out: &mut [u8], at: usize, why: Refusal) -> usize
+    requires { ⌜ at + 53 ≤ 18446744073709551615 ⌝ }
+    ensures { λ r. ⌜ (now (out .exit) ≡ sets (now (out .entry)) at (refusalLine why)) × (r ≡ at + length (refusalLine why)) ⌝ }
+    ensures few { λ r. ⌜ r ≤ at + 53 ⌝ }
+{
+    let at_at = put_marked(&mut *out, at, b"refused ", why.number() as u64);
+    let end = put_marked(&mut *out, at_at, b" at ", why.place() as u64);
+    put_bytes(&mut *out, end, b"\n")
+}
+
+// When a row starts and stops, and the line's end, with at most 54 bytes.
+fn put_times(out: &mut [u8], at: usize, start: Ticks, stop: Ticks) -> usize
+    requires { ⌜ at + 54 ≤ 18446744073709551615 ⌝ }
+    ensures { λ r. ⌜ (now (out .exit) ≡ sets (now (out .entry)) at (timesText start stop)) × (r ≡ at + length (timesText start stop)) ⌝ }
+    ensures few { λ r. ⌜ r ≤ at + 54 ⌝ }
+{
+    let stop_at = put_marked(&mut *out, at, b" start ", start.0 as u64);
+    let end = put_marked(&mut *out, stop_at, b" stop ", stop.0 as u64);
+    put_bytes(&mut *out, end, b"\n")
+}
+
+// The line of a control row, where rows are asked for.
+fn put_control(rows: bool, out: &mut [u8], at: usize, row: ControlRow) -> usize
+    requires { ⌜ at + 118 ≤ 18446744073709551615 ⌝ }
+    ensures { λ r. ⌜ (now (out .exit) ≡ sets (now (out .entry)) at (onlyIf rows (controlLine row))) × (r ≡ at + length (onlyIf rows (controlLine row))) ⌝ }
+    ensures few { λ r. ⌜ r ≤ at + 118 ⌝ }
+{
+    if rows {
+        let node = row.node;
+        let times_at = put_marked(&mut *out, at, b"row control node ", node.0 as u64);
+        return put_times(&mut *out, times_at, row.start, row.stop);
+    }
+    at
+}
+
+// The line of a data row, where rows are asked for.
+fn put_data(rows: bool, out: &mut [u8], at: usize, row: DataRow) -> usize
+    requires { ⌜ at + 118 ≤ 18446744073709551615 ⌝ }
+    ensures { λ r. ⌜ (now (out .exit) ≡ sets (now (out .entry)) at (onlyIf rows (dataLine row))) × (r ≡ at + length (onlyIf rows (dataLine row))) ⌝ }
+    ensures few { λ r. ⌜ r ≤ at + 118 ⌝ }
+{
+    if rows {
+        let task = row.task;
+        let deadline = row.deadline;
+        let deadline_at = put_marked(&mut *out, at, b"row data task ", task.0 as u64);
+        let times_at = put_marked(&mut *out, deadline_at, b" deadline ", deadline.0 as u64);
+        return put_times(&mut *out, times_at, row.start, row.stop);
+    }
+    at
+}
+
+// What is said of a tick: its refusal; else the row that starts, where `rows` are asked for, and what is shown, where `shows` asks for it.
+fn put_said(
+    out: &mut [u8],
+    at: usize,
+    rows: bool,
+    said: Said,
+    shows: bool,
+    nodes: [Node; NodeNo::MOST],
+) -> usize
+    requires { ⌜ at + 16254 ≤ 18446744073709551615 ⌝ }
+    ensures { λ r. ⌜ (now (out .exit) ≡ sets (now (out .entry)) at (saidText rows said shows nodes)) × (r ≡ at + length (saidText rows said shows nodes)) ⌝ }
+    ensures few { λ r. ⌜ r ≤ at + 16254 ⌝ }
 {
     match said {
-        Said::Control(_) => put_shown(out, nodes),
-        Said::Data(_) => put_shown(out, nodes),
-        Said::Quiet => put_shown(out, nodes),
-        Said::Refused(why) => put_refusal(out, why),
+        Said::Control(row) => {
+            let next = put_control(rows, &mut *out, at, row);
+            put_shown_if(shows, &mut *out, next, nodes)
+        }
+        Said::Data(row) => {
+            let next = put_data(rows, &mut *out, at, row);
+            put_shown_if(shows, &mut *out, next, nodes)
+        }
+        Said::Quiet => put_shown_if(shows, &mut *out, at, nodes),
+        Said::Refused(why) => put_refusal(&mut *out, at, why),
     }
 }
 
-// The line `after K`.
-pub fn put_after(out: &mut [u8], ticks: u64) -> usize
-    ensures { λ r. ⌜ (now (out .exit) ≡ sets (now (out .entry)) 0 (afterLine ticks)) × (r ≡ length (afterLine ticks)) ⌝ }
-    ensures few { λ r. ⌜ r ≤ 41 ⌝ }
+// The answer to a tick.
+pub fn put_ticked(out: &mut [u8], rows: bool, said: Said, nodes: [Node; NodeNo::MOST]) -> usize
+    ensures { λ r. ⌜ (now (out .exit) ≡ sets (now (out .entry)) 0 (tickedText rows said nodes)) × (r ≡ length (tickedText rows said nodes)) ⌝ }
+    ensures few { λ r. ⌜ r ≤ 16254 ⌝ }
 {
-    put_numbered(out, b"after ", ticks)
+    put_said(out, 0, rows, said, true, nodes)
 }
 
-// The line `begun`.
-pub fn put_begun(out: &mut [u8]) -> usize
-    ensures { λ r. ⌜ (now (out .exit) ≡ sets (now (out .entry)) 0 begunLine) × (r ≡ length begunLine) ⌝ }
+fn either(a: bool, b: bool) -> bool
+    ensures { λ r. ⌜ r ≡ (a || b) ⌝ }
 {
-    put_bytes(out, 0, b"begun\n")
+    if a { true } else { b }
+}
+
+// Something is said of a quiet tick.
+fn speaks(rows: bool, said: Said, shows: bool) -> bool
+    ensures { λ r. ⌜ r ≡ speaks rows said shows ⌝ }
+{
+    match said {
+        Said::Control(_) => either(rows, shows),
+        Said::Data(_) => either(rows, shows),
+        Said::Quiet => shows,
+        Said::Refused(_) => true,
+    }
+}
+
+// The answer to the k-th of quiet ticks: `after K` and what is said, or nothing. What is shown is said where it has changed.
+pub fn put_quiet(
+    out: &mut [u8],
+    k: u64,
+    rows: bool,
+    said: Said,
+    shows: bool,
+    nodes: [Node; NodeNo::MOST],
+) -> usize
+    ensures { λ r. ⌜ (now (out .exit) ≡ sets (now (out .entry)) 0 (quietText k rows said shows nodes)) × (r ≡ length (quietText k rows said shows nodes)) ⌝ }
+    ensures few { λ r. ⌜ r ≤ 16295 ⌝ }
+{
+    if speaks(rows, said, shows) {
+        let first = put_numbered(&mut *out, b"after ", k);
+        return put_said(&mut *out, first, rows, said, shows, nodes);
+    }
+    0
+}
+
+// The answer to a beginning: `begun`, or its refusal.
+pub fn put_begun(out: &mut [u8], answer: Verdict) -> usize
+    ensures { λ r. ⌜ (now (out .exit) ≡ sets (now (out .entry)) 0 (begunText answer)) × (r ≡ length (begunText answer)) ⌝ }
+    ensures few { λ r. ⌜ r ≤ 53 ⌝ }
+{
+    match answer {
+        Verdict::Fine => put_bytes(out, 0, b"begun\n"),
+        Verdict::Refused(why) => put_refusal(out, 0, why),
+    }
 }
 
 fn same_places<'a>(a: &'a [u64; TaskNo::MOST], b: &'a [u64; TaskNo::MOST]) -> bool

@@ -1,3 +1,4 @@
-pub mod Ticking
+pub mod Answering
 pub mod Calls
-pub mod HistoryLines
+pub mod Coming
+pub mod Ticking

@@ -1,6 +1,9 @@
 -- The station that quiet ticks leave.
 use mathlib.Core.Path.{_≡_, refl, sym, ap, _∙_}
+use mathlib.Core.List.{List}
 use native.Mathlib.Omega.{arith}
+use lib.ListN.{length}
+use lib.Seq.{length-sets, sets}
 use Prim.Native.Nat.{ℕ, zero, suc, _+_, _-_, _≤_, _<_}
 use Rattle.station.specs.declared.Station.{Station}
 use Rattle.hearing.specs.Heard.{afterNothing, afterQuiet}
@@ -37,3 +40,7 @@ module _ {first : Station} {ticks : ℕ} {st : Station} {k : ℕ} (g : Going fir
       let n : ticks - k ≡ 0 = omega arith in
       let whole = g .same in
       rw n at whole
+
+-- the room for answers keeps its length
+pub same-room : (out text : List ℕ) {more : List ℕ} → more ≡ sets out 0 text → 16384 ≡ length out → 16384 ≡ length more
+same-room out text e n = n ∙ sym (ap length e ∙ length-sets out 0 text)

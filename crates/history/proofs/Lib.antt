@@ -1,2 +1,2 @@
 pub mod LinesByLetters
-pub mod Listing
+pub mod Wording

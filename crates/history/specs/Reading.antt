@@ -1,12 +1,12 @@
--- A history's lines as they are read. Every definition takes the bytes of one line, and goes along them by places.
-use mathlib.Core.Bool.{Bool, cond, not, _&&_}
+-- A history's lines as they are read: word by word, each where it may stand.
+use mathlib.Core.Bool.{Bool, true, false, cond, not, _&&_}
 use mathlib.Core.List.{List, [], _∷_}
 use lib.Dec.{eqb, leb, ltb}
 use lib.ListN.{length, getD, set, replicate}
-use Prim.Native.Nat.{ℕ, zero, suc, _%_}
+use Prim.Native.Nat.{ℕ, _%_}
 use Rattle.laws.specs.Loops.{stores}
-use Rattle.text.specs.Text.{isDigit, readDecimal}
-use Rattle.text.specs.Lines.{behindWord, isEnd}
+use Rattle.text.specs.Text.{ascii, readDecimal}
+use Rattle.text.specs.Lines.{behindWord, isWord, uncommented, wholeNumber, words}
 use Rattle.text.specs.declared.Number.{Number}
 use Rattle.text.specs.declared.Number.the-variants as number
 use Rattle.places.specs.Flags.{flagAt}
@@ -17,40 +17,35 @@ use Rattle.history.specs.declared.Pair.{Pair}
 use Rattle.history.specs.declared.Pair.the-variants as pair
 use Rattle.text.specs.declared.lines.End.{End}
 use Rattle.text.specs.declared.lines.End.the-variants.{At, Wrong}
+use Rattle.text.specs.declared.lines.Whole.{Whole}
+use Rattle.text.specs.declared.lines.Whole.the-variants as whole
 use Rattle.history.specs.declared.Places.{Places}
-use Rattle.history.specs.declared.Listed.{Listed}
 use Rattle.history.specs.declared.What.{What}
-use Rattle.history.specs.declared.What.the-variants.{Begin, Tick, Quiet, Unreadable}
+use Rattle.history.specs.declared.What.the-variants.{Blank, Begin, Tick, Quiet, Unreadable}
 use Rattle.history.specs.declared.Line.{Line}
+use Rattle.history.specs.declared.Next.{Next}
+use Rattle.history.specs.declared.Next.the-variants.{FirstWord, ResultsWord, Results, MoreResults, ModesWord, Modes, MoreModes, Count, LineEnd, Never}
+use Rattle.history.specs.declared.Read.{Read}
 
--- ---- words and numbers
+-- ---- a pair
 
-abbrev pub equalsSign : List ℕ
-equalsSign = 61 ∷ []
-
-abbrev pub space : List ℕ
-space = 32 ∷ []
-
-abbrev pub dash : List ℕ
-dash = 45 ∷ []
-
--- a pair is a number, `=` and a number
-abbrev pub secondOf : ℕ → Number → Pair
-secondOf place number.None = pair.None
-secondOf place (number.Digits value next) = pair.Named place value next
+-- a pair is a number, `=` and a number, and nothing more
+abbrev pub secondOf : List ℕ → ℕ → Number → Pair
+secondOf w place number.None = pair.None
+secondOf w place (number.Digits value next) = cond (eqb next (length w)) (pair.Named place value) pair.None
 
 abbrev pub behindEquals : List ℕ → ℕ → End → Pair
-behindEquals s place Wrong = pair.None
-behindEquals s place (At at) = secondOf place (readDecimal s at)
+behindEquals w place Wrong = pair.None
+behindEquals w place (At at) = secondOf w place (readDecimal w at)
 
 abbrev pub behindFirst : List ℕ → Number → Pair
-behindFirst s number.None = pair.None
-behindFirst s (number.Digits place next) = behindEquals s place (behindWord s next equalsSign)
+behindFirst w number.None = pair.None
+behindFirst w (number.Digits place next) = behindEquals w place (behindWord w next (ascii "="))
 
-unfoldable pub pairAt : List ℕ → ℕ → Pair
-pairAt s at = behindFirst s (readDecimal s at)
+unfoldable pub pairIn : List ℕ → Pair
+pairIn w = behindFirst w (readDecimal w 0)
 
--- ---- lists of pairs
+-- ---- what a list gives
 
 -- nothing is given at any place
 abbrev pub noPlaces : Places
@@ -62,117 +57,109 @@ isFree places k = not (flagAt (places .given) k)
 
 abbrev pub fits : Places → ℕ → ℕ → Pair → Pair
 fits places most largest pair.None = pair.None
-fits places most largest (pair.Named k v next) =
-    cond ((ltb k most && leb v largest) && isFree places k) (pair.Named k v next) pair.None
+fits places most largest (pair.Named k v) = cond ((ltb k most && leb v largest) && isFree places k) (pair.Named k v) pair.None
 
 abbrev pub withValue : Places → ℕ → ℕ → Places
 withValue places k v = record { values = set (places .values) k v; given = set (places .given) k 1 }
 
--- a list goes on where a space and a digit follow
-abbrev pub digitAt : List ℕ → End → End
-digitAt s Wrong = Wrong
-digitAt s (At at) = cond (isDigit (getD s at 0)) (At at) Wrong
-
-unfoldable pub goesOn : List ℕ → ℕ → End
-goesOn s at = digitAt s (behindWord s at space)
-
-abbrev pub wrongList : Listed
-wrongList = record { end = Wrong; places = noPlaces }
-
-abbrev pub restOf : End → ℕ → Places → (ℕ → Listed) → Listed
-restOf Wrong next places rest = record { end = At next; places = places }
-restOf (At at) next places rest = rest at
-
-abbrev pub behindPair : List ℕ → Pair → Places → (Places → ℕ → Listed) → Listed
-behindPair s pair.None places rest = wrongList
-behindPair s (pair.Named k v next) places rest = restOf (goesOn s next) next (withValue places k v) (rest (withValue places k v))
-
--- the pairs from a place on, behind pairs that gave `places`; `turns` is a bound on their number
-abbrev pub pairsWithin : ℕ → List ℕ → ℕ → ℕ → Places → ℕ → Listed
-pairsWithin zero s most largest places at = wrongList
-pairsWithin (suc turns) s most largest places at =
-    behindPair s (fits places most largest (pairAt s at)) places (pairsWithin turns s most largest)
-
--- a pair has more than one byte, so a line has no more pairs than bytes
-unfoldable pub pairsAt : List ℕ → ℕ → ℕ → ℕ → Listed
-pairsAt s most largest at = pairsWithin (suc (length s)) s most largest noPlaces at
-
--- a list is `-` for no pair, or pairs with a space between them
-abbrev pub orPairs : End → Listed → Listed
-orPairs Wrong pairs = pairs
-orPairs (At at) pairs = record { end = At at; places = noPlaces }
-
-unfoldable pub listAt : List ℕ → ℕ → ℕ → ℕ → Listed
-listAt s most largest at = orPairs (behindWord s at dash) (pairsAt s most largest at)
-
--- `TASK=VALUE ..`: one of the task places, a value of 64 bits
-abbrev pub resultsAt : List ℕ → ℕ → Listed
-resultsAt s at = listAt s mostTasks 18446744073709551615 at
-
--- `MODULE=MODE ..`: one of the module places, a mode of 8 bits
-abbrev pub modesAt : List ℕ → ℕ → Listed
-modesAt s at = listAt s mostModules 255 at
-
--- ---- lines
+-- ---- a line, word by word
 
 -- a line without lists
 abbrev pub plain : What → Line
 plain what = record { what = what; results = noPlaces; modes = noPlaces }
 
--- modes end a line
-abbrev pub endedBy : List ℕ → What → Places → Listed → Line
-endedBy s what results modes =
-    cond (isEnd s (modes .end)) (record { what = what; results = results; modes = modes .places }) (plain Unreadable)
+abbrev pub wrongWord : Read
+wrongWord = record { next = Never; line = plain Unreadable }
 
--- `MODULE=MODE ..` behind `begin `
-abbrev pub beginLine : List ℕ → ℕ → Line
-beginLine s at = endedBy s Begin noPlaces (modesAt s at)
+abbrev pub orWrong : Bool → Next → Line → Read
+orWrong true next line = record { next = next; line = line }
+orWrong false next line = wrongWord
 
--- ` modes `
-abbrev pub modesWord : List ℕ
-modesWord = 32 ∷ 109 ∷ 111 ∷ 100 ∷ 101 ∷ 115 ∷ 32 ∷ []
+-- `tick`, `quiet` or `begin`
+abbrev pub orElse : Bool → Next → Line → Read → Read
+orElse true next line other = record { next = next; line = line }
+orElse false next line other = other
 
--- `TASK=VALUE .. modes MODULE=MODE ..` behind `tick results `
-abbrev pub behindModes : List ℕ → Places → End → Line
-behindModes s results Wrong = plain Unreadable
-behindModes s results (At at) = endedBy s Tick results (modesAt s at)
+unfoldable pub firstWord : List ℕ → Read
+firstWord w =
+    orElse (isWord (ascii "tick") w) ResultsWord (plain Tick)
+    (orElse (isWord (ascii "quiet") w) Count (plain Unreadable) (orWrong (isWord (ascii "begin") w) Modes (plain Begin)))
 
-abbrev pub behindResults : List ℕ → Places → End → Line
-behindResults s results Wrong = plain Unreadable
-behindResults s results (At at) = behindModes s results (behindWord s at modesWord)
+-- `TASK=VALUE`: one of the task places, a value of 64 bits
+abbrev pub resultBy : Line → Pair → Read
+resultBy line pair.None = wrongWord
+resultBy line (pair.Named k v) =
+    record { next = MoreResults; line = record { what = line .what; results = withValue (line .results) k v; modes = line .modes } }
 
-abbrev pub tickLine : List ℕ → ℕ → Line
-tickLine s at = behindResults s (resultsAt s at .places) (resultsAt s at .end)
+unfoldable pub withResult : Line → List ℕ → Read
+withResult line w = resultBy line (fits (line .results) mostTasks 18446744073709551615 (pairIn w))
 
--- `N` behind `quiet `
-abbrev pub quietBy : List ℕ → Number → Line
-quietBy s number.None = plain Unreadable
-quietBy s (number.Digits n next) = cond (eqb next (length s)) (plain (Quiet n)) (plain Unreadable)
+-- `MODULE=MODE`: one of the module places, a mode of 8 bits
+abbrev pub modeBy : Line → Pair → Read
+modeBy line pair.None = wrongWord
+modeBy line (pair.Named k v) =
+    record { next = MoreModes; line = record { what = line .what; results = line .results; modes = withValue (line .modes) k v } }
 
-abbrev pub quietLine : List ℕ → ℕ → Line
-quietLine s at = quietBy s (readDecimal s at)
+unfoldable pub withMode : Line → List ℕ → Read
+withMode line w = modeBy line (fits (line .modes) mostModules 255 (pairIn w))
 
--- `tick results `
-abbrev pub tickWord : List ℕ
-tickWord = 116 ∷ 105 ∷ 99 ∷ 107 ∷ 32 ∷ 114 ∷ 101 ∷ 115 ∷ 117 ∷ 108 ∷ 116 ∷ 115 ∷ 32 ∷ []
+-- a list is `-` for no pair, or pairs
+unfoldable pub firstResult : Line → List ℕ → Read
+firstResult line w = orElse (isWord (ascii "-") w) ModesWord line (withResult line w)
 
--- `quiet `
-abbrev pub quietWord : List ℕ
-quietWord = 113 ∷ 117 ∷ 105 ∷ 101 ∷ 116 ∷ 32 ∷ []
+unfoldable pub moreResults : Line → List ℕ → Read
+moreResults line w = orElse (isWord (ascii "modes") w) Modes line (withResult line w)
 
--- `begin `
-abbrev pub beginWord : List ℕ
-beginWord = 98 ∷ 101 ∷ 103 ∷ 105 ∷ 110 ∷ 32 ∷ []
+unfoldable pub firstMode : Line → List ℕ → Read
+firstMode line w = orElse (isWord (ascii "-") w) LineEnd line (withMode line w)
 
-abbrev pub behindOr : End → (ℕ → Line) → Line → Line
-behindOr Wrong line other = other
-behindOr (At at) line other = line at
+-- `N` behind `quiet`
+abbrev pub quietBy : Whole → Read
+quietBy whole.None = wrongWord
+quietBy (whole.Value n) = record { next = LineEnd; line = plain (Quiet n) }
 
--- what a line says
+-- one word more, by what may stand there
+abbrev pub wordAt : Next → Line → List ℕ → Read
+wordAt FirstWord line w = firstWord w
+wordAt ResultsWord line w = orWrong (isWord (ascii "results") w) Results line
+wordAt Results line w = firstResult line w
+wordAt MoreResults line w = moreResults line w
+wordAt ModesWord line w = orWrong (isWord (ascii "modes") w) Modes line
+wordAt Modes line w = firstMode line w
+wordAt MoreModes line w = withMode line w
+wordAt Count line w = quietBy (wholeNumber w)
+wordAt LineEnd line w = wrongWord
+wordAt Never line w = wrongWord
+
+unfoldable pub withWord : Read → List ℕ → Read
+withWord read w = wordAt (read .next) (read .line) w
+
+unfoldable pub withWords : Read → List (List ℕ) → Read
+withWords read [] = read
+withWords read (w ∷ ws) = withWords (withWord read w) ws
+
+-- a line may end where no word must follow
+abbrev pub mayEnd : Next → Bool
+mayEnd FirstWord = true
+mayEnd ResultsWord = false
+mayEnd Results = false
+mayEnd MoreResults = false
+mayEnd ModesWord = false
+mayEnd Modes = false
+mayEnd MoreModes = true
+mayEnd Count = false
+mayEnd LineEnd = true
+mayEnd Never = false
+
+unfoldable pub wholeLine : Read → Line
+wholeLine read = cond (mayEnd (read .next)) (read .line) (plain Unreadable)
+
+abbrev pub unread : Read
+unread = record { next = FirstWord; line = plain Blank }
+
+-- what a line says: its words, without its comment
 unfoldable pub readLine : List ℕ → Line
-readLine s =
-    behindOr (behindWord s 0 tickWord) (tickLine s)
-    (behindOr (behindWord s 0 quietWord) (quietLine s) (behindOr (behindWord s 0 beginWord) (beginLine s) (plain Unreadable)))
+readLine s = wholeLine (withWords unread (words (uncommented s)))
 
 -- ---- what a tick and a beginning are given by a line
 

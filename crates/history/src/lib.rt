@@ -3,17 +3,22 @@ ghost use mathlib.Core.Path.{_≡_};
 ghost use lib.ListN.{replicate};
 ghost use Rattle.laws.specs.Loops.{stores};
 ghost use Rattle.rules.specs.Limits.{mostModules};
-ghost use Rattle.history.specs.Reading.{beginLine, endedBy, fits, flagIn, goesOn, inputFrom, isFree, listAt, modeIn, modesAt, noPlaces, pairAt, pairsAt, plain, quietLine, readLine, resultsAt, startingFrom, tickLine, withValue, wrongList};
+ghost use Rattle.text.specs.Lines.{isWord, wholeNumber, words};
+ghost use Rattle.history.specs.Reading.{firstMode, firstResult, firstWord, fits, flagIn, inputFrom, isFree, mayEnd, modeIn, moreResults, noPlaces, orWrong, pairIn, plain, quietBy, readLine, startingFrom, unread, wholeLine, withMode, withResult, withValue, withWord, withWords, wrongWord};
 use figures::both;
-use places::byte_at;
 use places::flag_at;
 use places::flag_byte;
 use stationruns::Input;
 use stationruns::Starting;
 use text::Number;
 use text::lines::End;
+use text::lines::Whole;
+use text::lines::Word;
 use text::lines::behind;
-use text::lines::is_end;
+use text::lines::comment_start;
+use text::lines::is_word;
+use text::lines::next_word;
+use text::lines::whole_number;
 use units::ModuleNo;
 use units::TaskNo;
 
@@ -22,9 +27,9 @@ const LARGEST_VALUE: u64 = 18446744073709551615;
 // No mode is larger: it has 8 bits.
 const LARGEST_MODE: u64 = 255;
 
-// Two numbers with `=` between them, and the place behind them.
+// Two numbers with `=` between them.
 pub enum Pair {
-    Named { place: u64, value: u64, next: usize },
+    Named { place: u64, value: u64 },
     None,
 }
 
@@ -34,13 +39,9 @@ pub struct Places {
     pub given: [u8; TaskNo::MOST],
 }
 
-// A list of pairs, and the place behind it.
-pub struct Listed {
-    pub end: End,
-    pub places: Places,
-}
-
 pub enum What {
+    // No word stands on the line.
+    Blank,
     Begin,
     Tick,
     Quiet(u64),
@@ -52,6 +53,32 @@ pub struct Line {
     pub what: What,
     pub results: Places,
     pub modes: Places,
+}
+
+// What may stand next on a line.
+pub enum Next {
+    FirstWord,
+    ResultsWord,
+    // The first of the results, or `-`.
+    Results,
+    // One result more, or the word `modes`.
+    MoreResults,
+    ModesWord,
+    // The first of the modes, or `-`.
+    Modes,
+    // One mode more, or the line's end.
+    MoreModes,
+    // How many ticks are quiet.
+    Count,
+    LineEnd,
+    // A word stood where it may not.
+    Never,
+}
+
+// What was read of a line so far.
+pub struct Read {
+    pub next: Next,
+    pub line: Line,
 }
 
 impl Places {
@@ -81,115 +108,44 @@ impl Places {
     }
 }
 
-fn pair_at(s: &[u8], at: usize) -> Pair
-    ensures { λ r. ⌜ r ≡ pairAt (now (s .entry)) at ⌝ }
+fn pair_in(word: &[u8]) -> Pair
+    ensures { λ r. ⌜ r ≡ pairIn (now (word .entry)) ⌝ }
 {
-    match text::read_decimal(s, at) {
+    match text::read_decimal(word, 0) {
         Number::None => Pair::None,
         Number::Digits {
             value: place,
             next: equals,
-        } => match behind(s, equals, b"=") {
+        } => match behind(word, equals, b"=") {
             End::Wrong => Pair::None,
-            End::At(second) => match text::read_decimal(s, second) {
+            End::At(second) => match text::read_decimal(word, second) {
                 Number::None => Pair::None,
-                Number::Digits { value, next } => Pair::Named { place, value, next },
+                Number::Digits { value, next } => {
+                    if next == word.len() {
+                        Pair::Named { place, value }
+                    } else {
+                        Pair::None
+                    }
+                }
             },
         },
     }
 }
 
-// The pair at a place, if it names a place below `most` that is still free, and a value of at most `largest`.
-fn fitting(s: &[u8], at: usize, places: Places, most: u64, largest: u64) -> Pair
-    ensures { λ r. ⌜ r ≡ fits places most largest (pairAt (now (s .entry)) at) ⌝ }
+// The pair that a word is, if it names a place below `most` that is still free, and a value of at most `largest`.
+fn fitting(word: &[u8], places: Places, most: u64, largest: u64) -> Pair
+    ensures { λ r. ⌜ r ≡ fits places most largest (pairIn (now (word .entry))) ⌝ }
 {
-    match pair_at(s, at) {
+    match pair_in(word) {
         Pair::None => Pair::None,
-        Pair::Named { place, value, next } => {
+        Pair::Named { place, value } => {
             if both(both(place < most, value <= largest), places.is_free(place)) {
-                Pair::Named { place, value, next }
+                Pair::Named { place, value }
             } else {
                 Pair::None
             }
         }
     }
-}
-
-// Where a list goes on: a space and a digit follow.
-fn goes_on(s: &[u8], at: usize) -> End
-    ensures { λ r. ⌜ r ≡ goesOn (now (s .entry)) at ⌝ }
-{
-    match behind(s, at, b" ") {
-        End::Wrong => End::Wrong,
-        End::At(next) => {
-            if text::is_digit(byte_at(s, next) as u8) {
-                End::At(next)
-            } else {
-                End::Wrong
-            }
-        }
-    }
-}
-
-fn wrong() -> Listed
-    ensures { λ r. ⌜ r ≡ wrongList ⌝ }
-{
-    Listed {
-        end: End::Wrong,
-        places: Places::none(),
-    }
-}
-
-fn pairs(s: &[u8], at: usize, most: u64, largest: u64) -> Listed
-    ensures { λ r. ⌜ r ≡ pairsAt (now (s .entry)) most largest at ⌝ }
-{
-    let mut places = Places::none();
-    let mut from = at;
-    loop {
-        match fitting(s, from, places, most, largest) {
-            Pair::None => return wrong(),
-            Pair::Named { place, value, next } => {
-                let more = places.with_value(place, value);
-                places = more;
-                match goes_on(s, next) {
-                    End::Wrong => {
-                        return Listed {
-                            end: End::At(next),
-                            places,
-                        };
-                    }
-                    End::At(second) => {
-                        from = second;
-                    }
-                }
-            }
-        }
-    }
-}
-
-// A list: `-`, or pairs with a space between them.
-fn list(s: &[u8], at: usize, most: u64, largest: u64) -> Listed
-    ensures { λ r. ⌜ r ≡ listAt (now (s .entry)) most largest at ⌝ }
-{
-    match behind(s, at, b"-") {
-        End::At(next) => Listed {
-            end: End::At(next),
-            places: Places::none(),
-        },
-        End::Wrong => pairs(s, at, most, largest),
-    }
-}
-
-fn results(s: &[u8], at: usize) -> Listed
-    ensures { λ r. ⌜ r ≡ resultsAt (now (s .entry)) at ⌝ }
-{
-    list(s, at, TaskNo::MOST as u64, LARGEST_VALUE)
-}
-
-fn modes(s: &[u8], at: usize) -> Listed
-    ensures { λ r. ⌜ r ≡ modesAt (now (s .entry)) at ⌝ }
-{
-    list(s, at, ModuleNo::MOST as u64, LARGEST_MODE)
 }
 
 fn without_lists(what: What) -> Line
@@ -202,59 +158,208 @@ fn without_lists(what: What) -> Line
     }
 }
 
-// A line that ends with its modes.
-fn ended_by(s: &[u8], at: usize, what: What, results: Places) -> Line
-    ensures { λ r. ⌜ r ≡ endedBy (now (s .entry)) what results (modesAt (now (s .entry)) at) ⌝ }
+fn wrong_word() -> Read
+    ensures { λ r. ⌜ r ≡ wrongWord ⌝ }
 {
-    let read = modes(s, at);
-    let end = read.end;
-    if is_end(s, end) {
-        let modes = read.places;
-        Line {
-            what,
-            results,
-            modes,
+    Read {
+        next: Next::Never,
+        line: without_lists(What::Unreadable),
+    }
+}
+
+// What follows a word that must be `wanted`.
+fn only(word: &[u8], wanted: &[u8], next: Next, line: Line) -> Read
+    ensures { λ r. ⌜ r ≡ orWrong (isWord (now (wanted .entry)) (now (word .entry))) next line ⌝ }
+{
+    if is_word(word, wanted) {
+        Read { next, line }
+    } else {
+        wrong_word()
+    }
+}
+
+fn first_word(word: &[u8]) -> Read
+    ensures { λ r. ⌜ r ≡ firstWord (now (word .entry)) ⌝ }
+{
+    if is_word(word, b"tick") {
+        return Read {
+            next: Next::ResultsWord,
+            line: without_lists(What::Tick),
+        };
+    }
+    if is_word(word, b"quiet") {
+        return Read {
+            next: Next::Count,
+            line: without_lists(What::Unreadable),
+        };
+    }
+    only(word, b"begin", Next::Modes, without_lists(What::Begin))
+}
+
+// A line with one result more.
+fn with_result(line: Line, word: &[u8]) -> Read
+    ensures { λ r. ⌜ r ≡ withResult line (now (word .entry)) ⌝ }
+{
+    let results = line.results;
+    match fitting(word, results, TaskNo::MOST as u64, LARGEST_VALUE) {
+        Pair::None => wrong_word(),
+        Pair::Named { place, value } => {
+            let what = line.what;
+            let modes = line.modes;
+            Read {
+                next: Next::MoreResults,
+                line: Line {
+                    what,
+                    results: results.with_value(place, value),
+                    modes,
+                },
+            }
         }
+    }
+}
+
+// A line with one mode more.
+fn with_mode(line: Line, word: &[u8]) -> Read
+    ensures { λ r. ⌜ r ≡ withMode line (now (word .entry)) ⌝ }
+{
+    let modes = line.modes;
+    match fitting(word, modes, ModuleNo::MOST as u64, LARGEST_MODE) {
+        Pair::None => wrong_word(),
+        Pair::Named { place, value } => {
+            let what = line.what;
+            let results = line.results;
+            Read {
+                next: Next::MoreModes,
+                line: Line {
+                    what,
+                    results,
+                    modes: modes.with_value(place, value),
+                },
+            }
+        }
+    }
+}
+
+fn first_result(line: Line, word: &[u8]) -> Read
+    ensures { λ r. ⌜ r ≡ firstResult line (now (word .entry)) ⌝ }
+{
+    if is_word(word, b"-") {
+        return Read {
+            next: Next::ModesWord,
+            line,
+        };
+    }
+    with_result(line, word)
+}
+
+fn more_results(line: Line, word: &[u8]) -> Read
+    ensures { λ r. ⌜ r ≡ moreResults line (now (word .entry)) ⌝ }
+{
+    if is_word(word, b"modes") {
+        return Read {
+            next: Next::Modes,
+            line,
+        };
+    }
+    with_result(line, word)
+}
+
+fn first_mode(line: Line, word: &[u8]) -> Read
+    ensures { λ r. ⌜ r ≡ firstMode line (now (word .entry)) ⌝ }
+{
+    if is_word(word, b"-") {
+        return Read {
+            next: Next::LineEnd,
+            line,
+        };
+    }
+    with_mode(line, word)
+}
+
+fn quiet_count(word: &[u8]) -> Read
+    ensures { λ r. ⌜ r ≡ quietBy (wholeNumber (now (word .entry))) ⌝ }
+{
+    match whole_number(word) {
+        Whole::None => wrong_word(),
+        Whole::Value(ticks) => Read {
+            next: Next::LineEnd,
+            line: without_lists(What::Quiet(ticks)),
+        },
+    }
+}
+
+// A line with one word more.
+fn with_word(read: Read, word: &[u8]) -> Read
+    ensures { λ r. ⌜ r ≡ withWord read (now (word .entry)) ⌝ }
+{
+    let next = read.next;
+    let line = read.line;
+    match next {
+        Next::FirstWord => first_word(word),
+        Next::ResultsWord => only(word, b"results", Next::Results, line),
+        Next::Results => first_result(line, word),
+        Next::MoreResults => more_results(line, word),
+        Next::ModesWord => only(word, b"modes", Next::Modes, line),
+        Next::Modes => first_mode(line, word),
+        Next::MoreModes => with_mode(line, word),
+        Next::Count => quiet_count(word),
+        Next::LineEnd => wrong_word(),
+        Next::Never => wrong_word(),
+    }
+}
+
+fn may_end(next: Next) -> bool
+    ensures { λ r. ⌜ r ≡ mayEnd next ⌝ }
+{
+    match next {
+        Next::FirstWord => true,
+        Next::ResultsWord => false,
+        Next::Results => false,
+        Next::MoreResults => false,
+        Next::ModesWord => false,
+        Next::Modes => false,
+        Next::MoreModes => true,
+        Next::Count => false,
+        Next::LineEnd => true,
+        Next::Never => false,
+    }
+}
+
+fn whole_line(read: Read) -> Line
+    ensures { λ r. ⌜ r ≡ wholeLine read ⌝ }
+{
+    let next = read.next;
+    if may_end(next) {
+        let line = read.line;
+        line
     } else {
         without_lists(What::Unreadable)
     }
 }
 
-fn begin_line(s: &[u8], at: usize) -> Line
-    ensures { λ r. ⌜ r ≡ beginLine (now (s .entry)) at ⌝ }
+fn unread() -> Read
+    ensures { λ r. ⌜ r ≡ unread ⌝ }
 {
-    ended_by(s, at, What::Begin, Places::none())
-}
-
-fn quiet_line(s: &[u8], at: usize) -> Line
-    ensures { λ r. ⌜ r ≡ quietLine (now (s .entry)) at ⌝ }
-{
-    match text::read_decimal(s, at) {
-        Number::None => without_lists(What::Unreadable),
-        Number::Digits { value, next } => {
-            if next == s.len() {
-                without_lists(What::Quiet(value))
-            } else {
-                without_lists(What::Unreadable)
-            }
-        }
+    Read {
+        next: Next::FirstWord,
+        line: without_lists(What::Blank),
     }
 }
 
-fn tick_line(s: &[u8], at: usize) -> Line
-    ensures { λ r. ⌜ r ≡ tickLine (now (s .entry)) at ⌝ }
+fn read_words(s: &[u8]) -> Line
+    ensures { λ r. ⌜ r ≡ wholeLine (withWords unread (words (now (s .entry)))) ⌝ }
 {
-    let read = results(s, at);
-    let end = read.end;
-    match end {
-        End::Wrong => without_lists(What::Unreadable),
-        End::At(next) => match behind(s, next, b" modes ") {
-            End::Wrong => without_lists(What::Unreadable),
-            End::At(second) => {
-                let given = read.places;
-                ended_by(s, second, What::Tick, given)
+    let mut read = unread();
+    let mut at = 0;
+    loop {
+        match next_word(s, at) {
+            Word::None => return whole_line(read),
+            Word::Stands { from, to } => {
+                let more = with_word(read, &s[from..to]);
+                read = more;
+                at = to;
             }
-        },
+        }
     }
 }
 
@@ -262,19 +367,11 @@ fn tick_line(s: &[u8], at: usize) -> Line
 pub fn read_line(s: &[u8]) -> Line
     ensures { λ r. ⌜ r ≡ readLine (now (s .entry)) ⌝ }
 {
-    match behind(s, 0, b"tick results ") {
-        End::At(at) => tick_line(s, at),
-        End::Wrong => match behind(s, 0, b"quiet ") {
-            End::At(at) => quiet_line(s, at),
-            End::Wrong => match behind(s, 0, b"begin ") {
-                End::At(at) => begin_line(s, at),
-                End::Wrong => without_lists(What::Unreadable),
-            },
-        },
-    }
+    let end = comment_start(s);
+    read_words(&s[..end])
 }
 
-// A mode has 8 bits, as `modes` reads it: the remainder is the value itself.
+// A mode has 8 bits, as `with_mode` reads it: the remainder is the value itself.
 fn modes_of<'a>(values: &'a [u64; TaskNo::MOST]) -> [u8; ModuleNo::MOST]
     ensures { λ r. ⌜ r ≡ stores (replicate mostModules 0) (modeIn (now (values .entry))) mostModules ⌝ }
 {

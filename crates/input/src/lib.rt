@@ -1,8 +1,8 @@
 // Input as the programs take it: an open file or a named one, read into a lent buffer until that is full or the input ends.
 ghost use mathlib.Core.Path.{_≡_};
-ghost use lib.ListN.{length};
+ghost use lib.ListN.{length, take};
 ghost use Rattle.input.specs.Room.{zeros};
-ghost use Rattle.input.specs.Within.{Within};
+ghost use Rattle.input.specs.Within.{Further, Within};
 use manners::fail;
 use manners::own_name;
 
@@ -46,6 +46,25 @@ pub fn read_open(fd: i32, what: &[u8], buf: &mut [u8]) -> Input
         }
     }
     Input::Bytes(n)
+}
+
+// One read, of as much as has come, into the buffer from a place on, where so many bytes stand at its front already, and stay. No byte
+// more comes where the input ends, and where the buffer has no room.
+pub fn read_more(fd: i32, what: &[u8], buf: &mut [u8], from: usize) -> Input
+    ensures { λ _. ⌜ (take from (now (buf .exit)) ≡ take from (now (buf .entry))) × (length (now (buf .exit)) ≡ length (now (buf .entry))) ⌝ }
+    ensures more { λ r. ⌜ Further from r (now (buf .exit)) ⌝ }
+{
+    if buf.len() <= from {
+        return Input::Bytes(from);
+    }
+    let mut name = io::buffer();
+    let named = own_name(&mut name);
+    let got = libc::read(fd, &mut buf[from..]);
+    if got < 0 {
+        fail(&name[..named], what);
+        return Input::Unreadable;
+    }
+    Input::Bytes(from + io::count(got, &buf[from..]))
 }
 
 pub fn read_named(path: &[u8], buf: &mut [u8]) -> Input

@@ -1,2 +1,2 @@
-pub mod Answered
+pub mod Closing
 pub mod Played

@@ -1,28 +1,23 @@
--- A history played: the lines of its bytes, and the station after each.
+-- A history played: the station after all its bytes (of at most 262,144, as `answered` has it), and where it begins.
 use mathlib.Core.List.{List, [], _∷_}
 use Prim.Native.Nat.{ℕ}
-use Rattle.rules.specs.Station as rules
-use Rattle.stationruns.specs.Inputs.{startingAt}
-use Rattle.station.specs.Memory.{notBegun}
 use Rattle.station.specs.declared.Station.{Station}
-use Rattle.beginning.specs.Begins.{stationFor}
-use Rattle.hearing.specs.Heard.{afterLines}
-use Rattle.text.specs.Lines.{linesOf}
-use Rattle.history.specs.Reading.{readLine, startingFrom}
-use Rattle.history.specs.declared.Line.{Line}
+use Rattle.hearing.specs.Pieces.{heardAll}
+use Rattle.history.specs.Reading.{readLine}
 use Rattle.history.specs.declared.What.{What}
-use Rattle.history.specs.declared.What.the-variants.{Begin, Tick, Quiet, Unreadable}
-
--- the first line must be `begin`
-abbrev pub begunBy : List ℕ → List ℕ → Line → What → List (List ℕ) → Station
-begunBy plan table line Begin lines = afterLines lines (stationFor (rules.begin plan table (startingAt (startingFrom (line .modes)))))
-begunBy plan table line Tick lines = notBegun
-begunBy plan table line (Quiet n) lines = notBegun
-begunBy plan table line Unreadable lines = notBegun
-
-abbrev pub playedLines : List ℕ → List ℕ → List (List ℕ) → Station
-playedLines plan table [] = notBegun
-playedLines plan table (s ∷ lines) = begunBy plan table (readLine s) (readLine s .what) lines
+use Rattle.history.specs.declared.What.the-variants.{Blank, Begin, Tick, Quiet, Unreadable}
 
 unfoldable pub played : List ℕ → List ℕ → List ℕ → Station
-played plan table s = playedLines plan table (linesOf s)
+played plan table s = heardAll plan table s .station
+
+-- the lines from the first on that has a word
+abbrev pub unlessBlank : What → List (List ℕ) → List (List ℕ) → List (List ℕ)
+unlessBlank Blank here behind = behind
+unlessBlank Begin here behind = here
+unlessBlank Tick here behind = here
+unlessBlank (Quiet n) here behind = here
+unlessBlank Unreadable here behind = here
+
+unfoldable pub fromFirst : List (List ℕ) → List (List ℕ)
+fromFirst [] = []
+fromFirst (s ∷ lines) = unlessBlank (readLine s .what) (s ∷ lines) (fromFirst lines)

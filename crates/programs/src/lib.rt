@@ -11,6 +11,11 @@ pub extern "C" fn olbiothar_run_checktable() -> i32 {
 }
 
 #[no_mangle]
+pub extern "C" fn olbiothar_run_playstation() -> i32 {
+    playstation::run()
+}
+
+#[no_mangle]
 pub extern "C" fn olbiothar_run_tablesheet() -> i32 {
     tablesheet::run()
 }

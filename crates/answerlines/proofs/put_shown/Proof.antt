@@ -7,30 +7,19 @@ use Rattle.answerlines.proofs.put_shown.Tie as tie
 
 returns : tie.Need-returns
 returns c =
-    let c1 = c .before .before in
+    let c1 = c .before .before .before .before .before in
     let c2 = c1 .before .before .before in
-    let c3 = c2 .before .before .before in
+    let c3 = c2 .before .before .before .before in
     let c4 = c3 .before .before .before .before in
-    let a = c4 .before .before .before .before .args in (
-      none-shown (a .out .now) _ _ _ (c4 .put-bytes .result) (c3 .put-nodes .result) (c1 .put-bytes2 .result) (a .nodes)
-          (c4 .put-bytes .ensures) (c3 .put-nodes .ensures .0) (c2 .if1 .taken) (c1 .put-bytes2 .ensures),
-      omega arith,
-    )
+    (none-shown (c4 .args .out .now) _ _ _ (c4 .args .at) (c3 .put-bytes .result) (c2 .put-nodes .result) (c .before .before .put-bytes2 .result) (c3 .put-bytes .ensures) (c4 .args .nodes) (c2 .put-nodes .ensures .0) (c1 .if1 .taken) (c .before .before .put-bytes2 .ensures), omega arith)
 
 returns-2 : tie.Need-returns-2
 returns-2 c =
-    let c1 = c .before .before in
+    let c1 = c .before .before .before .before .before in
     let c2 = c1 .before .before .before in
-    let c3 = c2 .before .before .before in
+    let c3 = c2 .before .before .before .before in
     let c4 = c3 .before .before .before .before in
-    let a = c4 .before .before .before .before .args in (
-      some-shown (a .out .now) _ _ _ (c4 .put-bytes .result) (c3 .put-nodes .result) (c1 .put-bytes3 .result) (a .nodes)
-          (c4 .put-bytes .ensures) (c3 .put-nodes .ensures .0) (c2 .if1 .left) (c1 .put-bytes3 .ensures),
-      omega arith,
-    )
+    (some-shown (c4 .args .out .now) _ _ _ (c4 .args .at) (c3 .put-bytes .result) (c2 .put-nodes .result) (c .before .before .put-bytes3 .result) (c3 .put-bytes .ensures) (c4 .args .nodes) (c2 .put-nodes .ensures .0) (c1 .if1 .left) (c .before .before .put-bytes3 .ensures), omega arith)
 
 pub put-shown-spec : {M : Type 1} → statement M
-put-shown-spec =
-    tie.close
-    (tie.spec (λ c. search needs) (λ c κs. search needs) (λ c κs. search needs) (λ c. search needs) (λ c κs. search needs)
-    (λ c. search needs) returns (λ c. search needs) (λ c κs. search needs) (λ c. search needs) returns-2)
+put-shown-spec = tie.close (tie.spec (λ c. search needs) (λ c κs. search needs) (λ c κs. search needs) (λ c. search needs) (λ c κs. search needs) (λ c. search needs) returns (λ c. search needs) (λ c κs. search needs) (λ c. search needs) returns-2)
