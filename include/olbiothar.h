@@ -55,10 +55,10 @@ enum {
 #define OLBIOTHAR_STACK_TASK 2048
 #define OLBIOTHAR_STACK_SHEET 55296
 #define OLBIOTHAR_STACK_SHEET_TABLE 14336
-#define OLBIOTHAR_STACK_PLAN_TEXT 4096
-#define OLBIOTHAR_STACK_TEXT_PLAN 4096
+#define OLBIOTHAR_STACK_PLAN_TEXT 1024
+#define OLBIOTHAR_STACK_TEXT_PLAN 1024
 #define OLBIOTHAR_STACK_WORDS 256
-#define OLBIOTHAR_STACK_REASON_WORDS 1024
+#define OLBIOTHAR_STACK_REASON_WORDS 512
 
 /* The numbers of the refusals, and what the place says. olbiothar_words has them in words. */
 enum {
@@ -92,7 +92,7 @@ enum {
     OLBIOTHAR_RESULT_OVERDUE = 43,      /* task */
     OLBIOTHAR_CHANGE_NOT_ALLOWED = 44,  /* module */
     OLBIOTHAR_UNREADABLE = 60,          /* line of the text, counted from 1 */
-    OLBIOTHAR_TEXT_TOO_LONG = 61        /* 262,144, the most bytes that are read */
+    OLBIOTHAR_TEXT_TOO_LONG = 61        /* the most bytes that are read: 262,144 of a text, 65,536 of a plan that is printed */
 };
 
 /* Why a line of a plan's text cannot be read. olbiothar_reason_words has it in words. */
@@ -333,11 +333,12 @@ olbiothar_answer olbiothar_sheet_table(const uint8_t *text, size_t text_length, 
 /* Prints a plan as text: a line for each record, in the order of the file, with its number in a comment. docs/PLANS.md has the lines.
  * Plans that keep the record rules are printed, whatever the later rules say of them.
  *
- * `plan`: any bytes. `text`, `text_length`: lent bytes, with any contents; NULL with 0 asks for the bytes needed (13, if 1 does not apply).
+ * `plan`: any bytes. `text`, `text_length`: lent bytes, with any contents; NULL with 0 asks for the bytes needed (13, if no other number
+ * applies); no text has more than 2,752,512.
  *
  * number 0: the text stands in the first `place` bytes of `text`; the bytes behind it are as they were.
- * number 1: the plan breaks the record rules, at this offset. number 13: the bytes needed are more than text_length. `text` is then as it
- *   was.
+ * number 61: plan_length is above 65,536, the place. number 1: the plan breaks the record rules, at this offset. number 13: the bytes needed
+ *   are more than text_length. This is also the order in which they are tested. `text` is then as it was.
  */
 olbiothar_answer olbiothar_plan_text(const uint8_t *plan, size_t plan_length, uint8_t *text, size_t text_length);
 

@@ -10,8 +10,8 @@ use core::fmt;
 /// [`text_plan`].
 ///
 /// # Errors
-/// [`Refusal::BadRecords`]; [`Refusal::BufferTooShort`], also for an empty `text`, with the bytes needed. `text` is then as
-/// it was.
+/// [`Refusal::TextTooLong`] for a plan of more than 65,536 bytes; [`Refusal::BadRecords`]; [`Refusal::BufferTooShort`], also
+/// for an empty `text`, with the bytes needed. `text` is then as it was.
 ///
 /// # Examples
 /// ```

@@ -8,6 +8,9 @@ use crate::records::{
 use crate::text::{LONGEST_NUMBER, LONGEST_TEXT, lines, number, put_digits, words};
 use std::fmt::{self, Display, Formatter};
 
+/// The longest plan that is printed.
+pub const LONGEST_PLAN: usize = 65_536;
+
 /// What stands at a place of a line.
 #[derive(Clone, Copy)]
 enum Place {
@@ -94,6 +97,9 @@ fn places(kind: u8) -> &'static [Place] {
 
 /// Prints a plan that keeps the record rules, whatever its numbers, at the front of the lent text.
 pub fn plan_text(plan: &[u8], text: &mut [u8]) -> Result<usize, Refusal> {
+    if plan.len() > LONGEST_PLAN {
+        return Err(Refusal::new(61, LONGEST_PLAN));
+    }
     let cut = outline(plan, &PLAN_FILE).map_err(|place| Refusal::new(1, place))?;
     put_in_front(&printed(&cut), text)
 }

@@ -68,7 +68,7 @@ ofStation n =
 unfoldable pub ofText : ℕ → List ℕ
 ofText n =
     at n 60 "a line of the text cannot be read; the place is the line, counted from 1"
-    (at n 61 "the text is too long; the place is how many bytes a text may have" unknown)
+    (at n 61 "there is too much to read; the place is how many bytes are read" unknown)
 
 -- the words of any number
 unfoldable pub meaning : ℕ → List ℕ

@@ -218,7 +218,7 @@ fn put_of_text(out: &mut [u8], at: usize, number: u32) -> usize
         61 => put_bytes(
             &mut *out,
             at,
-            b"the text is too long; the place is how many bytes a text may have",
+            b"there is too much to read; the place is how many bytes are read",
         ),
         _ => put_unknown(&mut *out, at),
     }

@@ -125,9 +125,9 @@ fn limits() -> Vec<Case> {
     let mut cases = vec![
         no_plan("the longest plan", "bustable").input(longest.clone()),
         too_long("a plan too long", "bustable").input(longer.clone()),
-        too_long("a history too long", "playstation")
+        Case::new("the longest history", "playstation", "begun\n")
             .files(plan, table)
-            .input(padded("begin 0=0 1=2\n", LONGEST_TEXT + 1)),
+            .input(padded("begin 0=0 1=2\n", LONGEST_TEXT)),
     ];
     for program in ["checktable", "tablesheet"] {
         cases.push(no_plan("the longest plan", program).files(longest.clone(), []));
