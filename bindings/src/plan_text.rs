@@ -82,7 +82,7 @@ impl TextRefusal {
             (Refusal::Unreadable { line }, Some(reason)) => {
                 TextRefusal::Unreadable { line, reason }
             }
-            (Refusal::TextTooLong, None) => TextRefusal::TooLong,
+            (Refusal::TextTooLong { .. }, None) => TextRefusal::TooLong,
             (Refusal::BufferTooShort { needed }, None) => TextRefusal::BufferTooShort { needed },
             _ => unreachable!("no text gives {refusal:?} with the reason {reason}"),
         }
@@ -94,7 +94,7 @@ impl From<TextRefusal> for Refusal {
     fn from(refusal: TextRefusal) -> Refusal {
         match refusal {
             TextRefusal::Unreadable { line, .. } => Refusal::Unreadable { line },
-            TextRefusal::TooLong => Refusal::TextTooLong,
+            TextRefusal::TooLong => Refusal::TextTooLong { most: crate::LONGEST_SHEET as u64 },
             TextRefusal::BufferTooShort { needed } => Refusal::BufferTooShort { needed },
         }
     }

@@ -1,8 +1,8 @@
 //! The refusals, each with its place in the kind of number that the place is.
 
+use crate::FRAMES;
 use crate::raw::{self, Answer};
 use crate::words::Words;
-use crate::{FRAMES, LONGEST_SHEET};
 use core::fmt;
 
 /// From one list the enum, and what each refusal's number and place are. A refusal has a place of its own, or a fixed one.
@@ -169,8 +169,11 @@ refusals! {
         /// Counted from 1.
         line
     },
-    /// 61: the text is longer than any that is read.
-    61 TextTooLong at LONGEST_SHEET as u64,
+    /// 61: there is more than is read: of a text, or of a plan that is to be printed.
+    61 TextTooLong {
+        /// The most bytes that are read.
+        most
+    },
 }
 
 impl Refusal {

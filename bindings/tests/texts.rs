@@ -132,7 +132,8 @@ fn a_text_refusal_in_words() {
     assert_eq!(unreadable.to_string(), "unreadable line 7: unknown word");
     assert_eq!(Refusal::from(unreadable), Refusal::Unreadable { line: 7 });
     assert_eq!(TextRefusal::TooLong.to_string(), "too long");
-    assert_eq!(Refusal::from(TextRefusal::TooLong), Refusal::TextTooLong);
+    let too_long = Refusal::TextTooLong { most: LONGEST_SHEET as u64 };
+    assert_eq!(Refusal::from(TextRefusal::TooLong), too_long);
     let short = TextRefusal::BufferTooShort { needed: 9 };
     assert_eq!(Refusal::from(short), Refusal::BufferTooShort { needed: 9 });
     assert_eq!(short.to_string(), Refusal::from(short).to_string());
@@ -153,6 +154,9 @@ fn a_sheet_reads_back_and_a_refused_one_leaves_the_table() {
     let table = &mut [OLD; 74];
     assert_eq!(sheet_table(SHEET, table), Err(Refusal::BufferTooShort { needed: 75 }));
     assert_eq!(sheet_table(b"\nrow", table), Err(Refusal::Unreadable { line: 2 }));
-    assert_eq!(sheet_table(&[b' '; LONGEST_SHEET + 1], table), Err(Refusal::TextTooLong));
+    assert_eq!(
+        sheet_table(&[b' '; LONGEST_SHEET + 1], table),
+        Err(Refusal::TextTooLong { most: LONGEST_SHEET as u64 })
+    );
     assert_eq!(*table, [OLD; 74]);
 }

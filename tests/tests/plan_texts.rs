@@ -7,7 +7,7 @@ use reference::generate::{
     self, Made, PlanCase, Rng, TextCase, any_plan, any_records, job_a, rewritten, text_of,
 };
 use reference::plan::Plan;
-use reference::plan_text::LONGEST_PLAN_READ;
+use reference::plan_text::{LONGEST_PLAN, LONGEST_PLAN_READ};
 use reference::records::{PLAN_FILE, outline};
 use reference::text::LONGEST_TEXT;
 use reference::{Reason, Refusal, TextRefusal, plan_text, text_plan};
@@ -454,6 +454,10 @@ fn plans_seeded() {
         let answer = plan_text(&plan, &mut lent);
         count(&mut counts, &answer);
         assert!(lent[answer.unwrap_or(0)..].iter().all(|&byte| byte == OLD_BYTE), "seed {seed}");
+        if plan.len() > LONGEST_PLAN {
+            assert_eq!(answer, Err(Refusal { number: 61, place: LONGEST_PLAN }), "seed {seed}");
+            continue;
+        }
         let Some(text) = text_of(&plan) else {
             let place = outline(&plan, &PLAN_FILE).expect_err("broken records");
             assert_eq!(answer, Err(Refusal { number: 1, place }), "seed {seed}");
@@ -469,7 +473,7 @@ fn plans_seeded() {
             Ok(_) => assert!(read(&text) == Ok(plan), "seed {seed}"),
         }
     }
-    assert_reached(&counts, [0, 1, 13]);
+    assert_reached(&counts, [0, 1, 13, 61]);
 }
 
 /// Any other plan prints otherwise, also one in which a single bit is another.
@@ -478,7 +482,7 @@ fn changed_plans() {
     for seed in 0..10_000 {
         let rng = &mut Rng::new(seed);
         let mut plan = any_records(rng);
-        let before = text_of(&plan).unwrap();
+        let Some(before) = text_of(&plan) else { continue };
         let at = rng.below(plan.len());
         plan[at] ^= 1 << rng.below(8);
         assert_ne!(text_of(&plan), Some(before), "seed {seed}");

@@ -72,12 +72,16 @@ pub fn any_plan_text(rng: &mut Rng) -> Vec<u8> {
 
 /// The text of a plan that keeps the record rules.
 pub fn printed_plan(rng: &mut Rng) -> Vec<u8> {
-    let plan = any_plan(rng);
-    text_of(&plan)
-        .unwrap_or_else(|| text_of(&any_records(rng)).expect("any records keep the record rules"))
+    let mut plan = any_plan(rng);
+    loop {
+        if let Some(text) = text_of(&plan) {
+            return text;
+        }
+        plan = any_records(rng);
+    }
 }
 
-/// `None` where the bytes break the record rules.
+/// `None` where the bytes break the record rules, or are too many.
 pub fn text_of(plan: &[u8]) -> Option<Vec<u8>> {
     let Err(Refusal { number: 13, place }) = plan_text(plan, &mut []) else { return None };
     let mut text = vec![0; place];
