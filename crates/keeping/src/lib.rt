@@ -8,6 +8,7 @@ ghost use Rattle.rules.proofs.PlanKept.{PlanKept};
 ghost use Rattle.places.specs.Bits.{bitsOf};
 ghost use Rattle.plan.specs.Memory.{seen};
 ghost use Rattle.bus.specs.Senders.{byNumber};
+ghost use Rattle.station.specs.Memory.{notBegun};
 ghost use Rattle.keeping.specs.Keeping.{StopsFit, byPair, controlsOf, hasMessage, keptFrom, modesAt, modesOf, modulesOf, runsOf, stopAt, tasksOf};
 use bus::senders::Senders;
 use figures::divides;
@@ -25,15 +26,19 @@ use plan::look::module_count;
 use plan::look::task_at;
 use plan::look::task_count;
 use station::Station;
+use stationnodes::Node;
 use stationrefusals::Controls;
 use stationrefusals::Fixed;
 use stationrefusals::Modes;
 use stationrefusals::Modules;
+use stationrefusals::Play;
 use stationrefusals::Tasks;
 use units::Frame;
 use units::ModeNo;
 use units::ModuleNo;
+use units::NodeNo;
 use units::TaskNo;
+use units::Ticks;
 
 fn modules(p: Plan, senders: [bool; 256]) -> Modules
     requires { ⌜ senders ≡ byNumber (isSending (seen p)) ⌝ }
@@ -207,6 +212,23 @@ fn pair_modes<'a>(
     modes
 }
 
+// The play of a station not begun, made without the rest of that station: it would be a whole one on the stack.
+fn nothing_played() -> Play
+    ensures { λ r. ⌜ r ≡ notBegun .play ⌝ }
+{
+    Play {
+        clock: Ticks(0),
+        running: [0; ModuleNo::MOST],
+        ages: [0; ModuleNo::MOST],
+        bytes: [0; ModuleNo::MOST],
+        givens: [0; TaskNo::MOST],
+        out: [0; TaskNo::MOST],
+        held: [0; NodeNo::MOST * ModuleNo::MOST],
+        full: [0; TaskNo::MOST],
+        loads: [0; TaskNo::MOST],
+    }
+}
+
 // The station with all that it keeps, and nothing played; the arrays are by pair, and `starts` are those of the table.
 pub fn kept<'a>(
     p: Plan,
@@ -229,9 +251,6 @@ pub fn kept<'a>(
     let pair_deadlines = *pair_deadlines;
     let pair_starts = *starts;
     let period = line.period;
-    let zero = Station::not_begun();
-    let play = zero.play;
-    let nodes = zero.nodes;
     Station {
         fixed: Fixed {
             modules: modules(p, sending),
@@ -247,7 +266,7 @@ pub fn kept<'a>(
         pair_starts,
         pair_stops,
         pair_modes,
-        play,
-        nodes,
+        play: nothing_played(),
+        nodes: [Node::zero(); NodeNo::MOST],
     }
 }

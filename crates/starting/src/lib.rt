@@ -1,11 +1,13 @@
 // A station that keeps a passed plan and table, in its starting modes: refusal 40 of a beginning.
 ghost use mathlib.Core.Path.{_≡_};
 ghost use Rattle.laws.specs.Lists.{firstBad, upTo};
+ghost use Rattle.laws.specs.Loops.{stores};
 ghost use Rattle.rules.specs.Limits.{mostModules};
 ghost use Rattle.stationruns.specs.Inputs.{givenIf};
+ghost use Rattle.stationsteps.specs.Steps.{modeRule};
 ghost use Rattle.places.specs.Found.{placeIn};
 ghost use Rattle.station.specs.Memory.{notBegun};
-ghost use Rattle.starting.specs.Starting.{begunBy, holdsOwn, startTest, startedBy};
+ghost use Rattle.starting.specs.Starting.{begunBy, holdsOwn, playIn, startTest};
 ghost use Rattle.answers.specs.declared.Verdict.the-variants.{Refused};
 use answers::Refusal;
 use answers::Verdict;
@@ -14,6 +16,7 @@ use places::Found;
 use places::byte_at;
 use places::is_set;
 use station::Station;
+use stationrefusals::Play;
 use stationruns::Starting;
 use stationsteps::modes_after;
 use units::ModeNo;
@@ -80,20 +83,19 @@ fn wrong_start<'a>(
     Found::Nothing
 }
 
-fn started(mut kept: Station, starting: Starting) -> Station
-    ensures { λ r. ⌜ r ≡ startedBy kept starting ⌝ }
+// The play in its starting modes.
+fn started(mut play: Play, starting: Starting) -> Play
+    ensures { λ r. ⌜ r ≡ playIn play (stores (play .running) (modeRule (starting .modes) (starting .given) (play .running)) mostModules) ⌝ }
 {
-    let mut play = kept.play;
     let none = play.running;
     let given = starting.given;
     let running = modes_after(&starting.modes, given, none);
     play.running = running;
-    kept.play = play;
-    kept
+    play
 }
 
 // A station that keeps a passed plan and table, in its starting modes.
-pub fn begin_with(kept: Station, starting: Starting) -> Begun
+pub fn begin_with(mut kept: Station, starting: Starting) -> Begun
     ensures { λ r. ⌜ r ≡ begunBy kept starting ⌝ }
 {
     match wrong_start(
@@ -103,9 +105,13 @@ pub fn begin_with(kept: Station, starting: Starting) -> Begun
         &kept.fixed.modes.homes,
     ) {
         Found::At(m) => refused(Refusal::NotBegun(ModuleNo(m as u8))),
-        Found::Nothing => Begun {
-            answer: Verdict::Fine,
-            station: started(kept, starting),
-        },
+        Found::Nothing => {
+            let play = kept.play;
+            kept.play = started(play, starting);
+            Begun {
+                answer: Verdict::Fine,
+                station: kept,
+            }
+        }
     }
 }

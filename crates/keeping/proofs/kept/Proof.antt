@@ -1,6 +1,7 @@
 -- Each part is its callee's promise; the table by number that `modules` requires is that of `Senders::of`.
 use native.Mathlib.Omega.{arith}
 use Rattle.bus.specs.Senders.{sendersOf}
+use Rattle.station.specs.Memory.{notBegun}
 use Rattle.keeping.specs.Keeping.{keptFrom}
 use borrow.Author.Needs.{needs}
 use Rattle.keeping.proofs.kept.Statement.{statement}
@@ -14,33 +15,34 @@ pair-modes-requires c κs = let start = c .before .before .before .before .befor
 
 modules-requires : tie.Need-modules-requires
 unfolding sendersOf
-modules-requires c κs = rw (c .before .before .before .before .before .before .before .before .before .before .before .before .before .before .of .ensures)
+modules-requires c κs = rw (c .before .before .before .before .before .before .before .before .before .before .before .of .ensures)
 
 tasks-requires : tie.Need-tasks-requires
-tasks-requires c κs = let start = c .before .before .before .before .before .before .before .before .before .before .before .before .before .before .before .before .before in start .pre .0
+tasks-requires c κs = let start = c .before .before .before .before .before .before .before .before .before .before .before .before .before .before in start .pre .0
 
 controls-requires : tie.Need-controls-requires
-controls-requires c κs = let start = c .before .before .before .before .before .before .before .before .before .before .before .before .before .before .before .before .before .before in start .pre .1 .0 .0
+controls-requires c κs = let start = c .before .before .before .before .before .before .before .before .before .before .before .before .before .before .before in start .pre .1 .0 .0
 
-cast-t28 : tie.Need-cast-t28
-cast-t28 c = let start = c .before .before .before .before .before .before .before .before .before .before .before .before .before .before .before .before .before .before .before in omega (arith, start .pre .1 .0 .1)
+cast-t25 : tie.Need-cast-t25
+cast-t25 c = let start = c .before .before .before .before .before .before .before .before .before .before .before .before .before .before .before .before in omega (arith, start .pre .1 .0 .1)
 
 returns : tie.Need-returns
-unfolding keptFrom
+unfolding keptFrom notBegun
 returns c =
     rw (
-      c .before .before .before .modules .ensures,
-      c .before .before .modes .ensures,
-      c .before .tasks .ensures,
-      c .controls .ensures,
-      c .before .before .before .before .before .before .before .before .before .before .before .before .before .stops .ensures,
-      c .before .before .before .before .before .before .before .before .before .before .before .pair-modes .ensures,
-      c .before .before .before .before .before .before .before .before .before .before .before .before .before .before .before .before .runs .ensures,
-      c .before .before .before .before .before .before .not-begun .ensures,
+      c .before .before .before .before .before .modules .ensures,
+      c .before .before .before .before .modes .ensures,
+      c .before .before .before .tasks .ensures,
+      c .before .before .controls .ensures,
+      c .before .before .before .before .before .before .before .before .before .before .before .before .stops .ensures,
+      c .before .before .before .before .before .before .before .before .before .before .pair-modes .ensures,
+      c .before .before .before .before .before .before .before .before .before .before .before .before .before .before .before .runs .ensures,
+      c .before .nothing-played .ensures,
+      c .zero .ensures,
     )
 
 pub kept-spec : {M : Type 1} → statement M
 kept-spec =
     tie.close
-    (tie.spec (λ c κs. search needs) (λ c κs. search needs) stops-requires pair-modes-requires (λ c κs. search needs) modules-requires
-    (λ c κs. search needs) tasks-requires controls-requires cast-t28 returns)
+    (tie.spec (λ c κs. search needs) (λ c κs. search needs) stops-requires pair-modes-requires modules-requires
+    (λ c κs. search needs) tasks-requires controls-requires cast-t25 (λ c κs. search needs) (λ c κs. search needs) returns)

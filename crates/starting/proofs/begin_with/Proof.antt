@@ -4,13 +4,13 @@ use native.Mathlib.Omega.{arith}
 use Prim.Native.Nat.{_<_}
 use Rattle.laws.proofs.Loops.{firstBad-upTo-within}
 use Rattle.places.specs.Found.{placeIn}
-use Rattle.starting.specs.Starting.{startTest, wrongStart, begunAt, begunBy}
+use Rattle.starting.specs.Starting.{startTest, wrongStart, startedBy, begunAt, begunBy}
 use borrow.Author.Needs.{needs}
 use Rattle.starting.proofs.begin_with.Statement.{statement}
 use Rattle.starting.proofs.begin_with.Tie as tie
 
-cast-t10 : tie.Need-cast-t10
-cast-t10 c =
+cast-t11 : tie.Need-cast-t11
+cast-t11 c =
     let c1 = c .before .before .before in
     let a = c1 .before .before .before .args in
     let kept = a .t1 .fixed in
@@ -26,14 +26,13 @@ returns c =
     c .refused .ensures ∙ ap (begunAt (a .t1) (a .starting)) (sym (ap placeIn (c .before .before .m .given .1)) ∙ c1 .wrong-start .ensures)
 
 returns-2 : tie.Need-returns-2
-unfolding begunBy wrongStart
+unfolding begunBy wrongStart startedBy
 returns-2 c =
-    let c1 = c .before .before .before in
-    let a = c1 .before .before .before .args in
-    rw (c .started .ensures) (ap (begunAt (a .t1) (a .starting)) (sym (ap placeIn (c .before .enum-told .given .1)) ∙ c1 .wrong-start .ensures))
+    let a = c .before .before .before .before .before .before .before .args in
+    rw (c .started .ensures) (ap (begunAt (a .t1) (a .starting)) (sym (ap placeIn (c .before .before .enum-told .given .1)) ∙ c .before .before .before .before .wrong-start .ensures))
 
 pub begin-with-spec : {M : Type 1} → statement M
 begin-with-spec =
     tie.close
-    (tie.spec (λ c κs. search needs) (λ c. search needs) cast-t10 (λ c κs. search needs) (λ c. search needs)
+    (tie.spec (λ c κs. search needs) (λ c. search needs) cast-t11 (λ c κs. search needs) (λ c. search needs)
     (λ c κs. search needs) returns returns-2)

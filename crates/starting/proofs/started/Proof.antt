@@ -1,11 +1,9 @@
--- The promise of `modes_after` is rewritten into `startedBy`.
-use Rattle.starting.specs.Starting.{startedBy}
+-- The promise of `modes_after` is the running modes.
 use borrow.Author.Needs.{needs}
 use Rattle.starting.proofs.started.Statement.{statement}
 use Rattle.starting.proofs.started.Tie as tie
 
 returns : tie.Need-returns
-unfolding startedBy
 returns c = rw (c .modes-after .ensures .0)
 
 pub started-spec : {M : Type 1} → statement M
