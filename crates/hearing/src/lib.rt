@@ -83,7 +83,7 @@ pub struct Attended {
 // ---- answers
 
 // Whether the text was written; standard error is told where not.
-pub fn say(text: &[u8]) -> bool {
+fn say(text: &[u8]) -> bool {
     if text.len() == 0 {
         return true;
     }
