@@ -27,7 +27,7 @@
 extern "C" {
 #endif
 
-#define OLBIOTHAR_VERSION "0.8.0"
+#define OLBIOTHAR_VERSION "0.9.0"
 
 enum {
     OLBIOTHAR_NODES = 8,
@@ -46,14 +46,14 @@ enum {
 /* Bytes of stack that a call takes at most, below its caller's own variables: arguments that go by the stack, the function, and all that
  * it calls. Measured (tests/needs paints a stack, and fails where a call takes more), not proved. No function calls itself, and the
  * number of frames does not matter. */
-#define OLBIOTHAR_STACK_MAKE 51200
-#define OLBIOTHAR_STACK_CHECK 56320
-#define OLBIOTHAR_STACK_BEGIN 97280
+#define OLBIOTHAR_STACK_MAKE 84992
+#define OLBIOTHAR_STACK_CHECK 90112
+#define OLBIOTHAR_STACK_BEGIN 134144
 #define OLBIOTHAR_STACK_TICK 14336
 #define OLBIOTHAR_STACK_TIME 256
 #define OLBIOTHAR_STACK_MODULE 2048
 #define OLBIOTHAR_STACK_TASK 2048
-#define OLBIOTHAR_STACK_SHEET 55296
+#define OLBIOTHAR_STACK_SHEET 89088
 #define OLBIOTHAR_STACK_SHEET_TABLE 14336
 #define OLBIOTHAR_STACK_PLAN_TEXT 1024
 #define OLBIOTHAR_STACK_TEXT_PLAN 1024
@@ -92,7 +92,14 @@ enum {
     OLBIOTHAR_RESULT_OVERDUE = 43,      /* task */
     OLBIOTHAR_CHANGE_NOT_ALLOWED = 44,  /* module */
     OLBIOTHAR_UNREADABLE = 60,          /* line of the text, counted from 1 */
-    OLBIOTHAR_TEXT_TOO_LONG = 61        /* the most bytes that are read: 262,144 of a text, 65,536 of a plan that is printed */
+    OLBIOTHAR_TEXT_TOO_LONG = 61,       /* the most bytes that are read: 262,144 of a text, 65,536 of a plan that is printed */
+    OLBIOTHAR_NO_EDITION = 62           /* the number that was given */
+};
+
+/* The editions: which messages a table carries. A table says its own by its first byte, 16 or 20. */
+enum {
+    OLBIOTHAR_BASIC = 0,     /* every message of a task that is consumed on another node */
+    OLBIOTHAR_CONSUMERS = 1  /* those of them that a run on another node reads */
 };
 
 /* Why a line of a plan's text cannot be read. olbiothar_reason_words has it in words. */
@@ -124,24 +131,27 @@ typedef struct olbiothar_frame {
     uint32_t start;
 } olbiothar_frame;
 
-/* Makes the table of a plan by the latest-release rule.
+/* Makes the table of a plan, in one of the editions, by the latest-release rule.
  *
- * `plan`, `plan_length`: any bytes. `rows`, `row_count`: lent frame rows, 1,024 or more. `table`, `table_length`: lent bytes, with any
- * contents; OLBIOTHAR_LONGEST_TABLE are always enough, and NULL with 0 asks for the bytes needed (13, if no other number applies).
+ * `plan`, `plan_length`: any bytes. `edition`: OLBIOTHAR_BASIC or OLBIOTHAR_CONSUMERS. `rows`, `row_count`: lent frame rows, 1,024 or
+ * more. `table`, `table_length`: lent bytes, with any contents; OLBIOTHAR_LONGEST_TABLE are always enough, and NULL with 0 asks for the
+ * bytes needed (13, if no other number applies).
  *
  * number 0: the table stands in the first `place` bytes of `table`, and passes olbiothar_check; the bytes behind it are as they
  *   were. The rows are the frames by number, with their starts, then zero rows to the end.
- * number 1 to 13: the bytes of `table` are as they were, every row is zero.
+ * number 1 to 13, and 62 (no such edition; tested before these): the bytes of `table` are as they were, every row is zero.
  * number 19 (fewer than 1,024 rows; tested before all else): table and rows are as they were.
  */
-olbiothar_answer olbiothar_make(const uint8_t *plan, size_t plan_length, olbiothar_frame *rows, size_t row_count,
+olbiothar_answer olbiothar_make(const uint8_t *plan, size_t plan_length, uint8_t edition, olbiothar_frame *rows, size_t row_count,
                                 uint8_t *table, size_t table_length);
 
-/* Judges a table of a plan, whoever made it. What is proved of a table that passes: take a station that begins with it, and any ticks
- * that are accepted one after the other; refused ones in between change nothing. Behind each of them a task's own node, and each node
- * that consumes the task (a connection leads from it to a task there), shows the value that the task would have if all tasks ran on
- * one board and there were no bus. Of other nodes nothing is said here. And no two frames of such a table, of one cycle or of two, stand
- * closer than the gap of the plan's bus.
+/* Judges a table of a plan, whoever made it, in the edition that its first byte says: 20 is OLBIOTHAR_CONSUMERS, and anything else, and no
+ * byte, OLBIOTHAR_BASIC. What is proved of a table that passes: take a station that begins with it, and any ticks that are accepted one
+ * after the other; refused ones in between change nothing. Behind each of them a task's own node, and each node that consumes the task (a
+ * connection leads from it to a task there), shows the value that the task would have if all tasks ran on one board and there were no bus.
+ * In OLBIOTHAR_CONSUMERS a node that consumes the task shows it at each tick at which a run of the consumer is released, where its own
+ * node does at every tick. Of other nodes nothing is said here. And no two frames of such a table, of one cycle or of two, stand closer
+ * than the gap of the plan's bus.
  *
  * number 0: it passes (`place` is 0). The rows are the frames by number, with their starts in this table, then zero rows to the end.
  * number 1 to 11 (the plan's) and 20 to 28 (the table's): every row is zero.
@@ -199,7 +209,8 @@ typedef struct olbiothar_station {
     uint32_t pair_deadlines[OLBIOTHAR_FRAMES];      /* by pair: its deadline, as a bus time */
     uint32_t pair_starts[OLBIOTHAR_FRAMES];         /* by pair: the bus time at which its data row starts */
     uint32_t pair_stops[OLBIOTHAR_FRAMES];          /* by pair: the bus time at which its data row stops, and lands */
-    uint32_t pair_modes[OLBIOTHAR_FRAMES];          /* by pair: bit m says that mode m has a message of the task with this deadline */
+    uint32_t pair_modes[OLBIOTHAR_FRAMES];          /* by pair: bit m says that mode m has a message of the task with this deadline
+                                                     * (in OLBIOTHAR_CONSUMERS: one that is read) */
     /* What a tick changes. */
     struct {
         uint32_t clock;                             /* the bus time of the next tick: 0 at first, then from 1 to P and again from 1 */

@@ -37,6 +37,23 @@ pub fn plan_with(rates: &[u16]) -> Draft {
     draft
 }
 
+/// Read so often in the cycle, in one mode and in another, tasks that run more often have fewer frames than messages.
+const READ_RATES: [u16; 2] = [60, 44];
+/// How many frames there are then.
+pub const READ_FRAMES: usize = 1_024;
+const RATES_READ: [u16; 15] = [110, 112, 117, 120, 126, 130, 132, 140, 143, 144, 60, 56, 52, 28, 1];
+
+/// The same plan with other rates, for consumers: its one reader runs in two modes.
+pub fn plan_read() -> Draft {
+    let mut draft = plan_with(&RATES_READ);
+    let reader = RATES_READ.len() as u8;
+    draft.invocations.pop();
+    draft.modes.push(draft.modes[1]);
+    let modes = (1..).zip(READ_RATES);
+    draft.invocations.extend(modes.map(|(mode, rate)| Invocation { mode, task: reader, rate }));
+    draft
+}
+
 /// Starting modes, and ticks that are all accepted.
 pub fn ticks_of(plan: &[u8]) -> (Modes, Vec<Tick>) {
     let read = plan::read(plan).expect("the plan is good");

@@ -2,10 +2,10 @@
 //! both, one after the other; a line has the medians over the rounds, the median of the rounds'
 //! ratios, and the ratios between which the middle half of the rounds lies.
 
-use bench::{SIZES, TICKS, plan_with, ticks_of};
+use bench::{READ_FRAMES, SIZES, TICKS, plan_read, plan_with, ticks_of};
 use olbiothar::{FRAMES, Frame, LONGEST_SHEET, LONGEST_TABLE, Refusal, Station};
-use reference::FrameRow;
 use reference::generate::quick_runs;
+use reference::{Edition, FrameRow};
 use std::hint::black_box;
 use std::time::Instant;
 
@@ -61,19 +61,30 @@ fn line(name: &str, frames: usize) -> String {
     format!("{name:<11} {frames:>6}")
 }
 
-fn compare_make(frames: usize, plan: &[u8]) -> Vec<u8> {
+/// What a line is called by: consumers have lines of their own.
+fn name(function: &str, edition: Edition) -> String {
+    match edition {
+        Edition::Basic => function.to_string(),
+        Edition::Consumers => format!("{function}, read"),
+    }
+}
+
+fn compare_make(edition: Edition, frames: usize, plan: &[u8]) -> Vec<u8> {
+    let proved_edition = olbiothar::Edition::from_number(edition as u8).expect("as many editions");
     let (mut proved_rows, mut rows) = ([Frame::default(); FRAMES], [FrameRow::default(); FRAMES]);
     let (mut proved_table, mut table) = ([0; LONGEST_TABLE], [0; LONGEST_TABLE]);
-    let length = reference::make(plan, &mut rows, &mut table).expect("the plan has a table");
-    assert_eq!(olbiothar::make(plan, &mut proved_rows, &mut proved_table), Ok(length));
+    let length =
+        reference::make(plan, edition, &mut rows, &mut table).expect("the plan has a table");
+    let made = olbiothar::make(plan, proved_edition, &mut proved_rows, &mut proved_table);
+    assert_eq!(made, Ok(length));
     assert_eq!(proved_table, table);
     assert_eq!(rows.iter().filter(|row| row.deadline > 0).count(), frames);
     let made = table[..length].to_vec();
     compare(
-        &line("make", frames),
+        &line(&name("make", edition), frames),
         1,
-        || olbiothar::make(black_box(plan), &mut proved_rows, &mut proved_table),
-        || reference::make(black_box(plan), &mut rows, &mut table),
+        || olbiothar::make(black_box(plan), proved_edition, &mut proved_rows, &mut proved_table),
+        || reference::make(black_box(plan), edition, &mut rows, &mut table),
     );
     made
 }
@@ -82,7 +93,7 @@ fn compare_check(frames: usize, plan: &[u8], table: &[u8]) {
     let (mut proved_rows, mut rows) = ([Frame::default(); FRAMES], [FrameRow::default(); FRAMES]);
     assert_eq!(olbiothar::check(plan, table, &mut proved_rows), Ok(()));
     compare(
-        &line("check", frames),
+        &line(&name("check", Edition::of_table(table)), frames),
         1,
         || olbiothar::check(black_box(plan), table, &mut proved_rows),
         || reference::check(black_box(plan), table, &mut rows),
@@ -151,7 +162,7 @@ fn compare_ticks(frames: usize, plan: &[u8], table: &[u8]) {
     let begun = Station::begun(plan, table, &modes).expect("the table passes");
     let rust_begun = reference::Station::begin(plan, table, modes).expect("the table passes");
     compare(
-        &line("tick", frames),
+        &line(&name("tick", Edition::of_table(table)), frames),
         TICKS,
         || {
             let mut station = begun.clone();
@@ -177,18 +188,17 @@ fn compare_quick(tasks: usize, ticks: u32, period: u32) {
     let plan = quick_runs(period, &vec![rate; tasks]).bytes();
     let (mut proved_rows, mut rows) = ([Frame::default(); FRAMES], [FrameRow::default(); FRAMES]);
     let (mut proved_table, mut table) = ([0; LONGEST_TABLE], [0; LONGEST_TABLE]);
-    assert_eq!(
-        olbiothar::make(&plan, &mut proved_rows, &mut proved_table),
-        Err(Refusal::TooManyFrames)
-    );
-    let refusal = reference::make(&plan, &mut rows, &mut table).expect_err("9");
+    let basic = olbiothar::Edition::Basic;
+    let made = olbiothar::make(&plan, basic, &mut proved_rows, &mut proved_table);
+    assert_eq!(made, Err(Refusal::TooManyFrames));
+    let refusal = reference::make(&plan, Edition::Basic, &mut rows, &mut table).expect_err("9");
     assert_eq!((refusal.number, refusal.place), (9, 0));
     let messages = tasks * usize::from(rate) + 1;
     compare(
         &format!("{tasks:>5} {ticks:>6} {period:>10} {messages:>10}"),
         1,
-        || olbiothar::make(black_box(&plan), &mut proved_rows, &mut proved_table),
-        || reference::make(black_box(&plan), &mut rows, &mut table),
+        || olbiothar::make(black_box(&plan), basic, &mut proved_rows, &mut proved_table),
+        || reference::make(black_box(&plan), Edition::Basic, &mut rows, &mut table),
     );
 }
 
@@ -196,7 +206,7 @@ fn main() {
     println!("            frames    proved ns    Rust ns    ratio   middle half");
     for (frames, rates) in SIZES {
         let plan = plan_with(rates).bytes();
-        let table = compare_make(frames, &plan);
+        let table = compare_make(Edition::Basic, frames, &plan);
         compare_check(frames, &plan, &table);
         compare_ticks(frames, &plan, &table);
         let sheet = compare_sheet(frames, &plan, &table);
@@ -204,6 +214,10 @@ fn main() {
         let text = compare_plan_text(frames, &plan);
         compare_text_plan(frames, &text, &plan);
     }
+    let plan = plan_read().bytes();
+    let table = compare_make(Edition::Consumers, READ_FRAMES, &plan);
+    compare_check(READ_FRAMES, &plan, &table);
+    compare_ticks(READ_FRAMES, &plan, &table);
     println!("\nrefused 9 at 0");
     println!("tasks  ticks          P   messages    proved ns    Rust ns    ratio   middle half");
     for tasks in [1, 31] {

@@ -2,7 +2,7 @@
 //!
 //!     cargo run --release --package olbiothar --example plan TEXT
 
-use olbiothar::{FRAMES, Frame, LONGEST_SHEET, LONGEST_TABLE, make, sheet, text_plan};
+use olbiothar::{Edition, FRAMES, Frame, LONGEST_SHEET, LONGEST_TABLE, make, sheet, text_plan};
 use std::error::Error;
 use std::process::ExitCode;
 
@@ -24,7 +24,7 @@ fn print_sheet() -> Result<(), Box<dyn Error>> {
     let length = text_plan(&text, &mut plan)?;
     let plan = &plan[..length];
     let mut table = [0; LONGEST_TABLE];
-    let length = make(plan, &mut [Frame::default(); FRAMES], &mut table)?;
+    let length = make(plan, Edition::Basic, &mut [Frame::default(); FRAMES], &mut table)?;
     let mut printed = vec![0; LONGEST_SHEET];
     let sheet = sheet(plan, &table[..length], &mut printed);
     print!("{}", std::str::from_utf8(&printed[..sheet.length])?);

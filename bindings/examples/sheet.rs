@@ -3,14 +3,14 @@
 //!
 //!     cargo run --release --package olbiothar --example sheet PLAN
 
-use olbiothar::{FRAMES, Frame, LONGEST_SHEET, LONGEST_TABLE, make, sheet, sheet_table};
+use olbiothar::{Edition, FRAMES, Frame, LONGEST_SHEET, LONGEST_TABLE, make, sheet, sheet_table};
 use std::error::Error;
 
 fn main() -> Result<(), Box<dyn Error>> {
     let path = std::env::args().nth(1).ok_or("which plan?")?;
     let plan = std::fs::read(path)?;
     let mut table = [0; LONGEST_TABLE];
-    let length = make(&plan, &mut [Frame::default(); FRAMES], &mut table)?;
+    let length = make(&plan, Edition::Basic, &mut [Frame::default(); FRAMES], &mut table)?;
     let mut text = vec![0; LONGEST_SHEET];
     let printed = sheet(&plan, &table[..length], &mut text);
     printed.checked?;

@@ -2,7 +2,9 @@
 //!
 //!     cargo run --release --package olbiothar --example station PLAN
 
-use olbiothar::{FRAMES, Frame, LONGEST_TABLE, MODULES, Results, Station, TASKS, check, make};
+use olbiothar::{
+    Edition, FRAMES, Frame, LONGEST_TABLE, MODULES, Results, Station, TASKS, check, make,
+};
 use std::error::Error;
 
 fn main() -> Result<(), Box<dyn Error>> {
@@ -10,7 +12,7 @@ fn main() -> Result<(), Box<dyn Error>> {
     let plan = std::fs::read(path)?;
     let mut rows = [Frame::default(); FRAMES];
     let mut room = [0; LONGEST_TABLE];
-    let length = make(&plan, &mut rows, &mut room)?;
+    let length = make(&plan, Edition::Basic, &mut rows, &mut room)?;
     let table = &room[..length];
     println!("a table of {length} bytes");
     for frame in rows.iter().take_while(|frame| frame.deadline > 0) {

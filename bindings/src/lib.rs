@@ -9,7 +9,7 @@
 //!
 //! # From a plan to its table
 //! ```
-//! use olbiothar::{FRAMES, Frame, LONGEST_TABLE, check, make, text_plan};
+//! use olbiothar::{Edition, FRAMES, Frame, LONGEST_TABLE, check, make, text_plan};
 //!
 //! let text = b"
 //!     bus kbit/s 1000 overhead-bytes 8 least-payload 0 largest-payload 254 gap-bits 10 resolution 1
@@ -30,7 +30,7 @@
 //!
 //! let mut rows = [Frame::default(); FRAMES];
 //! let mut table = [0; LONGEST_TABLE];
-//! let length = make(plan, &mut rows, &mut table)?;
+//! let length = make(plan, Edition::Basic, &mut rows, &mut table)?;
 //! assert_eq!((rows[0].release, rows[0].deadline), (1_000, 30_000));
 //! check(plan, &table[..length], &mut rows)?;
 //! # Ok::<(), Box<dyn std::error::Error>>(())
@@ -42,12 +42,14 @@
 #[cfg(test)]
 extern crate std;
 
+mod edition;
 mod plan_text;
 mod raw;
 mod refusal;
 mod station;
 mod words;
 
+pub use edition::Edition;
 pub use plan_text::{Reason, TextRefusal, Word, plan_text, text_plan};
 pub use refusal::Refusal;
 pub use station::{Modes, ModuleNow, Results, Row, Station, TaskNow, TimeNow};
@@ -82,8 +84,8 @@ pub struct Frame {
     pub start: u32,
 }
 
-/// Makes the table of a plan, by the latest-release rule, at the front of `table`, and gives its length. [`LONGEST_TABLE`]
-/// bytes are always enough. The rows are then the frames by number, and zero rows behind them.
+/// Makes the table of a plan in one of the editions, by the latest-release rule, at the front of `table`, and gives its length.
+/// [`LONGEST_TABLE`] bytes are always enough. The rows are then the frames by number, and zero rows behind them.
 ///
 /// # Errors
 /// [`Refusal::TooFewRows`], which changes nothing; else 1 to 13, from [`Refusal::BadRecords`] to [`Refusal::BufferTooShort`]:
@@ -91,20 +93,29 @@ pub struct Frame {
 ///
 /// # Examples
 /// ```
-/// use olbiothar::{FRAMES, Frame, LONGEST_TABLE, Refusal, make};
+/// use olbiothar::{Edition, FRAMES, Frame, LONGEST_TABLE, Refusal, make};
 ///
 /// let (mut rows, mut table) = ([Frame::default(); FRAMES], [0; LONGEST_TABLE]);
 /// let plan = include_bytes!("../../docs/examples/job-a.plan");
-/// assert_eq!(make(plan, &mut rows, &mut table), Ok(75));
-/// assert_eq!(make(plan, &mut rows, &mut []), Err(Refusal::BufferTooShort { needed: 75 }));
-/// assert_eq!(make(&[], &mut rows, &mut table), Err(Refusal::BadRecords { offset: 0 }));
+/// assert_eq!(make(plan, Edition::Basic, &mut rows, &mut table), Ok(75));
+/// assert_eq!(make(plan, Edition::Consumers, &mut rows, &mut table), Ok(33));
+/// let short = make(plan, Edition::Basic, &mut rows, &mut []);
+/// assert_eq!(short, Err(Refusal::BufferTooShort { needed: 75 }));
+/// let empty = make(&[], Edition::Basic, &mut rows, &mut table);
+/// assert_eq!(empty, Err(Refusal::BadRecords { offset: 0 }));
 /// ```
-pub fn make(plan: &[u8], rows: &mut [Frame], table: &mut [u8]) -> Result<usize, Refusal> {
+pub fn make(
+    plan: &[u8],
+    edition: Edition,
+    rows: &mut [Frame],
+    table: &mut [u8],
+) -> Result<usize, Refusal> {
     // SAFETY: each pointer leads to as many bytes or rows as the number behind it says.
     let answer = unsafe {
         raw::olbiothar_make(
             plan.as_ptr(),
             plan.len(),
+            edition as u8,
             rows.as_mut_ptr(),
             rows.len(),
             table.as_mut_ptr(),
@@ -114,7 +125,7 @@ pub fn make(plan: &[u8], rows: &mut [Frame], table: &mut [u8]) -> Result<usize, 
     Refusal::of(answer).map(|length| length as usize)
 }
 
-/// Judges a table of a plan, whoever made it. The rows are then the frames by number, with their starts in this table, and
+/// Judges a table of a plan, whoever made it, in its own [`Edition::of_table`]. The rows are then the frames by number, with their starts in this table, and
 /// zero rows behind them. What a table that passes is good for is said at [`Station`].
 ///
 /// # Errors

@@ -177,6 +177,7 @@ unsafe extern "C" {
     pub fn olbiothar_make(
         plan: *const u8,
         plan_length: usize,
+        edition: u8,
         rows: *mut Frame,
         row_count: usize,
         table: *mut u8,

@@ -174,6 +174,13 @@ refusals! {
         /// The most bytes that are read.
         most
     },
+    /// 62: no edition has this number. An [`Edition`] always has one that is.
+    ///
+    /// [`Edition`]: crate::Edition
+    62 NoEdition {
+        /// The number that was given.
+        number
+    },
 }
 
 impl Refusal {

@@ -69,15 +69,17 @@ pub struct TaskNow {
 /// A played station. It holds its own copy of what it needs of plan and table, 27,016 bytes, and nothing elsewhere.
 ///
 /// With a table that passes, and behind each accepted tick, a task's own node and each node that consumes the task shows the
-/// value that the task would have if all tasks ran on one board and there were no bus: that is proved.
+/// value that the task would have if all tasks ran on one board and there were no bus: that is proved. With a table of
+/// [`Edition::Consumers`](crate::Edition::Consumers) a node that consumes the task shows it at each tick at which a run of the
+/// consumer is released.
 ///
 /// # Examples
 /// ```
-/// use olbiothar::{FRAMES, Frame, LONGEST_TABLE, MODULES, Station, TASKS, TimeNow, make};
+/// use olbiothar::{Edition, FRAMES, Frame, LONGEST_TABLE, MODULES, Station, TASKS, TimeNow, make};
 ///
 /// let plan = include_bytes!("../../docs/examples/job-a.plan");
 /// let mut table = [0; LONGEST_TABLE];
-/// let length = make(plan, &mut [Frame::default(); FRAMES], &mut table)?;
+/// let length = make(plan, Edition::Basic, &mut [Frame::default(); FRAMES], &mut table)?;
 ///
 /// // Modules 0 and 1 start in modes 0 and 2.
 /// let mut modes = [None; MODULES];

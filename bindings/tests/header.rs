@@ -1,6 +1,6 @@
 //! The names and numbers of `include/olbiothar.h` and those of this crate are the same, and the version is one.
 
-use olbiothar::{Reason, Refusal, Word};
+use olbiothar::{Edition, Reason, Refusal, Word};
 use std::collections::BTreeMap;
 
 const HEADER: &str = include_str!("../../include/olbiothar.h");
@@ -43,6 +43,9 @@ fn names_and_numbers() {
     ];
     let mut here: BTreeMap<String, u64> =
         sizes.iter().map(|(name, size)| (name.to_string(), *size as u64)).collect();
+    for edition in [Edition::Basic, Edition::Consumers] {
+        here.insert(c_name(edition), edition as u64);
+    }
     here.insert("DONE".into(), 0);
     here.insert("NO_REASON".into(), 0);
     here.insert("WORD_EXPECTED".into(), Reason::Expected(Word::Bus).number().into());

@@ -3,10 +3,11 @@
 mod program;
 
 use olbiothar::{
-    FRAMES, Frame, LONGEST_TABLE, MODULES, Modes, Refusal, Row, Station, TASKS, TimeNow, make,
+    Edition, FRAMES, Frame, LONGEST_TABLE, MODULES, Modes, Refusal, Row, Station, TASKS, TimeNow,
+    make,
 };
 use program::Bindings;
-use reference::generate::{History, PlayCase, Rng, Tick, play_case};
+use reference::generate::{History, PlayCase, Rng, Tick, play_case, seeds};
 use reference::plan;
 use reference::program::{Program, Reference};
 
@@ -16,7 +17,7 @@ const NO_CHANGE: Modes = [None; MODULES];
 
 fn table() -> Vec<u8> {
     let mut table = vec![0; LONGEST_TABLE];
-    let length = make(PLAN, &mut [Frame::default(); FRAMES], &mut table).unwrap();
+    let length = make(PLAN, Edition::Basic, &mut [Frame::default(); FRAMES], &mut table).unwrap();
     table.truncate(length);
     table
 }
@@ -125,9 +126,9 @@ fn what_is_not_there() {
 /// Seeded histories, with faults in them, in both programs.
 #[test]
 fn answers_as_the_rust_program_at_every_tick() {
-    for seed in 0..60 {
+    for (edition, seed) in seeds(50) {
         let rng = &mut Rng::new(seed);
-        let PlayCase { plan, table, modes, .. } = play_case(rng);
+        let PlayCase { plan, table, modes, .. } = play_case(rng, edition);
         let (mut proved, mut rust) = (Bindings::default(), Reference::default());
         let begun = proved.begin(&plan, &table, &modes);
         assert_eq!(begun, rust.begin(&plan, &table, &modes), "seed {seed}");

@@ -121,7 +121,7 @@ fn each_number_has_its_refusal_and_each_refusal_its_words() {
         assert_eq!(refusal.to_string(), line);
         assert_eq!(format!("{said:?}"), format!("{:?}", said.as_str()));
     }
-    assert_eq!(refusals.len(), 30);
+    assert_eq!(refusals.len(), 31);
     assert_eq!(Refusal::from_number(0, 5), None);
     assert!(Refusal::NoRoom { frame: 3 }.words().starts_with("no place for a frame"));
 }

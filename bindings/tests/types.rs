@@ -1,8 +1,8 @@
 //! What a caller may do with the types.
 
 use olbiothar::{
-    Frame, Modes, ModuleNow, Reason, Refusal, Results, Row, Sheet, Station, TaskNow, TextRefusal,
-    TimeNow, Word, Words,
+    Edition, Frame, Modes, ModuleNow, Reason, Refusal, Results, Row, Sheet, Station, TaskNow,
+    TextRefusal, TimeNow, Word, Words,
 };
 use std::error::Error;
 use std::fmt::{Debug, Display};
@@ -18,6 +18,7 @@ fn is_error<T: Error + Display>() {}
 
 #[test]
 fn every_type_is_plain() {
+    is_plain::<Edition>();
     is_plain::<Frame>();
     is_plain::<Sheet>();
     is_plain::<Refusal>();
@@ -36,6 +37,7 @@ fn every_type_is_plain() {
 
 #[test]
 fn all_but_stations_and_words_are_small() {
+    is_small::<Edition>();
     is_small::<Frame>();
     is_small::<Sheet>();
     is_small::<Refusal>();
@@ -68,7 +70,7 @@ fn stations_play_in_threads_of_their_own() {
         std::thread::spawn(|| {
             let mut table = [0; olbiothar::LONGEST_TABLE];
             let mut rows = [Frame::default(); olbiothar::FRAMES];
-            let length = olbiothar::make(plan, &mut rows, &mut table).unwrap();
+            let length = olbiothar::make(plan, Edition::Basic, &mut rows, &mut table).unwrap();
             let mut modes = [None; olbiothar::MODULES];
             (modes[0], modes[1]) = (Some(0), Some(2));
             let mut station = Station::begun(plan, &table[..length], &modes).unwrap();

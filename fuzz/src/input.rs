@@ -1,5 +1,7 @@
 //! An input taken apart; behind its end there are zeros.
 
+use reference::Edition;
+
 #[derive(Debug)]
 pub struct Input<'a>(&'a [u8]);
 
@@ -18,6 +20,10 @@ impl<'a> Input<'a> {
         let Some((&first, rest)) = self.0.split_first() else { return 0 };
         self.0 = rest;
         first
+    }
+
+    pub fn edition(&mut self) -> Edition {
+        if self.byte().is_multiple_of(2) { Edition::Basic } else { Edition::Consumers }
     }
 
     pub fn rest(&self) -> &'a [u8] {

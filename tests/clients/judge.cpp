@@ -108,9 +108,9 @@ public:
         return olbiothar_check(plan_.data(), plan_.size(), lent.data(), lent.size(), rows.data(), rows.size());
     }
 
-    olbiothar_answer makes(const Lent &table, std::size_t row_count = OLBIOTHAR_FRAMES) const {
+    olbiothar_answer makes(const Lent &table, std::size_t row_count = OLBIOTHAR_FRAMES, std::uint8_t edition = OLBIOTHAR_BASIC) const {
         std::vector<olbiothar_frame> rows(row_count);
-        return olbiothar_make(plan_.data(), plan_.size(), rows.data(), rows.size(), table.data(), table.size());
+        return olbiothar_make(plan_.data(), plan_.size(), edition, rows.data(), rows.size(), table.data(), table.size());
     }
 
     std::string sheet(const Bytes &table) const {
@@ -163,6 +163,8 @@ void lend_too_little(const Judge &judge, const Bytes &table) {
     EXPECT((judge.makes(enough) == olbiothar_answer{OLBIOTHAR_DONE, table.size()}));
     EXPECT(std::equal(table.begin(), table.end(), enough.begin()));
     EXPECT((judge.makes(enough, OLBIOTHAR_FRAMES - 1) == olbiothar_answer{OLBIOTHAR_TOO_FEW_ROWS, OLBIOTHAR_FRAMES}));
+    const std::uint8_t none = OLBIOTHAR_CONSUMERS + 1;
+    EXPECT((judge.makes(enough, OLBIOTHAR_FRAMES, none) == olbiothar_answer{OLBIOTHAR_NO_EDITION, none}));
     const Lent short_sheet(OLBIOTHAR_LONGEST_SHEET - 1, 0x5a);
     const auto sheet = olbiothar_sheet(judge.plan().data(), judge.plan().size(), table.data(), table.size(), short_sheet.data(),
                                        short_sheet.size());
@@ -177,8 +179,8 @@ void lend_nothing(const Judge &judge) {
     const Lent &plan = judge.plan();
     std::vector<olbiothar_frame> rows(OLBIOTHAR_FRAMES);
     const olbiothar_answer no_records{OLBIOTHAR_BAD_RECORDS, 0}, no_rows{OLBIOTHAR_TOO_FEW_ROWS, OLBIOTHAR_FRAMES};
-    EXPECT(olbiothar_make(nullptr, 0, rows.data(), rows.size(), nullptr, 0) == no_records);
-    EXPECT(olbiothar_make(plan.data(), plan.size(), nullptr, 0, nullptr, 0) == no_rows);
+    EXPECT(olbiothar_make(nullptr, 0, OLBIOTHAR_BASIC, rows.data(), rows.size(), nullptr, 0) == no_records);
+    EXPECT(olbiothar_make(plan.data(), plan.size(), OLBIOTHAR_CONSUMERS, nullptr, 0, nullptr, 0) == no_rows);
     EXPECT(olbiothar_check(nullptr, 0, nullptr, 0, rows.data(), rows.size()) == no_records);
     EXPECT((olbiothar_check(plan.data(), plan.size(), nullptr, 0, rows.data(), rows.size()) ==
             olbiothar_answer{OLBIOTHAR_BAD_TABLE_RECORDS, 0}));
@@ -202,6 +204,24 @@ void begin_too_early(const Judge &judge, Bytes table) {
     EXPECT(judge.sheet(table).compare(0, top.size(), top) == 0);
     table.pop_back();
     EXPECT((judge.judged(table) == olbiothar_answer{OLBIOTHAR_BAD_TABLE_RECORDS, table.size()}));
+}
+
+// The table for the plan's consumers, if it has one, says so in front; it passes, its sheet says it too, and as a basic table it passes only
+// where it has the same rows.
+void make_for_consumers(const Judge &judge, const Bytes &basic) {
+    const Lent longest(OLBIOTHAR_LONGEST_TABLE);
+    const olbiothar_answer answer = judge.makes(longest, OLBIOTHAR_FRAMES, OLBIOTHAR_CONSUMERS);
+    if (answer.number != OLBIOTHAR_DONE) {
+        EXPECT(answer.number >= OLBIOTHAR_NO_BUS_TASK && answer.number <= OLBIOTHAR_NO_ROOM);
+        return;
+    }
+    Bytes table(longest.begin(), longest.begin() + answer.place);
+    EXPECT(table[0] == 20 && basic[0] == 16 && verdict(judge, table) == "passed");
+    const std::string sheet = judge.sheet(table), said = " consumers  # ticks of one microsecond";
+    EXPECT(sheet.find(said) < sheet.find('\n') && judge.sheet(basic).find(said) == std::string::npos);
+    begin_too_early(judge, table);
+    table[0] = 16;
+    EXPECT(table == basic || verdict(judge, table) != "passed" || table.size() == basic.size());
 }
 
 // Lines of a plan that cannot be read, and why.
@@ -233,6 +253,7 @@ int run(const std::vector<std::string> &names) {
     lend_too_little(judge, table);
     lend_nothing(judge);
     begin_too_early(judge, table);
+    make_for_consumers(judge, table);
     misspell();
     std::cout << names.front() << ": its own table passed, and what was spoiled was refused\n";
     return 0;

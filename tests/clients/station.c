@@ -79,7 +79,7 @@ static void read_plan(const char *name) {
 }
 
 static void make_table(const char *name) {
-    olbiothar_answer made = olbiothar_make(plan, plan_length, rows, OLBIOTHAR_FRAMES, table, sizeof table);
+    olbiothar_answer made = olbiothar_make(plan, plan_length, OLBIOTHAR_BASIC, rows, OLBIOTHAR_FRAMES, table, sizeof table);
     if (made.number != OLBIOTHAR_DONE) refuse(name, made);
     table_length = made.place;
     olbiothar_answer checked = olbiothar_check(plan, plan_length, table, table_length, rows, OLBIOTHAR_FRAMES);

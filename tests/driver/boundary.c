@@ -1,6 +1,6 @@
-/* What the header promises of the boundary itself: parts that are not lent, a sheet and a plan's text there and back, words, a station's
- * fields where the header has them and what is said of them, and a station that holds any bytes. The word on the command line is the plan of
- * job A.
+/* What the header promises of the boundary itself: parts that are not lent, editions, a sheet and a plan's text there and back, words, a
+ * station's fields where the header has them and what is said of them, and a station that holds any bytes. The word on the command line is
+ * the plan of job A.
  *
  * That the structs have the sizes, alignments and offsets of the library is asserted in the header, which is compiled here.
  */
@@ -48,9 +48,11 @@ static int prints(const uint8_t *of, size_t length, uint8_t *into, size_t room, 
 
 /* NULL with a length of 0, for every lent part of every function. */
 static void nothing_lent(void) {
-    HOLDS(is(olbiothar_make(NULL, 0, rows, OLBIOTHAR_FRAMES, NULL, 0), OLBIOTHAR_BAD_RECORDS, 0));
-    HOLDS(is(olbiothar_make(plan, plan_length, NULL, 0, NULL, 0), OLBIOTHAR_TOO_FEW_ROWS, OLBIOTHAR_FRAMES));
-    HOLDS(is(olbiothar_make(plan, plan_length, NULL, 0, table, LENGTH), OLBIOTHAR_TOO_FEW_ROWS, OLBIOTHAR_FRAMES));
+    for (uint8_t edition = OLBIOTHAR_BASIC; edition <= OLBIOTHAR_CONSUMERS; edition++) {
+        HOLDS(is(olbiothar_make(NULL, 0, edition, rows, OLBIOTHAR_FRAMES, NULL, 0), OLBIOTHAR_BAD_RECORDS, 0));
+        HOLDS(is(olbiothar_make(plan, plan_length, edition, NULL, 0, NULL, 0), OLBIOTHAR_TOO_FEW_ROWS, OLBIOTHAR_FRAMES));
+        HOLDS(is(olbiothar_make(plan, plan_length, edition, NULL, 0, table, LENGTH), OLBIOTHAR_TOO_FEW_ROWS, OLBIOTHAR_FRAMES));
+    }
     HOLDS(is(olbiothar_check(NULL, 0, NULL, 0, NULL, 0), OLBIOTHAR_TOO_FEW_ROWS, OLBIOTHAR_FRAMES));
     HOLDS(is(olbiothar_check(NULL, 0, NULL, 0, rows, OLBIOTHAR_FRAMES), OLBIOTHAR_BAD_RECORDS, 0));
     HOLDS(is(olbiothar_check(plan, plan_length, NULL, 0, rows, OLBIOTHAR_FRAMES), OLBIOTHAR_BAD_TABLE_RECORDS, 0));
@@ -69,9 +71,68 @@ static void nothing_lent(void) {
     HOLDS(olbiothar_text_plan(NULL, 0, table, LENGTH).reason == OLBIOTHAR_BUS_EXPECTED);
     HOLDS(olbiothar_words(OLBIOTHAR_NO_ROOM, NULL, 0) == 0 && olbiothar_reason_words(OLBIOTHAR_BUS_EXPECTED, NULL, 0) == 0);
     /* A caller asks for the bytes needed, and lends so many. */
-    olbiothar_answer asked = olbiothar_make(plan, plan_length, rows, OLBIOTHAR_FRAMES, NULL, 0);
+    olbiothar_answer asked = olbiothar_make(plan, plan_length, OLBIOTHAR_BASIC, rows, OLBIOTHAR_FRAMES, NULL, 0);
     HOLDS(is(asked, OLBIOTHAR_BUFFER_TOO_SHORT, LENGTH));
-    HOLDS(is(olbiothar_make(plan, plan_length, rows, OLBIOTHAR_FRAMES, table, asked.place), OLBIOTHAR_DONE, LENGTH));
+    HOLDS(is(olbiothar_make(plan, plan_length, OLBIOTHAR_BASIC, rows, OLBIOTHAR_FRAMES, table, asked.place), OLBIOTHAR_DONE, LENGTH));
+}
+
+/* A number that no edition has is refused behind 19 and before all others: with 19 what is lent stays as it was, with 62 the rows are zero
+ * rows and the bytes stay. */
+static void no_editions(void) {
+    static olbiothar_frame lent[OLBIOTHAR_FRAMES], old[OLBIOTHAR_FRAMES], zero[OLBIOTHAR_FRAMES];
+    static uint8_t made[OLBIOTHAR_LONGEST_TABLE], old_table[OLBIOTHAR_LONGEST_TABLE];
+    memset(old, 0xa5, sizeof old);
+    memset(made, 0xa5, sizeof made), memset(old_table, 0xa5, sizeof old_table);
+    for (unsigned edition = OLBIOTHAR_CONSUMERS + 1; edition <= UINT8_MAX; edition++) {
+        uint8_t number = (uint8_t)edition;
+        memset(lent, 0xa5, sizeof lent);
+        HOLDS(is(olbiothar_make(plan, plan_length, number, lent, 1, made, 1), OLBIOTHAR_TOO_FEW_ROWS, OLBIOTHAR_FRAMES));
+        HOLDS(is(olbiothar_make(NULL, 0, number, NULL, 0, NULL, 0), OLBIOTHAR_TOO_FEW_ROWS, OLBIOTHAR_FRAMES));
+        HOLDS(memcmp(lent, old, sizeof lent) == 0);
+        HOLDS(is(olbiothar_make(plan, plan_length, number, lent, OLBIOTHAR_FRAMES, made, sizeof made), OLBIOTHAR_NO_EDITION, edition));
+        HOLDS(is(olbiothar_make(NULL, 0, number, lent, OLBIOTHAR_FRAMES, NULL, 0), OLBIOTHAR_NO_EDITION, edition));
+        HOLDS(memcmp(lent, zero, sizeof lent) == 0 && memcmp(made, old_table, sizeof made) == 0);
+    }
+}
+
+static int shows(const olbiothar_station *station, uint64_t own, uint64_t other) {
+    return station->nodes[0].shown[0] == own && station->nodes[1].shown[0] == other;
+}
+
+/* Job A whose consumer runs twice in a cycle, in the edition for consumers: of mode 1 the message at 40000 is read by none, and has no row.
+ * It passes as what its first byte says, and not as the other; it is printed and read back; at 40000 the consumer's node shows the value of
+ * 20000, and at 60000, when its consumer runs again, that of 60000. */
+static void read_by_consumers(void) {
+    enum { READ = 61, RATE_FROM_END = 6 };
+    static const char cycle[] = "cycle 60000 consumers  # ticks of one microsecond\n";
+    static const uint32_t windows[][2] = {{1000, 20000}, {1000, 30000}, {41000, 60000}};
+    static uint8_t often[sizeof plan], made[READ], other[READ], back[OLBIOTHAR_LONGEST_TABLE];
+    static olbiothar_station station;
+    memcpy(often, plan, plan_length);
+    often[plan_length - RATE_FROM_END] = 2;
+    HOLDS(is(olbiothar_make(often, plan_length, OLBIOTHAR_CONSUMERS, rows, OLBIOTHAR_FRAMES, made, READ - 1), OLBIOTHAR_BUFFER_TOO_SHORT, READ));
+    HOLDS(is(olbiothar_make(often, plan_length, OLBIOTHAR_CONSUMERS, rows, OLBIOTHAR_FRAMES, made, READ), OLBIOTHAR_DONE, READ));
+    for (size_t k = 0; k < 3; k++) HOLDS(rows[k].release == windows[k][0] && rows[k].deadline == windows[k][1]);
+    HOLDS(made[0] == 20 && rows[3].deadline == 0);
+    HOLDS(is(olbiothar_check(often, plan_length, made, READ, rows, OLBIOTHAR_FRAMES), OLBIOTHAR_DONE, 0));
+    memcpy(other, made, READ);
+    other[0] = 16;
+    HOLDS(is(olbiothar_check(often, plan_length, other, READ, rows, OLBIOTHAR_FRAMES), OLBIOTHAR_WRONG_HEADER, 0));
+    olbiothar_sheet_answer sheet = olbiothar_sheet(often, plan_length, made, READ, text, sizeof text);
+    HOLDS(is(sheet.checked, OLBIOTHAR_DONE, 0));
+    HOLDS(sheet.length > strlen(cycle) && memcmp(text, cycle, strlen(cycle)) == 0);
+    HOLDS(is(olbiothar_sheet_table(text, sheet.length, back, sizeof back), OLBIOTHAR_DONE, READ));
+    HOLDS(memcmp(back, made, READ) == 0);
+    HOLDS(is(olbiothar_begin(often, plan_length, made, READ, two_modes, &station), OLBIOTHAR_DONE, 0));
+    for (uint32_t time = 0; time <= 60000; time++) {
+        olbiothar_input input = {.results = {5 + time / 20000, 1}};
+        input.given[0] = time % 20000 == WORST, input.given[1] = time % 30000 == WORST;
+        HOLDS(is(olbiothar_tick(&station, input).answer, OLBIOTHAR_DONE, 0));
+        HOLDS(time >= 20000 || shows(&station, 0, 0));
+        HOLDS(time < 20000 || time >= 40000 || shows(&station, 5, 5));
+        HOLDS(time < 40000 || time >= 60000 || shows(&station, 6, 5));
+    }
+    HOLDS(shows(&station, 7, 7));
 }
 
 /* Job A's table, printed and read back. */
@@ -131,8 +192,8 @@ static int is_worded(words_of *words, uint32_t number) {
 static int is_refusal(uint32_t number) {
     return (number >= OLBIOTHAR_BAD_RECORDS && number <= OLBIOTHAR_BUFFER_TOO_SHORT) ||
            (number >= OLBIOTHAR_TOO_FEW_ROWS && number <= OLBIOTHAR_NO_GAP_AT_END) ||
-           (number >= OLBIOTHAR_NOT_BEGUN && number <= OLBIOTHAR_CHANGE_NOT_ALLOWED) || number == OLBIOTHAR_UNREADABLE ||
-           number == OLBIOTHAR_TEXT_TOO_LONG;
+           (number >= OLBIOTHAR_NOT_BEGUN && number <= OLBIOTHAR_CHANGE_NOT_ALLOWED) ||
+           (number >= OLBIOTHAR_UNREADABLE && number <= OLBIOTHAR_NO_EDITION);
 }
 
 static int is_reason(uint32_t number) {
@@ -149,6 +210,8 @@ static void worded(void) {
     }
     put_words(olbiothar_words, OLBIOTHAR_NO_ROOM, words);
     HOLDS(strncmp(words, "no place for a frame", 20) == 0);
+    put_words(olbiothar_words, OLBIOTHAR_NO_EDITION, words);
+    HOLDS(strncmp(words, "no edition of this number", 25) == 0);
     put_words(olbiothar_reason_words, OLBIOTHAR_WORD_EXPECTED + 21, words);
     HOLDS(strcmp(words, "rate expected") == 0);
 }
@@ -360,6 +423,8 @@ int main(int count, char **words) {
     HOLDS(count == 2);
     read_plan(words[1]);
     nothing_lent();
+    no_editions();
+    read_by_consumers();
     printed_and_read();
     written_and_read();
     worded();

@@ -13,7 +13,7 @@
 #include <string.h>
 #include <ucontext.h>
 
-enum { STACK = 1 << 20, PAINT = 0xa5, CYCLE = 60000, NUMBERS = 64 };
+enum { STACK = 1 << 20, PAINT = 0xa5, CYCLE = 60000, NUMBERS = 64, CONSUMERS_TABLE = 20 };
 
 static void fail(const char *why) {
     fprintf(stderr, "stack: %s\n", why);
@@ -34,6 +34,7 @@ static olbiothar_starting starting;
 static olbiothar_station station;
 static olbiothar_input input;
 static olbiothar_answer answer;
+static uint8_t edition;
 static uint32_t number;
 static volatile uint64_t said;
 
@@ -42,9 +43,10 @@ static const uint8_t *caller;
 /* From where the stack stands now on down it is counted. */
 static inline __attribute__((always_inline)) void count_from_here(void) { __asm__ volatile("mov %%rsp, %0" : "=r"(caller)); }
 
+/* In the edition of the table that the other functions are given. */
 static void make(void) {
     count_from_here();
-    answer = olbiothar_make(plan->bytes, plan->length, rows, OLBIOTHAR_FRAMES, room, sizeof room);
+    answer = olbiothar_make(plan->bytes, plan->length, edition, rows, OLBIOTHAR_FRAMES, room, sizeof room);
 }
 
 static void check(void) {
@@ -158,8 +160,12 @@ static struct {
 };
 enum { FUNCTIONS = sizeof functions / sizeof *functions };
 
+static uint8_t edition_of(const file *of) {
+    return of->length > 0 && of->bytes[0] == CONSUMERS_TABLE ? OLBIOTHAR_CONSUMERS : OLBIOTHAR_BASIC;
+}
+
 static void call_all(const file *plan_given, const file *table_given, olbiothar_starting modes) {
-    plan = plan_given, table = table_given, starting = modes;
+    plan = plan_given, table = table_given, edition = edition_of(table_given), starting = modes;
     for (size_t k = 0; k < FUNCTIONS; k++) {
         ptrdiff_t bytes = bytes_of(functions[k].call);
         if (bytes > functions[k].taken) functions[k].taken = bytes;
@@ -208,9 +214,9 @@ static file plan_with(const uint16_t rates[OLBIOTHAR_NODES]) {
     return made;
 }
 
-static file table_of(const file *of) {
+static file table_of(const file *of, uint8_t in) {
     file made = {.length = 0};
-    olbiothar_answer length = olbiothar_make(of->bytes, of->length, rows, OLBIOTHAR_FRAMES, made.bytes, sizeof made.bytes);
+    olbiothar_answer length = olbiothar_make(of->bytes, of->length, in, rows, OLBIOTHAR_FRAMES, made.bytes, sizeof made.bytes);
     if (length.number != OLBIOTHAR_DONE) fail("a plan without a table");
     made.length = length.place;
     return made;
@@ -233,9 +239,15 @@ int main(int count, char **words) {
     const olbiothar_starting of_eight = {.modes = {0, 1, 2, 3, 4, 5, 6, 7}, .given = {1, 1, 1, 1, 1, 1, 1, 1}};
     if (count != 2) fail("which plan?");
     const file job_a = read_file(words[1]), longest = plan_with(rates), too_many = plan_with(one_more), nothing = {.length = 0};
-    const file table_a = table_of(&job_a), longest_table = table_of(&longest), early_table = early(&longest_table);
+    const file table_a = table_of(&job_a, OLBIOTHAR_BASIC), longest_table = table_of(&longest, OLBIOTHAR_BASIC);
+    const file read_a = table_of(&job_a, OLBIOTHAR_CONSUMERS), read_table = table_of(&longest, OLBIOTHAR_CONSUMERS);
+    const file early_table = early(&longest_table), early_read = early(&read_table);
     call_all(&job_a, &table_a, of_a);
     call_all(&longest, &longest_table, of_eight);
+    call_all(&job_a, &read_a, of_a);
+    call_all(&longest, &read_table, of_eight);
+    call_all(&longest, &early_read, of_eight);
+    call_all(&too_many, &read_table, of_eight);
     call_all(&longest, &longest_table, none);      /* refused: no starting modes */
     call_all(&longest, &early_table, of_eight);    /* refused: a row before its release */
     call_all(&longest, &table_a, of_eight);        /* refused: another plan's table */

@@ -3,7 +3,7 @@
 use crate::bus::{self, Bus, ControlRow, frame_key};
 use crate::plan::{self, Plan};
 use crate::records::{CONTROL_ROW, DATA_ROW, TABLE, TABLE_FILE, outline, record_length};
-use crate::{FrameRow, MOST_FRAMES, Refusal, refuse_at, with_rows};
+use crate::{Edition, FrameRow, MOST_FRAMES, Refusal, refuse_at, with_rows};
 
 /// On a pass the rows hold the frames by number, with the starts of this table.
 pub fn check(plan: &[u8], table: &[u8], rows: &mut [FrameRow]) -> Result<(), Refusal> {
@@ -54,7 +54,7 @@ pub fn judge<'a>(
     rows: &mut [FrameRow],
 ) -> Result<Passed<'a>, Refusal> {
     let plan = plan::read(plan)?;
-    let bus = bus::derive(&plan, rows)?;
+    let bus = bus::derive(&plan, Edition::of_table(table), rows)?;
     let frames = &mut rows[..bus.frames];
     let mut named = [0; MOST_FRAMES];
     let data = locate(&bus, table, frames, &mut named)?;

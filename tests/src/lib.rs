@@ -5,6 +5,7 @@
 pub mod bus;
 pub mod checker;
 pub mod driver;
+pub mod edition;
 pub mod generate;
 pub mod maker;
 pub mod one_board;
@@ -19,6 +20,7 @@ pub mod text;
 pub mod vectors;
 
 pub use checker::check;
+pub use edition::Edition;
 pub use maker::make;
 pub use plan_text::{Reason, TextRefusal, plan_text, text_plan};
 pub use sheet::{LONGEST_SHEET, Sheet, sheet, sheet_table};

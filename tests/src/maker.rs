@@ -3,20 +3,25 @@
 use crate::bus::{self, Bus, ControlRow};
 use crate::checker::DataRow;
 use crate::records::{CONTROL_ROW, DATA_ROW, END, TABLE, record_length};
-use crate::{FrameRow, MOST_FRAMES, MOST_NODES, Refusal, plan, with_rows};
+use crate::{Edition, FrameRow, MOST_FRAMES, MOST_NODES, Refusal, plan, with_rows};
 use std::collections::BinaryHeap;
 
 /// Makes the table at the front of the buffer and gives its length.
-pub fn make(plan: &[u8], rows: &mut [FrameRow], buffer: &mut [u8]) -> Result<usize, Refusal> {
+pub fn make(
+    plan: &[u8],
+    edition: Edition,
+    rows: &mut [FrameRow],
+    buffer: &mut [u8],
+) -> Result<usize, Refusal> {
     with_rows(rows, |rows| {
         let plan = plan::read(plan)?;
-        let bus = bus::derive(&plan, rows)?;
+        let bus = bus::derive(&plan, edition, rows)?;
         let frames = &mut rows[..bus.frames];
         let order = place_frames(&bus, frames)?;
         let needed = table_length(bus.control.len(), bus.frames);
         let table = buffer.get_mut(..needed).ok_or(Refusal::new(13, needed))?;
         let row = |&number: &u16| data_row(&bus, &frames[usize::from(number)]);
-        write_table(bus.period, &bus.control, order.iter().rev().map(row), table);
+        write_table(edition, bus.period, &bus.control, order.iter().rev().map(row), table);
         Ok((bus.frames, needed))
     })
 }
@@ -70,6 +75,7 @@ fn data_row(bus: &Bus, frame: &FrameRow) -> DataRow {
 
 /// Fills the table, which is as long as the rows make it. There are few enough of them for a header.
 pub(crate) fn write_table(
+    edition: Edition,
     period: u32,
     control: &[ControlRow],
     data: impl ExactSizeIterator<Item = DataRow>,
@@ -80,7 +86,7 @@ pub(crate) fn write_table(
     let (data_rows, end) = rows.split_at_mut(data.len() * record_length(DATA_ROW));
     let [p0, p1, p2, p3] = period.to_le_bytes();
     let [d0, d1] = (data.len() as u16).to_le_bytes();
-    header.copy_from_slice(&[TABLE, p0, p1, p2, p3, control.len() as u8, d0, d1]);
+    header.copy_from_slice(&[edition.kind(), p0, p1, p2, p3, control.len() as u8, d0, d1]);
     for (bytes, row) in control_rows.as_chunks_mut().0.iter_mut().zip(control) {
         *bytes = control_record(row);
     }

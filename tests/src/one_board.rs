@@ -71,6 +71,12 @@ impl OneBoard {
         })
     }
 
+    /// At the last accepted tick a run of the task was released.
+    pub fn released(&self, task: usize) -> bool {
+        // From there on the run has the age of one tick.
+        self.run(task).is_some_and(|run| run.age == 1)
+    }
+
     pub fn may_change(&self, module: usize) -> bool {
         let mode = &self.plan.modes[usize::from(self.modes[module])];
         self.since[module].is_multiple_of(u64::from(mode.switch_period))

@@ -68,7 +68,7 @@ pub struct Task {
     pub worst_time: u32,
 }
 
-#[derive(Clone, Copy, Debug, Default, PartialEq, Eq)]
+#[derive(Clone, Copy, Debug, Default, PartialEq, Eq, PartialOrd, Ord)]
 pub struct Invocation {
     pub mode: u8,
     pub task: u8,

@@ -1,8 +1,8 @@
 //! Records: the kinds, the lengths of their bodies, and the order in which they may stand in a file.
 
 /// Body length by kind; `None`: no such kind.
-pub const BODY_LENGTHS: [Option<usize>; 19] = {
-    let mut lengths = [None; 19];
+pub const BODY_LENGTHS: [Option<usize>; 21] = {
+    let mut lengths = [None; 21];
     lengths[END as usize] = Some(0);
     lengths[BUS as usize] = Some(16);
     lengths[NODES as usize] = Some(1);
@@ -15,6 +15,7 @@ pub const BODY_LENGTHS: [Option<usize>; 19] = {
     lengths[TABLE as usize] = Some(7);
     lengths[CONTROL_ROW as usize] = Some(9);
     lengths[DATA_ROW as usize] = Some(13);
+    lengths[CONSUMERS_TABLE as usize] = lengths[TABLE as usize];
     lengths
 };
 
@@ -30,6 +31,7 @@ pub const BUS_WITH_BYTE_BITS: u8 = 9;
 pub const TABLE: u8 = 16;
 pub const CONTROL_ROW: u8 = 17;
 pub const DATA_ROW: u8 = 18;
+pub const CONSUMERS_TABLE: u8 = 20;
 
 /// Length of a record, the byte of its kind included.
 pub const fn record_length(kind: u8) -> usize {
@@ -52,7 +54,8 @@ pub const PLAN_FILE: Sort<2, 5> = Sort {
     repeated: [MODULE, MODE, TASK, INVOCATION, CONNECTION],
 };
 
-pub const TABLE_FILE: Sort<1, 2> = Sort { once: [&[TABLE]], repeated: [CONTROL_ROW, DATA_ROW] };
+pub const TABLE_FILE: Sort<1, 2> =
+    Sort { once: [&[TABLE, CONSUMERS_TABLE]], repeated: [CONTROL_ROW, DATA_ROW] };
 
 /// A well-formed file cut into its records that stand once and its runs of records of one kind.
 #[derive(Debug)]

@@ -6,7 +6,7 @@ use crate::checker::{DataRow, judge_places, locate};
 use crate::maker::{table_length, write_table};
 use crate::plan::{self, Few, Plan, Task};
 use crate::text::{LONGEST_NUMBER, LONGEST_TEXT, lines, number, put_digits, words};
-use crate::{FrameRow, MOST_FRAMES, MOST_NODES, MOST_TASKS, Refusal};
+use crate::{Edition, FrameRow, MOST_FRAMES, MOST_NODES, MOST_TASKS, Refusal};
 
 pub const LONGEST_SHEET: usize = LONGEST_TEXT;
 
@@ -96,11 +96,12 @@ impl Page<'_> {
         let (mut frames, mut named) = ([FrameRow::default(); MOST_FRAMES], [0; MOST_FRAMES]);
         let mut on_top = |refusal: &Refusal| self.put_refusal(refusal);
         let plan = plan::read(plan).inspect_err(&mut on_top)?;
-        let bus = bus::derive(&plan, &mut frames).inspect_err(&mut on_top)?;
+        let edition = Edition::of_table(table);
+        let bus = bus::derive(&plan, edition, &mut frames).inspect_err(&mut on_top)?;
         let frames = &frames[..bus.frames];
         let data = locate(&bus, table, frames, &mut named).inspect_err(&mut on_top)?;
         let checked = judge_places(&bus, data, &named, frames).inspect_err(&mut on_top);
-        self.put_head(bus.period);
+        self.put_head(edition, bus.period);
         self.put_control_rows(&plan, &bus);
         let senders = senders(&plan);
         let records = (1 + bus.control.len() as i64..).map(Cell::Number);
@@ -111,9 +112,13 @@ impl Page<'_> {
         checked
     }
 
-    fn put_head(&mut self, period: u32) {
+    fn put_head(&mut self, edition: Edition, period: u32) {
         self.put(b"cycle ");
         self.put_cell(Cell::Number(period.into()));
+        self.put(match edition {
+            Edition::Basic => b"",
+            Edition::Consumers => b" consumers",
+        });
         self.put(b"  # ticks of one microsecond\n");
         self.put_line(b"# kind ", COLUMNS.map(|(name, _)| Cell::Word(name)), Cell::Word("record"));
     }
@@ -207,14 +212,16 @@ pub fn sheet_table(text: &[u8], table: &mut [u8]) -> Result<usize, Refusal> {
     if text.len() > LONGEST_SHEET {
         return Err(Refusal::new(61, LONGEST_SHEET));
     }
-    let Rows { period, control, data } = read(text).map_err(|line| Refusal::new(60, line))?;
+    let Rows { edition, period, control, data } =
+        read(text).map_err(|line| Refusal::new(60, line))?;
     let needed = table_length(control.len(), data.len());
     let table = table.get_mut(..needed).ok_or(Refusal::new(13, needed))?;
-    write_table(period, &control, data.into_iter(), table);
+    write_table(edition, period, &control, data.into_iter(), table);
     Ok(needed)
 }
 
 struct Rows {
+    edition: Edition,
     period: u32,
     control: Vec<ControlRow>,
     data: Vec<DataRow>,
@@ -251,10 +258,8 @@ impl Reader {
                 only_told([number, place])?;
                 self.refused = true;
             }
-            (None, [b"cycle", period]) => {
-                let (control, data) = (Vec::with_capacity(MOST_NODES), Vec::new());
-                self.rows = Some(Rows { period: taken(period)?, control, data });
-            }
+            (None, [b"cycle", period]) => self.begin(Edition::Basic, period)?,
+            (None, [b"cycle", period, b"consumers"]) => self.begin(Edition::Consumers, period)?,
             (Some(Rows { control, data, .. }), [b"control", cells @ ..])
                 if data.is_empty() && control.len() < MOST_NODES =>
             {
@@ -265,6 +270,12 @@ impl Reader {
             }
             _ => return None,
         }
+        Some(())
+    }
+
+    fn begin(&mut self, edition: Edition, period: &[u8]) -> Option<()> {
+        let (control, data) = (Vec::with_capacity(MOST_NODES), Vec::new());
+        self.rows = Some(Rows { edition, period: taken(period)?, control, data });
         Some(())
     }
 }

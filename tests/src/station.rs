@@ -5,7 +5,7 @@ mod now;
 
 pub use now::{ModuleNow, TaskNow, TimeNow};
 
-use crate::bus::Bus;
+use crate::bus::{Bus, Reads};
 use crate::checker::{self, DataRow, Passed};
 use crate::plan::Plan;
 use crate::{
@@ -48,6 +48,7 @@ struct Fixed {
     worst_times: [u32; MOST_TASKS],
     largest_results: [u64; MOST_TASKS],
     bus_tasks: u32,
+    reads: Reads,
     /// By node: the modules whose modes its control frame carries.
     carried_modules: [u32; MOST_NODES],
     bus_period: u32,
@@ -396,6 +397,7 @@ impl Fixed {
             worst_times: [0; MOST_TASKS],
             largest_results: [0; MOST_TASKS],
             bus_tasks: 0,
+            reads: Reads::default(),
             carried_modules: [0; MOST_NODES],
             bus_period: 0,
             rows: Vec::new(),
@@ -441,6 +443,7 @@ impl Fixed {
 
     fn keep_bus(&mut self, plan: &Plan, bus: &Bus) {
         self.bus_tasks = bus.tasks;
+        self.reads = bus.reads.clone();
         self.bus_period = bus.period;
         for (number, module) in (0..).zip(plan.modules.iter()) {
             self.node_of_module[usize::from(number)] = module.node;
@@ -455,16 +458,20 @@ impl Fixed {
         mode < self.modes && usize::from(self.module_of_mode[mode]) == module
     }
 
-    /// There is a message of the task with this deadline if the mode runs.
+    /// A message of the task with this deadline is kept if the mode runs.
     fn has_message(&self, mode: u8, task: usize, deadline: u32) -> bool {
         let period = self.periods[usize::from(mode)][task];
-        has(self.bus_tasks, task as u8) && period > 0 && deadline.is_multiple_of(period)
+        has(self.bus_tasks, task as u8)
+            && period > 0
+            && deadline.is_multiple_of(period)
+            && self.reads.keep(task as u8, period, deadline)
     }
 }
 
 #[cfg(test)]
 mod tests {
     use super::*;
+    use crate::Edition;
     use crate::generate::{History, Made, Rng, job_a, starting_modes};
 
     /// A station that has run for almost as long as its clock counts.
@@ -478,7 +485,7 @@ mod tests {
 
     #[test]
     fn there_is_no_last_tick() {
-        let made = Made::of(&job_a().bytes()).expect("job A has a table");
+        let made = Made::of(&job_a().bytes(), Edition::Basic).expect("job A has a table");
         let rng = &mut Rng::new(1);
         let modes = starting_modes(rng, &made.read_plan);
         let mut young = Station::begin(&made.plan, &made.table.bytes(), modes).expect("it passes");

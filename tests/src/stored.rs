@@ -10,8 +10,8 @@ mod requests;
 mod sheets;
 mod tables;
 
-use crate::generate::{PLENTY, job_a};
-use crate::{FrameRow, MOST_FRAMES, make};
+use crate::generate::{PLENTY, job_a, job_a_read_twice};
+use crate::{Edition, FrameRow, MOST_FRAMES, make};
 use cases::Case;
 
 #[derive(Debug)]
@@ -27,11 +27,17 @@ fn stored(path: &str, bytes: Vec<u8>) -> Stored {
 
 pub fn all() -> Vec<Stored> {
     let plan = job_a().bytes();
-    let table = table_of(&plan);
+    let table = table_of(&plan, Edition::Basic);
+    let read_plan = job_a_read_twice().bytes();
+    let read_table = table_of(&read_plan, Edition::Consumers);
+    let read_sheet = sheets::sheet_of(&read_plan, &read_table);
     let mut files = vec![
         stored("docs/examples/job-a.plan", plan),
         stored("docs/examples/job-a-ten-bits.plan", job_a().with_byte_bits(Some(10)).bytes()),
         stored("tests/runs/job-a.table", table),
+        stored("tests/runs/job-a-read-twice.plan", read_plan),
+        stored("tests/runs/job-a-read-twice.table", read_table),
+        stored("tests/runs/job-a-read-twice.sheet", read_sheet),
     ];
     files.extend(sheets::all());
     files.extend(plan_texts::all());
@@ -39,9 +45,9 @@ pub fn all() -> Vec<Stored> {
     files
 }
 
-fn table_of(plan: &[u8]) -> Vec<u8> {
+fn table_of(plan: &[u8], edition: Edition) -> Vec<u8> {
     let mut table = vec![0; PLENTY];
-    let length = make(plan, &mut [FrameRow::default(); MOST_FRAMES], &mut table);
+    let length = make(plan, edition, &mut [FrameRow::default(); MOST_FRAMES], &mut table);
     table.truncate(length.expect("a plan of an example is made"));
     table
 }
@@ -49,13 +55,14 @@ fn table_of(plan: &[u8]) -> Vec<u8> {
 /// What the program `vectors` reads, a file for each sort of case in the order of its arguments, and
 /// what it must write.
 fn vectors() -> Vec<Stored> {
-    let sorts: [(&str, Vec<Case>); 6] = [
+    let sorts: [(&str, Vec<Case>); 7] = [
         ("jobs", jobs::all()),
         ("plans", plans::own()),
         ("make", plans::vectors()),
         ("check", tables::all()),
         ("requests", requests::all()),
         ("limits", limits::all()),
+        ("editions", requests::editions()),
     ];
     let mut files = Vec::new();
     let (mut words, mut lines) = (String::new(), String::new());

@@ -3,7 +3,7 @@
 use reference::bus::{ControlRow, Sending};
 use reference::generate::{Draft, PLENTY, TableDraft, job_a, job_j};
 use reference::plan::Connection;
-use reference::{FrameRow, MOST_FRAMES, Refusal, Row, Station, check, make};
+use reference::{Edition, FrameRow, MOST_FRAMES, Refusal, Row, Station, check, make};
 
 const TABLE_A: [&[u8]; 7] = [
     &[0x10, 0x60, 0xea, 0, 0, 1, 4, 0],
@@ -18,7 +18,7 @@ const TABLE_A: [&[u8]; 7] = [
 fn make_with_room(plan: &Draft, room: usize) -> Result<Vec<u8>, Refusal> {
     let mut table = vec![0; room];
     let mut rows = [FrameRow::default(); MOST_FRAMES];
-    let length = make(&plan.bytes(), &mut rows, &mut table)?;
+    let length = make(&plan.bytes(), Edition::Basic, &mut rows, &mut table)?;
     table.truncate(length);
     Ok(table)
 }
@@ -47,7 +47,7 @@ fn moved(row: usize, start: u32, stop: u32) -> Vec<u8> {
 fn a_the_whole_table() {
     assert_eq!(made(&job_a()), Ok(TABLE_A.concat()));
     let mut rows = [FrameRow::default(); MOST_FRAMES + 44];
-    assert_eq!(make(&job_a().bytes(), &mut rows, &mut [0; 75]), Ok(75));
+    assert_eq!(make(&job_a().bytes(), Edition::Basic, &mut rows, &mut [0; 75]), Ok(75));
     let windows = rows.map(|row| (row.task, row.release, row.deadline));
     let frames = [(0, 1_000, 20_000), (0, 1_000, 30_000), (0, 21_000, 40_000), (0, 41_000, 60_000)];
     assert_eq!(windows[..4], frames);
@@ -87,7 +87,7 @@ fn c_short_buffer() {
 #[test]
 fn d_empty_plan() {
     let mut rows = [FrameRow::default(); MOST_FRAMES];
-    assert_eq!(make(&[], &mut rows, &mut []), refused(1, 0));
+    assert_eq!(make(&[], Edition::Basic, &mut rows, &mut []), refused(1, 0));
 }
 
 #[test]

@@ -2,12 +2,16 @@
 
 use reference::generate::{PLENTY, also_in_modes, job_a, longest_table, plan_with_rates};
 use reference::records::{NODES, TABLE, record_length};
-use reference::{FrameRow, MOST_FRAMES, Refusal, check, make};
+use reference::{Edition, FrameRow, MOST_FRAMES, Refusal, check, make};
+
+fn made_in(edition: Edition, plan: &[u8]) -> Result<Vec<u8>, Refusal> {
+    let mut table = [0; PLENTY];
+    let length = make(plan, edition, &mut [FrameRow::default(); MOST_FRAMES], &mut table)?;
+    Ok(table[..length].to_vec())
+}
 
 fn made(plan: &[u8]) -> Result<Vec<u8>, Refusal> {
-    let mut table = [0; PLENTY];
-    let length = make(plan, &mut [FrameRow::default(); MOST_FRAMES], &mut table)?;
-    Ok(table[..length].to_vec())
+    made_in(Edition::Basic, plan)
 }
 
 fn refused<T>(number: u32, place: usize) -> Result<T, Refusal> {
@@ -28,8 +32,8 @@ fn room_for_the_longest_table() {
     let plan = longest_table().bytes();
     let mut rows = [FrameRow::default(); MOST_FRAMES];
     let mut table = [0; 14_425];
-    assert_eq!(make(&plan, &mut rows, &mut table), Ok(14_425));
-    assert_eq!(make(&plan, &mut rows, &mut table[1..]), refused(13, 14_425));
+    assert_eq!(make(&plan, Edition::Basic, &mut rows, &mut table), Ok(14_425));
+    assert_eq!(make(&plan, Edition::Basic, &mut rows, &mut table[1..]), refused(13, 14_425));
 }
 
 /// 9 counts pairs of task and deadline: 1,921 messages are 1,024 frames.
@@ -90,16 +94,17 @@ fn checked(plan: &[u8], table: &[u8]) -> Result<(), Refusal> {
 
 #[test]
 fn cut_files() {
-    for plan in plans() {
-        let table = made(&plan).unwrap();
+    for (plan, edition) in plans().iter().flat_map(|plan| Edition::ALL.map(|of| (plan, of))) {
+        let table = made_in(edition, plan).unwrap();
         for length in 0..plan.len() {
-            assert_eq!(made(&plan[..length]), refused(1, length));
+            assert_eq!(made_in(edition, &plan[..length]), refused(1, length));
         }
         for length in 0..table.len() {
-            assert_eq!(checked(&plan, &table[..length]), refused(20, length));
+            assert_eq!(checked(plan, &table[..length]), refused(20, length));
         }
-        assert_eq!(made(&[plan.as_slice(), &[0]].concat()), refused(1, plan.len()));
-        assert_eq!(checked(&plan, &[table.as_slice(), &[0]].concat()), refused(20, table.len()));
+        let [more_plan, more_table] = [plan, &table].map(|file| [file, [0].as_slice()].concat());
+        assert_eq!(made_in(edition, &more_plan), refused(1, plan.len()));
+        assert_eq!(checked(plan, &more_table), refused(20, table.len()));
     }
 }
 
@@ -127,14 +132,15 @@ fn wrong_kinds() {
     }
 }
 
-/// The plan's kinds are wrong in a table.
+/// The plan's kinds are wrong in a table; a header of either kind stands first, and there alone.
 #[test]
 fn wrong_kinds_of_rows() {
     let plan = job_a().bytes();
     let table = made(&plan).unwrap();
-    let header = &table[..record_length(TABLE)];
-    for kind in 0..=255 {
-        assert_eq!(checked(&plan, &[kind]), Err(cut_if(kind == 16, 20, 0)));
+    for (kind, edition) in (0..=255).flat_map(|kind| Edition::ALL.map(|of| (kind, of))) {
+        let header = [&[edition.kind()], &table[1..record_length(TABLE)]].concat();
+        let header = header.as_slice();
+        assert_eq!(checked(&plan, &[kind]), Err(cut_if([16, 20].contains(&kind), 20, 0)));
         let expected = match kind {
             0 => refused(21, 0),
             _ => Err(cut_if([17, 18].contains(&kind), 20, header.len())),
@@ -147,9 +153,9 @@ fn wrong_kinds_of_rows() {
 fn order_of_numbers() {
     let mut plan = job_a();
     let mut rows = [FrameRow::default(); 1_024];
-    assert_eq!(make(&[], &mut rows[1..], &mut []), refused(19, 1_024));
+    assert_eq!(make(&[], Edition::Basic, &mut rows[1..], &mut []), refused(19, 1_024));
     plan.tasks[0].worst_time = 19_905;
-    assert_eq!(make(&plan.bytes(), &mut rows, &mut []), refused(12, 3));
+    assert_eq!(make(&plan.bytes(), Edition::Basic, &mut rows, &mut []), refused(12, 3));
     plan.bits.resolution = 7;
     assert_eq!(made(&plan.bytes()), refused(8, 0));
     plan.modules[1].node = 0;

@@ -1,6 +1,6 @@
 //! What a station says of itself, held against what it does then.
 
-use reference::generate::{History, PlayCase, Rng, play_case};
+use reference::generate::{History, PlayCase, Rng, play_case, seeds};
 use reference::plan::{self, Plan};
 use reference::station::{ModuleNow, TaskNow, TimeNow};
 use reference::{MOST_MODULES, MOST_TASKS, Refusal, Station};
@@ -77,9 +77,9 @@ fn a_tick_later(before: &Station, after: &Station, accepted: bool) {
 #[test]
 fn stations_seeded() {
     let mut asked = 0;
-    for seed in 0..400 {
+    for (edition, seed) in seeds(300) {
         let rng = &mut Rng::new(seed);
-        let PlayCase { plan, table, modes } = play_case(rng);
+        let PlayCase { plan, table, modes } = play_case(rng, edition);
         let Ok(mut station) = Station::begin(&plan, &table, modes) else { continue };
         let plan = plan::read(&plan).expect("a station has begun with it");
         assert_eq!(station.time().clock, 0);

@@ -10,7 +10,7 @@ use reference::plan::Plan;
 use reference::plan_text::{LONGEST_PLAN, LONGEST_PLAN_READ};
 use reference::records::{PLAN_FILE, outline};
 use reference::text::LONGEST_TEXT;
-use reference::{Reason, Refusal, TextRefusal, plan_text, text_plan};
+use reference::{Edition, Reason, Refusal, TextRefusal, plan_text, text_plan};
 use std::collections::BTreeMap;
 
 const TEXT_A: &str = "\
@@ -94,7 +94,7 @@ fn stations() {
 fn a_wiping_station() {
     let text = include_str!("../../docs/examples/wiping-station.plan.txt");
     let plan = read(text).unwrap();
-    let made = Made::of(&plan).expect("a table");
+    let made = Made::of(&plan, Edition::Basic).expect("a table");
     let Plan { nodes, modules, tasks, modes, .. } = made.read_plan;
     assert_eq!((nodes, modules.len(), tasks.len(), modes.len()), (4, 4, 10, 6));
     // What is printed has other comments, and a line for each that has words.

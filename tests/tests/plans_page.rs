@@ -2,7 +2,7 @@
 
 use reference::maker::LONGEST_TABLE;
 use reference::text::LONGEST_TEXT;
-use reference::{FrameRow, MOST_FRAMES, Refusal, TextRefusal, make, plan_text, text_plan};
+use reference::{Edition, FrameRow, MOST_FRAMES, Refusal, TextRefusal, make, plan_text, text_plan};
 
 const PAGE: &str = include_str!("../../docs/PLANS.md");
 const TEXT_A: &str = include_str!("../../docs/examples/job-a.plan.txt");
@@ -21,7 +21,7 @@ fn answer(text: &str) -> String {
         Err(refused) => panic!("{refused:?}"),
     };
     let mut rows = [FrameRow::default(); MOST_FRAMES];
-    match make(&plan[..length], &mut rows, &mut [0; LONGEST_TABLE]) {
+    match make(&plan[..length], Edition::Basic, &mut rows, &mut [0; LONGEST_TABLE]) {
         Ok(_) => MADE.to_owned(),
         Err(Refusal { number, place }) => format!("refused {number} at {place}"),
     }

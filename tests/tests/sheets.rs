@@ -7,11 +7,11 @@ use reference::bus::{Sending, derive};
 use reference::checker::{DataRow, frame_of};
 use reference::generate::{
     self, Draft, Made, PLENTY, Rng, SheetCase, Size, TableDraft, TextCase, job_a, longest_table,
-    made_plan, move_rows,
+    made_plan, move_rows, seeds,
 };
 use reference::maker::LONGEST_TABLE;
 use reference::{
-    FrameRow, LONGEST_SHEET, MOST_FRAMES, Refusal, Sheet, check, plan, sheet, sheet_table,
+    Edition, FrameRow, LONGEST_SHEET, MOST_FRAMES, Refusal, Sheet, check, plan, sheet, sheet_table,
 };
 
 const SHEET_A: &str = "\
@@ -52,7 +52,7 @@ fn unreadable(line: usize) -> Result<Vec<u8>, Refusal> {
 }
 
 fn made_a() -> Made {
-    Made::of(&job_a().bytes()).unwrap()
+    Made::of(&job_a().bytes(), Edition::Basic).unwrap()
 }
 
 /// Job A with one data row moved, printed.
@@ -184,7 +184,7 @@ fn the_largest_numbers() {
 fn bits_and_ticks() {
     let mut plan = job_a().with_byte_bits(Some(9));
     (plan.bits.kbits, plan.bits.resolution) = (700, 20);
-    let made = Made::of(&plan.bytes()).unwrap();
+    let made = Made::of(&plan.bytes(), Edition::Basic).unwrap();
     let (_, text) = printed(&made.plan, &made.table.bytes());
     let cells = |record: usize| -> Vec<&str> {
         text.lines().nth(1 + record).unwrap().split_whitespace().skip(7).take(2).collect()
@@ -196,7 +196,7 @@ fn bits_and_ticks() {
 /// One byte for each sending module of that node, not of all.
 #[test]
 fn bits_of_control_rows() {
-    let made = Made::of(&longest_table().bytes()).unwrap();
+    let made = Made::of(&longest_table().bytes(), Edition::Basic).unwrap();
     let (_, text) = printed(&made.plan, &made.table.bytes());
     assert!(text.lines().skip(2).take(8).all(|line| line.split_whitespace().nth(7) == Some("8")));
 }
@@ -270,7 +270,22 @@ fn words_of_a_line() {
         assert_eq!(row(line), unreadable(2), "{line}");
     }
     assert_eq!(read("data 1 2 3 4 5 6 7 8 9 10\ncycle 5"), unreadable(1));
-    assert_eq!(read("cycle 5 consumers"), unreadable(1));
+    assert_eq!(read("cycle 5 consumers"), Ok(vec![20, 5, 0, 0, 0, 0, 0, 0, 0]));
+    for line in [
+        "cycle",
+        "cycle consumers",
+        "cycle 5 5",
+        "cycle 5 basic",
+        "cycle 5 Consumers",
+        "cycle 5 consumer",
+        "cycle 5 consumers 5",
+        "cycle 5 consumers consumers",
+        "cycle consumers 5",
+        "cycle 4294967296 consumers",
+    ] {
+        assert_eq!(read(line), unreadable(1), "{line}");
+    }
+    assert_eq!(read("cycle 5 consumers\ncycle 5 consumers"), unreadable(2));
 }
 
 #[test]
@@ -308,8 +323,8 @@ fn order_of_refusals() {
 #[test]
 fn sheets_seeded() {
     let mut counts = Counts::new();
-    for seed in 0..10_000 {
-        let SheetCase { plan, table, .. } = generate::sheet_case(&mut Rng::new(seed));
+    for (edition, seed) in seeds(8_000) {
+        let SheetCase { plan, table, .. } = generate::sheet_case(&mut Rng::new(seed), edition);
         let (checked, text) = printed(&plan, &table);
         count(&mut counts, &checked);
         assert_eq!(check(&plan, &table, &mut [FrameRow::default(); MOST_FRAMES]), checked);
@@ -332,9 +347,13 @@ fn sheets_seeded() {
 fn rows_word_by_word(plan: &[u8], table: &[u8]) -> String {
     let plan = plan::read(plan).unwrap();
     let mut frames = [FrameRow::default(); MOST_FRAMES];
-    let bus = derive(&plan, &mut frames).unwrap();
+    let (edition, said) = match table[0] {
+        20 => (Edition::Consumers, " consumers"),
+        _ => (Edition::Basic, ""),
+    };
+    let bus = derive(&plan, edition, &mut frames).unwrap();
     let table = TableDraft::read(table).unwrap();
-    let mut text = format!("cycle {}  # ticks of one microsecond\n", table.period);
+    let mut text = format!("cycle {}{said}  # ticks of one microsecond\n", table.period);
     text += &line_word_by_word("# kind", &COLUMNS.join(" "), "record");
     for (record, row) in (1..).zip(&table.control) {
         let sends = |module: &usize| bus.modules >> module & 1 == 1;
@@ -384,10 +403,10 @@ fn line_word_by_word(kind: &str, cells: &str, record: &str) -> String {
 #[test]
 fn changed_tables() {
     let mut counts = Counts::new();
-    for seed in 0..10_000 {
+    for (edition, seed) in seeds(8_000) {
         let rng = &mut Rng::new(seed);
         let size = Size::any(rng);
-        let mut made = made_plan(rng, &size);
+        let mut made = made_plan(rng, edition, &size);
         move_rows(rng, &mut made);
         let (_, before) = printed(&made.plan, &made.table.bytes());
         let old = made.table.clone();
@@ -407,8 +426,14 @@ fn change_a_number(rng: &mut Rng, table: &mut TableDraft) {
     let (control, data) = (&mut table.control[control], &mut table.data[data]);
     let small = (by % 255) as u8 + 1;
     let more = |number: &mut u32| *number = number.wrapping_add(by);
-    match rng.below(14) {
+    match rng.below(15) {
         0 => more(&mut table.period),
+        10 => {
+            table.edition = match table.edition {
+                Edition::Basic => Edition::Consumers,
+                Edition::Consumers => Edition::Basic,
+            }
+        }
         1 => table.control_count ^= small,
         2 => table.data_count ^= u16::from(small),
         3 => control.node ^= small,
@@ -428,9 +453,9 @@ fn change_a_number(rng: &mut Rng, table: &mut TableDraft) {
 /// Spaces, line ends, blank lines and comments are the reader's own.
 #[test]
 fn other_layouts() {
-    for seed in 0..2_000 {
+    for (edition, seed) in seeds(1_500) {
         let rng = &mut Rng::new(seed);
-        let text = String::from_utf8(generate::printed(rng)).unwrap();
+        let text = String::from_utf8(generate::printed(rng, edition)).unwrap();
         let table = read(&text);
         assert!(table.is_ok(), "seed {seed}");
         let told = |line: &str| line.split('#').next().unwrap_or("").trim_end().to_string();
@@ -457,8 +482,8 @@ fn other_layouts() {
 #[test]
 fn texts_seeded() {
     let mut counts = Counts::new();
-    for seed in 0..20_000 {
-        let TextCase { text, room } = generate::sheet_text_case(&mut Rng::new(seed));
+    for (edition, seed) in seeds(15_000) {
+        let TextCase { text, room } = generate::sheet_text_case(&mut Rng::new(seed), edition);
         let mut lent = vec![OLD_BYTE; room];
         let answer = sheet_table(&text, &mut lent);
         count(&mut counts, &answer);

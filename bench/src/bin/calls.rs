@@ -1,15 +1,16 @@
 //! Calls one function of the proved library, or of the Rust program, again and again and writes nothing:
-//! `calls proved|rust FUNCTION FRAMES TIMES`. `bench/instructions` counts what a call takes by it.
+//! `calls proved|rust FUNCTION FRAMES TIMES`; for FRAMES may stand `read`, the plan for consumers. `bench/instructions` counts what a call takes by it.
 
-use bench::{SIZES, plan_with, ticks_of};
+use bench::{SIZES, plan_read, plan_with, ticks_of};
 use olbiothar::{FRAMES, Frame, LONGEST_SHEET, LONGEST_TABLE, Station};
-use reference::FrameRow;
-use reference::generate::text_of;
+use reference::generate::{Draft, text_of};
+use reference::{Edition, FrameRow};
 use std::hint::black_box;
 
 /// A plan and its table, and both as text.
 #[derive(Clone, Copy)]
 struct Given {
+    edition: Edition,
     plan: &'static [u8],
     table: &'static [u8],
     sheet: &'static [u8],
@@ -19,7 +20,8 @@ struct Given {
 type Call = Box<dyn FnMut()>;
 
 fn proved(function: &str, given: Given) -> Option<Call> {
-    let Given { plan, table, sheet, text } = given;
+    let Given { edition, plan, table, sheet, text } = given;
+    let edition = olbiothar::Edition::from_number(edition as u8)?;
     let (mut rows, mut room) = ([Frame::default(); FRAMES], [0; LONGEST_TABLE]);
     let mut long_room = vec![0; LONGEST_SHEET];
     let (modes, ticks) = ticks_of(plan);
@@ -27,7 +29,7 @@ fn proved(function: &str, given: Given) -> Option<Call> {
     let mut ticks = ticks.into_iter();
     Some(match function {
         "make" => Box::new(move || {
-            assert!(olbiothar::make(black_box(plan), &mut rows, &mut room).is_ok());
+            assert!(olbiothar::make(black_box(plan), edition, &mut rows, &mut room).is_ok());
         }),
         "check" => Box::new(move || {
             assert!(olbiothar::check(black_box(plan), table, &mut rows).is_ok());
@@ -53,7 +55,7 @@ fn proved(function: &str, given: Given) -> Option<Call> {
 }
 
 fn rust(function: &str, given: Given) -> Option<Call> {
-    let Given { plan, table, sheet, text } = given;
+    let Given { edition, plan, table, sheet, text } = given;
     let (mut rows, mut room) = ([FrameRow::default(); FRAMES], [0; LONGEST_TABLE]);
     let mut long_room = vec![0; LONGEST_SHEET];
     let (modes, ticks) = ticks_of(plan);
@@ -61,7 +63,7 @@ fn rust(function: &str, given: Given) -> Option<Call> {
     let mut ticks = ticks.into_iter();
     Some(match function {
         "make" => Box::new(move || {
-            assert!(reference::make(black_box(plan), &mut rows, &mut room).is_ok());
+            assert!(reference::make(black_box(plan), edition, &mut rows, &mut room).is_ok());
         }),
         "check" => Box::new(move || {
             assert!(reference::check(black_box(plan), table, &mut rows).is_ok());
@@ -87,16 +89,17 @@ fn rust(function: &str, given: Given) -> Option<Call> {
 }
 
 /// As the Rust program has them.
-fn given(rates: &[u16]) -> Given {
-    let plan = plan_with(rates).bytes();
+fn given(edition: Edition, plan: &Draft) -> Given {
+    let plan = plan.bytes();
     let mut table = vec![0; LONGEST_TABLE];
-    let made = reference::make(&plan, &mut [FrameRow::default(); FRAMES], &mut table);
+    let made = reference::make(&plan, edition, &mut [FrameRow::default(); FRAMES], &mut table);
     table.truncate(made.expect("the plan has a table"));
     let mut sheet = vec![0; LONGEST_SHEET];
     let printed = reference::sheet(&plan, &table, &mut sheet);
     sheet.truncate(printed.length);
     let text = text_of(&plan).expect("the plan keeps the record rules");
-    Given { plan: plan.leak(), table: table.leak(), sheet: sheet.leak(), text: text.leak() }
+    let [plan, table, sheet, text] = [plan, table, sheet, text].map(|bytes| &*bytes.leak());
+    Given { edition, plan, table, sheet, text }
 }
 
 fn main() {
@@ -104,11 +107,17 @@ fn main() {
     let [_, library, function, frames, times] = &words[..] else {
         panic!("calls proved|rust FUNCTION FRAMES TIMES");
     };
-    let frames: usize = frames.parse().expect("a number of frames");
-    let (_, rates) =
-        SIZES.iter().find(|(size, _)| *size == frames).expect("a size of the benchmark");
+    let given = match frames.as_str() {
+        "read" => given(Edition::Consumers, &plan_read()),
+        frames => {
+            let frames: usize = frames.parse().expect("a number of frames");
+            let of_size = SIZES.iter().find(|(size, _)| *size == frames);
+            let (_, rates) = of_size.expect("a size of the benchmark");
+            given(Edition::Basic, &plan_with(rates))
+        }
+    };
     let calls = if library == "rust" { rust } else { proved };
-    let mut call = calls(function, given(rates)).expect("a function of the library");
+    let mut call = calls(function, given).expect("a function of the library");
     for _ in 0..times.parse().expect("how often") {
         call();
     }

@@ -1,6 +1,6 @@
 //! The bindings as a program that can be compared with the Rust program of `tests`.
 
-use olbiothar::{Frame, Refusal, Station};
+use olbiothar::{Edition, Frame, Refusal, Station};
 use reference::program::{Now, Program, Ticked};
 use reference::station::{Modes, ModuleNow, Results, TaskNow, TimeNow};
 use reference::{FrameRow, Reason, Row, Sheet, TextRefusal};
@@ -52,10 +52,12 @@ impl Program for Bindings {
     fn make(
         &mut self,
         plan: &[u8],
+        edition: u8,
         rows: &mut [FrameRow],
         buffer: &mut [u8],
     ) -> Result<usize, reference::Refusal> {
-        let made = with_rows(rows, |rows| olbiothar::make(plan, rows, buffer));
+        let edition = Edition::from_number(edition).expect("only the library takes others");
+        let made = with_rows(rows, |rows| olbiothar::make(plan, edition, rows, buffer));
         self.said(made)
     }
 

@@ -20,6 +20,7 @@ use Rattle.answers.specs.declared.Refusal.the-variants.{
   NoRoom,
   BufferTooShort,
   TooFewRows,
+  NoEdition,
   BadTableRecords,
   WrongHeader,
   WrongControlRow,
@@ -54,6 +55,7 @@ cases =
     ∷ (λ p. NoRoom (record { 0 = p }))
     ∷ (λ p. BufferTooShort (record { 0 = p }))
     ∷ (λ p. TooFewRows)
+    ∷ NoEdition
     ∷ (λ p. BadTableRecords (record { 0 = p }))
     ∷ (λ p. WrongHeader)
     ∷ (λ p. WrongControlRow (record { 0 = p }))
@@ -91,6 +93,7 @@ found ControlTooLong = refl
 found (NoRoom _) = refl
 found (BufferTooShort _) = refl
 found TooFewRows = refl
+found (NoEdition _) = refl
 found (BadTableRecords _) = refl
 found WrongHeader = refl
 found (WrongControlRow _) = refl

@@ -20,6 +20,7 @@ use Rattle.answers.specs.declared.Refusal.the-variants.{
   NoRoom,
   BufferTooShort,
   TooFewRows,
+  NoEdition,
   BadTableRecords,
   WrongHeader,
   WrongControlRow,
@@ -52,6 +53,7 @@ numberOf ControlTooLong = 11  -- C above P
 numberOf (NoRoom _) = 12  -- the latest-release rule refuses
 numberOf (BufferTooShort _) = 13  -- the lent table buffer is too short
 numberOf TooFewRows = 19  -- fewer than 1,024 frame rows lent
+numberOf (NoEdition _) = 62  -- no edition of this number
 numberOf (BadTableRecords _) = 20  -- bytes break the record rules for a table
 numberOf WrongHeader = 21  -- P, a header count or a number of rows is not the plan's
 numberOf (WrongControlRow _) = 22  -- a control row is not the fixed one
@@ -83,6 +85,7 @@ placeOf ControlTooLong = 0
 placeOf (NoRoom frame) = frame .0
 placeOf (BufferTooShort needed) = needed .0
 placeOf TooFewRows = mostFrames
+placeOf (NoEdition edition) = edition
 placeOf (BadTableRecords offset) = offset .0
 placeOf WrongHeader = 0
 placeOf (WrongControlRow k) = k .0

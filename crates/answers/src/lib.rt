@@ -44,6 +44,8 @@ pub enum Refusal {
     ResultTooLarge(TaskNo),
     ResultOverdue(TaskNo),
     ChangeNotAllowed(ModuleNo),
+    // 62: the number that is no edition's.
+    NoEdition(u8),
 }
 
 // What was judged: nothing to refuse, or the first refusal that applies.
@@ -85,6 +87,7 @@ impl Refusal {
             Refusal::ResultTooLarge(_) => 42,
             Refusal::ResultOverdue(_) => 43,
             Refusal::ChangeNotAllowed(_) => 44,
+            Refusal::NoEdition(_) => 62,
         }
     }
 
@@ -120,6 +123,7 @@ impl Refusal {
             Refusal::ResultTooLarge(task) => task.place(),
             Refusal::ResultOverdue(task) => task.place(),
             Refusal::ChangeNotAllowed(home) => home.place(),
+            Refusal::NoEdition(edition) => edition as usize,
         }
     }
 }

@@ -21,7 +21,8 @@ use Rattle.laws.proofs.Orders.{le-or-lt}
 use Rattle.places.specs.Bits.{bitsOf}
 use Rattle.places.proofs.Bits.{bits-agree}
 use Rattle.rules.specs.Plan.{Plan}
-use Rattle.rules.specs.Traffic.{basic, has}
+use Rattle.rules.specs.Traffic.{traffic, has}
+use Rattle.rules.specs.Readers.{readersOf}
 use Rattle.rules.specs.Frames.{Pair, pairs, noControlRow, layoutOf, isOne, hasOf}
 use Rattle.rules.specs.LatestRelease.{noPair, timeAlone}
 use Rattle.rules.specs.Checker.{Named, Row, TableRead, Passed, controlAt, noRow, rowAt, isPairOf, holdsPair, rowHolding}
@@ -33,6 +34,8 @@ use Rattle.rules.proofs.LaidOut.{pairs-kept}
 use Rattle.rules.proofs.PairRows.{HoldsPair, pair-row, rides}
 use Rattle.rules.proofs.Sent.{has-means, has-is, some-mode}
 use Rattle.rules.proofs.TransparentPlan.{control-same, row-lasts}
+use Rattle.bus.specs.Readers.{readersLaid}
+use Rattle.bus.proofs.Rows.{plan-readers-seen}
 use Rattle.control.specs.Control.{nodeOf, startOf, stopOf}
 use Rattle.line.specs.Line.{lineIn, lineOf, taskOf, deadlineOf}
 use Rattle.line.proofs.Drawn.{Drawn, time-drawn}
@@ -46,7 +49,7 @@ use Rattle.stationrefusals.specs.declared.Tasks.{Tasks}
 use Rattle.stationnodes.specs.declared.Node.{Node}
 use Rattle.station.specs.declared.Station.{Station}
 use Rattle.keeping.specs.Keeping as keeping
-use Rattle.keeping.specs.Keeping.{byPair, controlsOf, hasMessage, keptFrom, modesAt, modesOf, modulesOf, runAmong, runsAmong, runsOf, stopAt, tasksOf}
+use Rattle.keeping.specs.Keeping.{byPair, controlsOf, hasMessage, keptFrom, modesAt, modesIn, modesOf, modulesOf, runAmong, runsAmong, runsOf, stopAt, tasksOf}
 use Rattle.beginning.specs.Begins.{keptLaid, modesLaid, runLaid}
 
 -- ---- arrays
@@ -104,7 +107,7 @@ station-made h1 h2 h3 h4 h5 h6 h7 = rw (h1, h2, h3, h4, h5, h6, h7)
 
 module _ (p : Plan) (d : Drawn p) (t : TableRead) (obeys : ObeysTable (layoutOf p) t) where
   abbrev passed : Passed
-  passed = record { plan = p; traffic = basic p; layout = layoutOf p; table = t }
+  passed = record { plan = p; traffic = traffic p; layout = layoutOf p; table = t }
 
   abbrev k : Kept
   k = rules.keptOf passed
@@ -200,29 +203,37 @@ module _ (p : Plan) (d : Drawn p) (t : TableRead) (obeys : ObeysTable (layoutOf 
       let n : (μ * 32 + u) % 32 ≡ u = omega arith in
       table-at 1024 (runAmong p (p .invocations)) (μ * 32 + u) 0 (omega arith) ∙ rw (m, n)
 
+  -- the arrays hold the readers of the pair's task
+  abbrev counts : List ℕ
+  counts = readersLaid (readersOf p) .counts
+
+  abbrev periods : List ℕ
+  periods = readersLaid (readersOf p) .periods
+
   sent-by : (f : Pair) → List·Memᴰ f (pairs p) → (μ : ℕ) → μ < 32
-      → hasMessage (runsOf p) (f .task) (f .deadline) μ ≡ has (basic p .messages) μ (f .task) (f .deadline)
+      → hasMessage (runsOf p) counts periods (f .task) (f .deadline) μ ≡ has (traffic p .messages) μ (f .task) (f .deadline)
   unfolding hasMessage hasOf
   sent-by f m μ w =
       let some = some-mode p (d .kept) f m in
       let sent = has-means p (d .kept) (some .0) (f .task) (f .deadline) .says (some .1) in
       let high = all-member (pairs-kept p (d .kept)) m .deadline in
-      rw (run-at μ (f .task) w (all-member (d .tasks) m))
+      let place = all-member (d .tasks) m in
+      rw (run-at μ (f .task) w place, plan-readers-seen p (d .kept) (f .task) place)
       (sym (rw (sent .bus) at (has-is p (d .kept) μ (f .task) (f .deadline) (sent .low) high)))
 
-  modes-at : (q : ℕ) → q < length (pairs p) → modesAt (runsOf p) (lineOf p .tasks) (lineOf p .deadlines) q ≡ modesLaid k q
-  unfolding modesAt modesLaid rules.keptOf passedPair layoutOf pairs
+  modes-at : (q : ℕ) → q < length (pairs p) → modesIn p (lineOf p .tasks) (lineOf p .deadlines) q ≡ modesLaid k q
+  unfolding modesIn modesAt modesLaid rules.keptOf passedPair layoutOf pairs
   modes-at q w =
       let v : q < mostFrames = omega (arith, d .few) in
       rw (task-at q v, deadline-at q v)
-      (bits-agree (hasMessage (runsOf p) (passedPair passed q .task) (passedPair passed q .deadline)) (k .pairHas q) 32
+      (bits-agree (hasMessage (runsOf p) counts periods (passedPair passed q .task) (passedPair passed q .deadline)) (k .pairHas q) 32
       (sent-by (passedPair passed q) (member-getD (pairs p) noPair q w)))
 
   -- no message has deadline 0
-  none-sent : (μ : ℕ) → has (basic p .messages) μ 0 0 ≡ false
-  none-sent μ = go (tested (has (basic p .messages) μ 0 0))
+  none-sent : (μ : ℕ) → has (traffic p .messages) μ 0 0 ≡ false
+  none-sent μ = go (tested (has (traffic p .messages) μ 0 0))
     where
-      go : (has (basic p .messages) μ 0 0 ≡ true) ⊎ (has (basic p .messages) μ 0 0 ≡ false) → has (basic p .messages) μ 0 0 ≡ false
+      go : (has (traffic p .messages) μ 0 0 ≡ true) ⊎ (has (traffic p .messages) μ 0 0 ≡ false) → has (traffic p .messages) μ 0 0 ≡ false
       go (inl e) = absurd (omega (arith, has-means p (d .kept) μ 0 0 .says e .low))
       go (inr e) = e
 
@@ -258,9 +269,9 @@ module _ (p : Plan) (d : Drawn p) (t : TableRead) (obeys : ObeysTable (layoutOf 
       pairs-laid (length (pairs p)) (stopAt (startsOf passed) (lineOf p .tasks) (lineOf p .times)) (k .pairStop) (d .few) stop-at
       (λ q h. ap (λ (r : Row). r .stop) (row-behind q h))
 
-  modes-laid : byPair (length (pairs p)) (modesAt (runsOf p) (lineOf p .tasks) (lineOf p .deadlines)) ≡ tab (modesLaid k) 0 mostFrames
+  modes-laid : byPair (length (pairs p)) (modesIn p (lineOf p .tasks) (lineOf p .deadlines)) ≡ tab (modesLaid k) 0 mostFrames
   modes-laid =
-      pairs-laid (length (pairs p)) (modesAt (runsOf p) (lineOf p .tasks) (lineOf p .deadlines)) (modesLaid k) (d .few) modes-at no-modes
+      pairs-laid (length (pairs p)) (modesIn p (lineOf p .tasks) (lineOf p .deadlines)) (modesLaid k) (d .few) modes-at no-modes
 
   pub kept-whole : keptFrom p (lineIn (lineOf p)) (lineOf p .tasks) (lineOf p .deadlines) (startsOf passed) ≡ keptLaid k
   unfolding keptFrom modulesOf modesOf tasksOf keeping.homeOf keeping.periodOf keeping.switchOf keeping.taskHome keeping.taskSize keeping.taskWorst lineOf layoutOf pairs keptLaid rules.keptOf passedPair

@@ -16,10 +16,10 @@ use Rattle.laws.specs.Res.{Res, ok, refuse, _>>_, at}
 use Rattle.laws.proofs.Bus.{table-at}
 use Rattle.laws.proofs.Res.{refuse≢ok, refuse-number, refuse-place}
 use Rattle.laws.proofs.Turns.{same-bad}
-use Rattle.rules.specs.Plan.{Plan, readPlan}
-use Rattle.rules.specs.Traffic.{basic}
+use Rattle.rules.specs.Plan.{Plan}
+use Rattle.rules.specs.Traffic.{traffic, readIn}
 use Rattle.rules.specs.Frames.{Layout, layoutOf, pairs}
-use Rattle.rules.specs.Checker.{TableRead, Passed, checkFiles, tableOf}
+use Rattle.rules.specs.Checker.{TableRead, Passed, checkFiles, tableOf, isForConsumers}
 use Rattle.rules.specs.Obeys.{ObeysTable}
 use Rattle.rules.specs.Station as rules
 use Rattle.rules.specs.Station.{Kept, holdsModeOf, isModeOf, startsWell, stateAtStart}
@@ -31,9 +31,9 @@ use Rattle.answers.specs.Refusals.{heard, numberOf, placeOf, said}
 use Rattle.answers.specs.declared.Refusal.{Refusal}
 use Rattle.answers.specs.declared.Verdict.the-variants.{Fine, Refused}
 use Rattle.plan.specs.Memory.{seen}
-use Rattle.plan.proofs.Laid.{read-seen}
 use Rattle.line.specs.Line.{lineOf}
 use Rattle.line.proofs.Drawn.{Drawn, drawn}
+use Rattle.line.proofs.Reading.{read-in-seen}
 use Rattle.checked.specs.Checking.{verdict}
 use Rattle.checker.specs.Passing.{Passes, startsOf}
 use Rattle.checker.specs.declared.Passing.{Passing}
@@ -93,7 +93,7 @@ verdict-refused n p (refuse m q) e = rw (refuse-number e, refuse-place e)
 
 -- what the rules hand on of a table that passes
 abbrev passedOf : Plan → TableRead → Passed
-passedOf p t = record { plan = p; traffic = basic p; layout = layoutOf p; table = t }
+passedOf p t = record { plan = p; traffic = traffic p; layout = layoutOf p; table = t }
 
 module _ (plan table : List ℕ) (x : Passing) {tasks deadlines starts : List ℕ} (says : Passes x tasks deadlines starts (checkFiles plan table)) where
   -- the checker's number
@@ -106,7 +106,7 @@ module _ (plan table : List ℕ) (x : Passing) {tasks deadlines starts : List �
 
   module _ (fine : x .answer ≡ Fine) where
     passed-is : {C : Type 0}
-        → ((p : Plan) (t : TableRead) → Drawn p → ObeysTable (layoutOf p) t → readPlan plan ≡ ok p → checkFiles plan table ≡ ok (passedOf p t) → C)
+        → ((p : Plan) (t : TableRead) → Drawn p → ObeysTable (layoutOf p) t → readIn (isForConsumers table) plan ≡ ok p → checkFiles plan table ≡ ok (passedOf p t) → C)
         → C
     passed-is go =
         let c = verdict-ok (checkFiles plan table) (sym (says .answered) ∙ ap heard fine) in
@@ -114,8 +114,8 @@ module _ (plan table : List ℕ) (x : Passing) {tasks deadlines starts : List �
         let p = h .read in
         let t = tableOf (h .rows) in
         let is = laid-out p (h .laid) (h .isLaid) .is in
-        go p t (drawn plan p (h .laid) (h .isRead) (h .isLaid)) (subst (λ (l : Layout). ObeysTable l t) (sym is) (h .obeys)) (h .isRead)
-        (passed-passes plan table h ∙ ap (λ (l : Layout). ok (record { plan = p; traffic = basic p; layout = l; table = t })) (sym is))
+        go p t (drawn (isForConsumers table) plan p (h .laid) (h .isRead) (h .isLaid)) (subst (λ (l : Layout). ObeysTable l t) (sym is) (h .obeys)) (h .isRead)
+        (passed-passes plan table h ∙ ap (λ (l : Layout). ok (record { plan = p; traffic = traffic p; layout = l; table = t })) (sym is))
 
     -- the stops lie within P
     fits : (p : Plan) (t : TableRead) (d : Drawn p) (obeys : ObeysTable (layoutOf p) t) → checkFiles plan table ≡ ok (passedOf p t)
@@ -131,7 +131,7 @@ module _ (plan table : List ℕ) (x : Passing) {tasks deadlines starts : List �
     unfolding lineOf layoutOf pairs
     kept-ready =
         passed-is λ p t d obeys isRead is.
-        rw (says .plan, says .line, says .tasks, says .starts, is, read-seen plan p isRead)
+        rw (says .plan, says .line, says .tasks, says .starts, is, read-in-seen (isForConsumers table) plan p isRead)
         (d .kept, ((d .controls, d .few), fits p t d obeys is))
 
     -- the station begins as the rules say
@@ -142,7 +142,7 @@ module _ (plan table : List ℕ) (x : Passing) {tasks deadlines starts : List �
         passed-is λ p t d obeys isRead is.
         let c = passedOf p t in
         let kept : st ≡ keptLaid (rules.keptOf c) =
-        rw (h, says .plan, says .line, says .tasks, says .deadlines, says .starts, is, read-seen plan p isRead) (kept-whole p d t obeys) in
+        rw (h, says .plan, says .line, says .tasks, says .deadlines, says .starts, is, read-in-seen (isForConsumers table) plan p isRead) (kept-whole p d t obeys) in
         let few : rules.keptOf c .modes ≤ 32 = kept-begins plan table c is .modeCount .most in
         rw (q, kept, start-same (rules.keptOf c) starting few, is)
         (begins-by (rules.keptOf c) starting (firstBad (startsWell (rules.keptOf c) (startingAt starting)) (upTo 16)))

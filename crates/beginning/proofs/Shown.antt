@@ -1,8 +1,9 @@
 -- Demand 3 of the code, by the contracts of `begin`, `tick` and `shown` alone: the station that a beginning leaves keeps what the rules
 -- keep and stands at the rules' first state, at every place of a station; so behind every history of accepted ticks the values shown
--- are the one board's.
+-- are the one board's. In the basic edition they are so at every tick; in the consumer edition where they are read, and at every tick on a
+-- task's own node and of the tasks that are not thinned.
 use mathlib.Core.Path.{_≡_, refl, sym, ap, ap₂, _∙_, subst}
-use mathlib.Core.Bool.{Bool, true}
+use mathlib.Core.Bool.{Bool, true, false}
 use mathlib.Core.List.{List}
 use mathlib.Core.Logic.{_↔_}
 use mathlib.Core.Option.{Option}
@@ -18,18 +19,20 @@ use Rattle.places.specs.Bits.{bitAt}
 use Rattle.places.specs.Flags.{flagAt, flagBytes, isSet}
 use Rattle.places.proofs.Bits.{bits-are}
 use Rattle.places.proofs.Flags.{set-byte}
-use Rattle.rules.specs.Traffic.{taskNode}
+use Rattle.rules.specs.Traffic.{readIn, taskNode}
+use Rattle.rules.specs.Readers.{isThinned}
+use Rattle.rules.specs.Checker.{isForConsumers}
 use Rattle.rules.specs.History.{boardValue, consumes}
 use Rattle.rules.specs.Plan.{Plan, readPlan}
 use Rattle.rules.specs.Playing.{Input}
 use Rattle.rules.specs.Station as rules
 use Rattle.rules.specs.Station.{Kept}
 use Rattle.rules.specs.StationRange.{ticked}
-use Rattle.rules.specs.Told.{ShowsTold}
+use Rattle.rules.specs.Told.{ShowsTold, ShowsRead}
 use Rattle.rules.specs.Allowed.{MayTell, Allowed}
 use Rattle.rules.proofs.StationKept.{SameKept, follows-kept, ticked-kept}
 use Rattle.rules.proofs.StationPlaces.{Agree, SameAnswer, answer-ok, Follows, transparent-follows, transparent-follows-own}
-use Rattle.rules.proofs.FollowsTold.{also-ok, follows-shown, follows-allowed, follows-exact}
+use Rattle.rules.proofs.FollowsTold.{also-ok, follows-shown, follows-allowed, follows-exact, follows-reads}
 use Rattle.stationruns.specs.Inputs.{startingAt}
 use Rattle.stationruns.specs.declared.Starting.{Starting}
 use Rattle.stationnodes.specs.Nodes.{noNode, zeroNode}
@@ -134,56 +137,78 @@ begun-by r (ok b) h e = record { b = b; is = refl; station = h .left }
 begun-by r (refuse n p) h e = refuse≢ok (sym (h .answered) ∙ ap heard e)
 
 -- The station of the rules' beginning, any calls, and the history of those that were accepted:
-module _ (plan table : List ℕ) (starting : ℕ → Option ℕ) (b : rules.Begun) (begins : rules.begin plan table starting ≡ ok b)
-    (p : Plan) (reads : readPlan plan ≡ ok p) (history : List Input) (after : Station) (plays : Plays (stationLaid b) history after) where
+module _ (b : rules.Begun) (history : List Input) (after : Station) (plays : Plays (stationLaid b) history after) where
   behind : Behind (stationLaid b) history after
   behind = plays-follows (sized-begun b) plays
 
   follows : Follows (b .kept) (stateOf (stationLaid b)) history (stateOf after)
   follows = follows-kept (same-kept b) (behind .follows)
 
-  -- what is seen of the station is told by the history
-  pub shows-told : ShowsTold p starting history (stateOf after .shown)
-  shows-told = follows-shown plan table starting b begins p reads (stateOf (stationLaid b)) (same-state b) history (stateOf after) follows
+-- of the plan in the table's edition
+module _ (plan table : List ℕ) (starting : ℕ → Option ℕ) (b : rules.Begun) (begins : rules.begin plan table starting ≡ ok b)
+    (p : Plan) (reads : readIn (isForConsumers table) plan ≡ ok p) (history : List Input) (after : Station)
+    (plays : Plays (stationLaid b) history after) where
+  -- in the basic edition, what is seen of the station is told by the history
+  pub shows-told : p .consumers ≡ false → ShowsTold p starting history (stateOf after .shown)
+  shows-told =
+      follows-shown plan table starting b begins p reads (stateOf (stationLaid b)) (same-state b) history (stateOf after)
+      (follows b history after plays)
 
   -- whose ticks were all given what they may be given
   pub history-allowed : Allowed p starting history
-  history-allowed = follows-allowed plan table starting b begins p reads (stateOf (stationLaid b)) (same-state b) history (stateOf after) follows
+  history-allowed =
+      follows-allowed plan table starting b begins p reads (stateOf (stationLaid b)) (same-state b) history (stateOf after)
+      (follows b history after plays)
 
   -- and the next call is accepted exactly when it is, too
   pub call-exact : (i : Input) → ((t : rules.Ticked) × (ticked (keptOf after) (stateOf after) i ≡ ok t)) ↔ MayTell p starting history i
   call-exact i =
-      let told = follows-exact plan table starting b begins p reads (stateOf (stationLaid b)) (same-state b) history (stateOf after) follows i in
+      let told = follows-exact plan table starting b begins p reads (stateOf (stationLaid b)) (same-state b) history (stateOf after)
+      (follows b history after plays) i in
       let alike : SameAnswer (ticked (keptOf after) (stateOf after) i) (ticked (b .kept) (stateOf after) i) =
-      rw (behind .kept) (ticked-kept (same-kept b) (stateOf after) i) in (
+      rw (behind b history after plays .kept) (ticked-kept (same-kept b) (stateOf after) i) in (
         λ h. let o = answer-ok alike (h .1) in told .0 (o .other, o .is),
         λ m. also-ok alike (told .1 m .1),
       )
 
--- The same by the contracts of `begin` and `tick`: what is seen of the station behind the calls is told by the history, and so is
+-- of the plan as it is read, in either edition: what is seen where it is read, and on a task's own node, is told by the history
+pub shows-read : (plan table : List ℕ) (starting : ℕ → Option ℕ) (b : rules.Begun) → rules.begin plan table starting ≡ ok b → (q : Plan)
+    → readPlan plan ≡ ok q → (history : List Input) (after : Station) → Plays (stationLaid b) history after
+    → ShowsRead q starting history (stateOf after .shown)
+shows-read plan table starting b begins q reads history after plays =
+    follows-reads plan table starting b begins q reads (stateOf (stationLaid b)) (same-state b) history (stateOf after)
+    (follows b history after plays)
+
+-- The same by the contracts of `begin` and `tick`:
 module _ (plan table : List ℕ) (starting : Starting) (r : Begun) (begins : Begins r (rules.begin plan table (startingAt starting)))
-    (started : r .answer ≡ Fine) (p : Plan) (reads : readPlan plan ≡ ok p) (history : List Input) (after : Station)
-    (plays : Plays (r .station) history after) where
+    (started : r .answer ≡ Fine) where
   abbrev by : Beginning r (rules.begin plan table (startingAt starting))
   by = begun-by r (rules.begin plan table (startingAt starting)) begins started
 
-  played : Plays (stationLaid (by .b)) history after
-  played = subst (λ (st : Station). Plays st history after) (by .station) plays
+  played : {history : List Input} {after : Station} → Plays (r .station) history after → Plays (stationLaid (by .b)) history after
+  played {history} {after} plays = subst (λ (st : Station). Plays st history after) (by .station) plays
 
-  pub shown-told : ShowsTold p (startingAt starting) history (stateOf after .shown)
-  shown-told = shows-told plan table (startingAt starting) (by .b) (by .is) p reads history after played
+  -- where a consumer reads a task of another node, and on a task's own node
+  pub shown-read : (q : Plan) → readPlan plan ≡ ok q → (history : List Input) (after : Station) → Plays (r .station) history after
+      → ShowsRead q (startingAt starting) history (stateOf after .shown)
+  shown-read q reads history after plays =
+      shows-read plan table (startingAt starting) (by .b) (by .is) q reads history after (played plays)
 
-  followed : Follows (by .b .kept) (stateOf (stationLaid (by .b))) history (stateOf after)
-  followed = follows plan table (startingAt starting) (by .b) (by .is) p reads history after played
+  module _ (p : Plan) (reads : readIn (isForConsumers table) plan ≡ ok p) (history : List Input) (after : Station)
+      (plays : Plays (r .station) history after) where
+    -- at every tick, in the basic edition
+    pub shown-told : p .consumers ≡ false → ShowsTold p (startingAt starting) history (stateOf after .shown)
+    shown-told = shows-told plan table (startingAt starting) (by .b) (by .is) p reads history after (played plays)
 
-  -- the one board's value, on every node that consumes a task of another node
-  pub shown-consumed : (n t : ℕ) → consumes p n t ≡ true → stateOf after .shown n t ≡ boardValue p (startingAt starting) t history
-  shown-consumed n t c =
-      transparent-follows plan table (startingAt starting) (by .b) (by .is) p reads (stateOf (stationLaid (by .b))) (same-state (by .b)) history
-      (stateOf after) followed n t c
+    -- The one board's value, at every tick in either edition: on every node that consumes a task of another node that is not thinned,
+    pub shown-consumed : (n t : ℕ) → consumes p n t ≡ true → isThinned p t ≡ false
+        → stateOf after .shown n t ≡ boardValue p (startingAt starting) t history
+    shown-consumed =
+        transparent-follows plan table (startingAt starting) (by .b) (by .is) p reads (stateOf (stationLaid (by .b))) (same-state (by .b)) history
+        (stateOf after) (follows (by .b) history after (played plays))
 
-  -- and on a task's own node
-  pub shown-own : (t : ℕ) → t < length (p .tasks) → stateOf after .shown (taskNode p t) t ≡ boardValue p (startingAt starting) t history
-  shown-own t w =
-      transparent-follows-own plan table (startingAt starting) (by .b) (by .is) p reads (stateOf (stationLaid (by .b))) (same-state (by .b))
-      history (stateOf after) followed t w
+    -- and on a task's own node
+    pub shown-own : (t : ℕ) → t < length (p .tasks) → stateOf after .shown (taskNode p t) t ≡ boardValue p (startingAt starting) t history
+    shown-own =
+        transparent-follows-own plan table (startingAt starting) (by .b) (by .is) p reads (stateOf (stationLaid (by .b))) (same-state (by .b))
+        history (stateOf after) (follows (by .b) history after (played plays))

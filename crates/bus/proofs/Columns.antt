@@ -1,4 +1,4 @@
--- The runs of bus tasks laid into columns: one run more, none more, and that the struct stands for the runs that were laid.
+-- The runs of marked tasks laid into columns: one run more, none more, and that the struct stands for the runs that were laid.
 use mathlib.Core.Path.{_≡_, refl, sym, ap, _∙_}
 use mathlib.Core.Bool.{Bool, true, false}
 use mathlib.Core.List.{List, [], _∷_, _++_, map}
@@ -11,11 +11,11 @@ use Rattle.laws.specs.Lists.{keep, tab}
 use Rattle.laws.specs.Loops.{padTo}
 use Rattle.laws.proofs.Lists.{take-more, map-snoc, keep-snoc-yes, keep-snoc-no, length-keep, length-snoc, length-tab, getD-tab, padTo-none, padTo-snoc, getD-padTo}
 use Rattle.rules.specs.Plan.{Plan, Invocation, noInvocation, periodOf}
-use Rattle.rules.specs.Traffic.{Run, runOf, isBusTask, ofBusTask}
+use Rattle.rules.specs.Traffic.{Run, runOf}
 use Rattle.bus.specs.Senders.{byNumber}
 use Rattle.bus.proofs.Tables.{at-number}
 use Rattle.bus.specs.declared.runs.Runs.{Runs}
-use Rattle.bus.specs.Runs.{modePeriod, taskWorst, runsAmong, runMode, runTask, runPeriod, runWorst, column, runsLaid, runAt, runsSeen}
+use Rattle.bus.specs.Runs.{modePeriod, taskWorst, isMarked, runsAmong, runMode, runTask, runPeriod, runWorst, column, runsLaid, runAt, runsSeen}
 
 column-snoc : (f : Run → ℕ) (rs : List Run) (r : Run) → column f (rs ++ (r ∷ [])) ≡ set (column f rs) (length rs) (f r)
 unfolding column
@@ -43,37 +43,37 @@ laid-snoc rs r n m a b c h =
       worst = rw (h .worst, h .counted) (sym (column-snoc runWorst rs r));
     }
 
-module _ (q : Plan) where
-  pub laid-none : Laid (runsAmong q []) 0 (replicate 64 0) (replicate 64 0) (replicate 64 0) (replicate 64 0)
+module _ (q : Plan) (marks : List Bool) where
+  pub laid-none : Laid (runsAmong q marks []) 0 (replicate 64 0) (replicate 64 0) (replicate 64 0) (replicate 64 0)
   unfolding runsAmong
   laid-none = record { counted = refl; mode = column-none runMode; task = column-none runTask; period = column-none runPeriod; worst = column-none runWorst }
 
   -- no more runs than invocations
-  pub among-few : (is : List Invocation) → length (runsAmong q is) ≤ length is
+  pub among-few : (is : List Invocation) → length (runsAmong q marks is) ≤ length is
   unfolding runsAmong
-  among-few is = rw (length-map (keep (ofBusTask q) is) (runOf q)) (length-keep (ofBusTask q) is)
+  among-few is = rw (length-map (keep (isMarked marks) is) (runOf q)) (length-keep (isMarked marks) is)
 
-  among-yes : (is : List Invocation) (i : ℕ) → i < length is → ofBusTask q (getD is i noInvocation) ≡ true → runsAmong q (take (i + 1) is) ≡ runsAmong q (take i is) ++ (runOf q (getD is i noInvocation) ∷ [])
+  among-yes : (is : List Invocation) (i : ℕ) → i < length is → isMarked marks (getD is i noInvocation) ≡ true → runsAmong q marks (take (i + 1) is) ≡ runsAmong q marks (take i is) ++ (runOf q (getD is i noInvocation) ∷ [])
   unfolding runsAmong
   among-yes is i w e =
-      rw (take-more is i noInvocation w, keep-snoc-yes (ofBusTask q) (take i is) (getD is i noInvocation) e)
-      (map-snoc (runOf q) (keep (ofBusTask q) (take i is)) (getD is i noInvocation))
+      rw (take-more is i noInvocation w, keep-snoc-yes (isMarked marks) (take i is) (getD is i noInvocation) e)
+      (map-snoc (runOf q) (keep (isMarked marks) (take i is)) (getD is i noInvocation))
 
-  among-no : (is : List Invocation) (i : ℕ) → i < length is → ofBusTask q (getD is i noInvocation) ≡ false → runsAmong q (take (i + 1) is) ≡ runsAmong q (take i is)
+  among-no : (is : List Invocation) (i : ℕ) → i < length is → isMarked marks (getD is i noInvocation) ≡ false → runsAmong q marks (take (i + 1) is) ≡ runsAmong q marks (take i is)
   unfolding runsAmong
-  among-no is i w e = rw (take-more is i noInvocation w, keep-snoc-no (ofBusTask q) (take i is) (getD is i noInvocation) e)
+  among-no is i w e = rw (take-more is i noInvocation w, keep-snoc-no (isMarked marks) (take i is) (getD is i noInvocation) e)
 
-  module _ (is : List Invocation) (i n : ℕ) (m a b c : List ℕ) (w : i < length is) (h : Laid (runsAmong q (take i is)) n m a b c) where
+  module _ (is : List Invocation) (i n : ℕ) (m a b c : List ℕ) (w : i < length is) (h : Laid (runsAmong q marks (take i is)) n m a b c) where
     pub laid-few : n ≤ i
-    laid-few = let l : length (runsAmong q (take i is)) ≤ length (take i is) = among-few (take i is) in omega (arith, h .counted, length-take i is)
+    laid-few = let l : length (runsAmong q marks (take i is)) ≤ length (take i is) = among-few (take i is) in omega (arith, h .counted, length-take i is)
 
-    pub laid-more : {x : Invocation} {u t d v : ℕ} → getD is i noInvocation ≡ x → ofBusTask q x ≡ true → u ≡ x .mode → t ≡ x .task → d ≡ periodOf q x → v ≡ taskWorst q (x .task) → Laid (runsAmong q (take (i + 1) is)) (n + 1) (set m n u) (set a n t) (set b n d) (set c n v)
+    pub laid-more : {x : Invocation} {u t d v : ℕ} → getD is i noInvocation ≡ x → isMarked marks x ≡ true → u ≡ x .mode → t ≡ x .task → d ≡ periodOf q x → v ≡ taskWorst q (x .task) → Laid (runsAmong q marks (take (i + 1) is)) (n + 1) (set m n u) (set a n t) (set b n d) (set c n v)
     unfolding taskWorst runOf
     laid-more {x = x} e y o p r s =
-        let f : runsAmong q (take (i + 1) is) ≡ runsAmong q (take i is) ++ (runOf q x ∷ []) = rw e at (among-yes is i w (rw e y)) in
-        rw (f, o, p, r, s) (laid-snoc (runsAmong q (take i is)) (runOf q x) n m a b c h)
+        let f : runsAmong q marks (take (i + 1) is) ≡ runsAmong q marks (take i is) ++ (runOf q x ∷ []) = rw e at (among-yes is i w (rw e y)) in
+        rw (f, o, p, r, s) (laid-snoc (runsAmong q marks (take i is)) (runOf q x) n m a b c h)
 
-    pub laid-kept : {x : Invocation} → getD is i noInvocation ≡ x → ofBusTask q x ≡ false → Laid (runsAmong q (take (i + 1) is)) n m a b c
+    pub laid-kept : {x : Invocation} → getD is i noInvocation ≡ x → isMarked marks x ≡ false → Laid (runsAmong q marks (take (i + 1) is)) n m a b c
     laid-kept e y = rw (among-no is i w (rw e y)) h
 
 pub laid-is : (rs : List Run) (r : Runs) → Laid rs (r .count) (r .modes) (r .tasks) (r .periods) (r .worsts) → r ≡ runsLaid rs
@@ -105,11 +105,12 @@ laid-seen rs w =
 
 -- ---- an invocation's numbers, read off tables
 
-module _ (q : Plan) (x : Invocation) where
-  pub bus-task-is : {bus : List Bool} {b : Bool} (t : ℕ) → bus ≡ byNumber (isBusTask q) → t < 256 → t ≡ x .task → getD bus t false ≡ b → ofBusTask q x ≡ b
-  unfolding ofBusTask
-  bus-task-is t e w s h = rw (← s) (sym (at-number (isBusTask q) t false w) ∙ rw e at h)
+module _ (x : Invocation) where
+  pub mark-is : (marks : List Bool) {b : Bool} {t : ℕ} → t ≡ x .task → getD marks t false ≡ b → isMarked marks x ≡ b
+  unfolding isMarked
+  mark-is marks s h = rw (← s) h
 
+module _ (q : Plan) (x : Invocation) where
   pub period-is : {modes : List ℕ} {d : ℕ} (m : ℕ) → modes ≡ byNumber (modePeriod q) → m < 256 → m ≡ x .mode → d ≡ getD modes m 0 / x .rate → d ≡ periodOf q x
   unfolding periodOf modePeriod
   period-is m e w s h = h ∙ rw (e, at-number (modePeriod q) m 0 w, s)

@@ -1,5 +1,9 @@
 pub mod Tables
 pub mod Things
-pub mod Marks
+pub mod Turns
 pub mod Columns
 pub mod Multiples
+pub mod Marked
+pub mod Leaving
+pub mod Thinning
+pub mod Rows

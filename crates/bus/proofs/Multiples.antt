@@ -1,7 +1,7 @@
 -- The bus period and the grid of mode changes as loops meet them: one run more, one mode more.
 use mathlib.Core.Path.{_≡_, refl, sym, ap, _∙_}
 use mathlib.Core.Bool.{Bool, true, false, cond}
-use mathlib.Core.List.{List, [], _∷_, _++_, foldr}
+use mathlib.Core.List.{List, [], _∷_, _++_}
 use native.Mathlib.Nat.{zero-add, le-of-dvd}
 use native.Mathlib.Omega.{arith}
 use lib.ListN.{length, getD, take}
@@ -10,11 +10,10 @@ use Rattle.laws.specs.Lists.{keep, tab}
 use Rattle.laws.specs.Numbers.{divides, gcd, lcm}
 use Rattle.laws.proofs.Lists.{take-more, keep-snoc-yes, keep-snoc-no, tab-more, length-tab, getD-tab, all-snoc, all-failed, all-true, all-each}
 use Rattle.laws.proofs.Divisors.{divides-true}
-use Rattle.rules.specs.Plan.{Plan, Mode, noMode}
-use Rattle.rules.specs.Traffic.{Run, periodOfRuns, withMode, ofSender, isSending}
+use Rattle.rules.specs.Plan.{Mode, noMode}
+use Rattle.rules.specs.Traffic.{Run, periodOfRuns, withMode}
 use Rattle.rules.proofs.Period.{periodDivides, runs-divide, period-snoc, grid-snoc}
-use Rattle.bus.specs.Senders.{byNumber}
-use Rattle.bus.proofs.Tables.{at-number}
+use Rattle.bus.specs.Period.{isOfMarked, gridAmong}
 
 -- ---- P, of the runs f 0, .., f (n - 1)
 
@@ -53,16 +52,13 @@ module _ (f : ℕ → Run) where
 
 -- ---- G
 
-unfoldable pub gridAmong : Plan → List Mode → ℕ
-gridAmong q μs = foldr withMode 0 (keep (ofSender q) μs)
-
-module _ (q : Plan) (μs : List Mode) (i : ℕ) (x : Mode) (w : i < length μs) (here : getD μs i noMode ≡ x) where
-  grid-more : (b : Bool) → ofSender q x ≡ b → gridAmong q (take (i + 1) μs) ≡ cond b (withMode x (gridAmong q (take i μs))) (gridAmong q (take i μs))
+module _ (marks : List Bool) (μs : List Mode) (i : ℕ) (x : Mode) (w : i < length μs) (here : getD μs i noMode ≡ x) where
+  grid-more : (b : Bool) → isOfMarked marks x ≡ b → gridAmong marks (take (i + 1) μs) ≡ cond b (withMode x (gridAmong marks (take i μs))) (gridAmong marks (take i μs))
   unfolding gridAmong
   grid-more true e =
-      rw (take-more μs i noMode w, here, keep-snoc-yes (ofSender q) (take i μs) x e) (grid-snoc (keep (ofSender q) (take i μs)) x)
-  grid-more false e = rw (take-more μs i noMode w, here, keep-snoc-no (ofSender q) (take i μs) x e)
+      rw (take-more μs i noMode w, here, keep-snoc-yes (isOfMarked marks) (take i μs) x e) (grid-snoc (keep (isOfMarked marks) (take i μs)) x)
+  grid-more false e = rw (take-more μs i noMode w, here, keep-snoc-no (isOfMarked marks) (take i μs) x e)
 
-  pub grid-turn : {sending : List Bool} {g v : ℕ} (m : ℕ) → sending ≡ byNumber (isSending q) → m < 256 → m ≡ x .home → g ≡ gridAmong q (take i μs) → v ≡ cond (getD sending m false) (gcd (x .period) (gcd (x .switch) g)) g → v ≡ gridAmong q (take (i + 1) μs)
-  unfolding ofSender withMode
-  grid-turn m e h s g₀ v₀ = v₀ ∙ rw (e, at-number (isSending q) m false h, s, g₀) (sym (grid-more (isSending q (x .home)) refl))
+  pub grid-turn : {m g v : ℕ} → m ≡ x .home → g ≡ gridAmong marks (take i μs) → v ≡ cond (getD marks m false) (gcd (x .period) (gcd (x .switch) g)) g → v ≡ gridAmong marks (take (i + 1) μs)
+  unfolding isOfMarked withMode
+  grid-turn s g₀ v₀ = v₀ ∙ rw (s, g₀) (sym (grid-more (isOfMarked marks x) refl))

@@ -1,12 +1,14 @@
--- The runs of bus tasks in memory: an array for each of their numbers, zeros behind.
+-- The runs of marked tasks, bus tasks or others, and how they stand in memory: an array for each of their numbers, zeros behind.
+use mathlib.Core.Bool.{Bool, false}
 use mathlib.Core.List.{List, map}
 use lib.ListN.{length, getD}
 use Prim.Native.Nat.{ℕ}
 use Rattle.laws.specs.Lists.{keep, tab}
 use Rattle.laws.specs.Loops.{padTo}
+use Rattle.laws.specs.Numbers.{least}
 use Rattle.rules.specs.Limits.{mostInvocations}
 use Rattle.rules.specs.Plan.{Plan, Invocation, theMode, theTask}
-use Rattle.rules.specs.Traffic.{Run, runOf, ofBusTask}
+use Rattle.rules.specs.Traffic.{Run, runOf, periodsOf}
 use Rattle.bus.specs.declared.runs.Runs.{Runs}
 
 unfoldable pub modePeriod : Plan → ℕ → ℕ
@@ -15,9 +17,20 @@ modePeriod p μ = theMode p μ .period
 unfoldable pub taskWorst : Plan → ℕ → ℕ
 taskWorst p t = theTask p t .worst
 
--- the runs of those of a plan's invocations that are of bus tasks
-unfoldable pub runsAmong : Plan → List Invocation → List Run
-runsAmong p is = map (runOf p) (keep (ofBusTask p) is)
+-- Rule 21.3: the least of the periods of a task's invocations.
+unfoldable pub leastPeriod : Plan → ℕ → ℕ
+leastPeriod p t = least (periodsOf p t)
+
+-- the invocation's task is marked
+unfoldable pub isMarked : List Bool → Invocation → Bool
+isMarked marks i = getD marks (i .task) false
+
+-- the runs of those invocations whose tasks are marked; of all invocations of the plan
+unfoldable pub runsAmong : Plan → List Bool → List Invocation → List Run
+runsAmong p marks is = map (runOf p) (keep (isMarked marks) is)
+
+unfoldable pub runsMarked : Plan → List Bool → List Run
+runsMarked p marks = runsAmong p marks (p .invocations)
 
 abbrev pub runMode : Run → ℕ
 runMode r = r .mode

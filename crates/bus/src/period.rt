@@ -6,8 +6,8 @@ ghost use Prim.Native.Nat.{_≤_, _<_};
 ghost use Rattle.laws.specs.Numbers as laws;
 ghost use Rattle.plan.specs.Memory.{seen};
 ghost use Rattle.rules.specs.Limits.{mostInvocations};
-ghost use Rattle.rules.specs.Traffic.{isSending, switchGrid, periodOfRuns};
-ghost use Rattle.bus.specs.Senders.{byNumber};
+ghost use Rattle.rules.specs.Traffic.{periodOfRuns};
+ghost use Rattle.bus.specs.Period.{gridMarked};
 ghost use Rattle.bus.specs.Runs.{runsSeen};
 use crate::BYTES;
 use crate::runs::Runs;
@@ -19,19 +19,18 @@ use plan::Plan;
 use plan::look::mode_count;
 use units::Ticks;
 
-fn with_mode(sends: bool, period: Ticks, switch: Ticks, grid: Ticks) -> Ticks
-    ensures { λ r. ⌜ r .0 ≡ cond sends (laws.gcd (period .0) (laws.gcd (switch .0) (grid .0))) (grid .0) ⌝ }
+fn with_mode(counts: bool, period: Ticks, switch: Ticks, grid: Ticks) -> Ticks
+    ensures { λ r. ⌜ r .0 ≡ cond counts (laws.gcd (period .0) (laws.gcd (switch .0) (grid .0))) (grid .0) ⌝ }
 {
-    if sends {
+    if counts {
         Ticks(gcd(period.0, gcd(switch.0, grid.0)))
     } else {
         grid
     }
 }
 
-pub fn switch_grid(p: Plan, sending: [bool; BYTES]) -> Ticks
-    requires { ⌜ sending ≡ byNumber (isSending (seen p)) ⌝ }
-    ensures { λ r. ⌜ r .0 ≡ switchGrid (seen p) ⌝ }
+pub fn switch_grid(p: Plan, marks: [bool; BYTES]) -> Ticks
+    ensures { λ r. ⌜ r .0 ≡ gridMarked (seen p) marks ⌝ }
 {
     let n = mode_count(p);
     let mut grid = Ticks(0);
@@ -39,7 +38,7 @@ pub fn switch_grid(p: Plan, sending: [bool; BYTES]) -> Ticks
     while i < n {
         let mode = p.modes[i];
         let m = place(mode.home.0);
-        grid = with_mode(sending[m], mode.period, mode.switch, grid);
+        grid = with_mode(marks[m], mode.period, mode.switch, grid);
         i += 1;
     }
     grid

@@ -1,14 +1,17 @@
-// The invocations of bus tasks, each with its mode, its period and its task's worst time.
+// The invocations of marked tasks, bus tasks or others, each with its mode, its period and its task's worst time.
 ghost use mathlib.Core.Path.{_≡_};
-ghost use Prim.Native.Nat.{_≤_};
+ghost use mathlib.Core.Bool.{cond};
+ghost use lib.Dec.{eqb};
+ghost use Prim.Native.Nat.{_≤_, min};
 ghost use Rattle.plan.specs.Memory.{seen};
 ghost use Rattle.rules.specs.Limits.{mostInvocations};
-ghost use Rattle.rules.specs.Traffic.{isBusTask, busRuns};
+ghost use Rattle.rules.proofs.PlanKept.{PlanKept};
 ghost use Rattle.bus.specs.Senders.{byNumber};
-ghost use Rattle.bus.specs.Runs.{modePeriod, taskWorst, runsLaid};
+ghost use Rattle.bus.specs.Runs.{modePeriod, taskWorst, leastPeriod, runsMarked, runsLaid};
 use crate::BYTES;
 use figures::place;
 use figures::quotient;
+use figures::smaller;
 use plan::Invocation;
 use plan::Plan;
 use plan::look::invocation_count;
@@ -24,7 +27,7 @@ pub struct Runs {
     pub worsts: [u32; Invocation::MOST],
 }
 
-fn mode_periods(p: Plan) -> [u32; BYTES]
+pub fn mode_periods(p: Plan) -> [u32; BYTES]
     ensures { λ r. ⌜ r ≡ byNumber (modePeriod (seen p)) ⌝ }
 {
     let n = mode_count(p);
@@ -35,6 +38,36 @@ fn mode_periods(p: Plan) -> [u32; BYTES]
         m += 1;
     }
     periods
+}
+
+// 0 stands for none before.
+fn lesser(before: u32, period: u32) -> u32
+    ensures { λ r. ⌜ r ≡ cond (eqb before 0) period (min before period) ⌝ }
+{
+    if before == 0 {
+        period
+    } else {
+        smaller(before, period)
+    }
+}
+
+// The least period of each task's invocations; 0 of a task that none invokes.
+pub fn least_periods(p: Plan) -> [u32; BYTES]
+    requires { ⌜ PlanKept (seen p) ⌝ }
+    ensures { λ r. ⌜ r ≡ byNumber (leastPeriod (seen p)) ⌝ }
+{
+    let n = invocation_count(p);
+    let lasting = mode_periods(p);
+    let mut leasts: [u32; BYTES] = [0; BYTES];
+    let mut i = 0;
+    while i < n {
+        let t = place(p.invocations[i].task.0);
+        let m = place(p.invocations[i].mode.0);
+        let period = quotient(lasting[m], p.invocations[i].rate);
+        leasts[t] = lesser(leasts[t], period);
+        i += 1;
+    }
+    leasts
 }
 
 fn task_worsts(p: Plan) -> [u32; BYTES]
@@ -51,9 +84,8 @@ fn task_worsts(p: Plan) -> [u32; BYTES]
 }
 
 impl Runs {
-    pub fn of(p: Plan, bus: [bool; BYTES]) -> Runs
-        requires { ⌜ bus ≡ byNumber (isBusTask (seen p)) ⌝ }
-        ensures { λ r. ⌜ (r ≡ runsLaid (busRuns (seen p))) × (r .count ≤ mostInvocations) ⌝ }
+    pub fn of(p: Plan, marks: [bool; BYTES]) -> Runs
+        ensures { λ r. ⌜ (r ≡ runsLaid (runsMarked (seen p) marks)) × (r .count ≤ mostInvocations) ⌝ }
     {
         let n = invocation_count(p);
         let lasting = mode_periods(p);
@@ -66,7 +98,7 @@ impl Runs {
         let mut i = 0;
         while i < n {
             let t = place(p.invocations[i].task.0);
-            if bus[t] {
+            if marks[t] {
                 let m = place(p.invocations[i].mode.0);
                 modes[count] = p.invocations[i].mode.0;
                 tasks[count] = p.invocations[i].task.0;

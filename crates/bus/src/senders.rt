@@ -35,7 +35,7 @@ fn module_nodes(p: Plan) -> [u8; BYTES]
     nodes
 }
 
-fn task_homes(p: Plan) -> [u8; BYTES]
+pub fn task_homes(p: Plan) -> [u8; BYTES]
     ensures { λ r. ⌜ r ≡ byNumber (taskHome (seen p)) ⌝ }
 {
     let n = task_count(p);
@@ -48,7 +48,8 @@ fn task_homes(p: Plan) -> [u8; BYTES]
     homes
 }
 
-fn invoked(p: Plan) -> [bool; BYTES]
+// Which tasks some mode invokes.
+pub fn invoked(p: Plan) -> [bool; BYTES]
     ensures { λ r. ⌜ r ≡ byNumber (invokedBy (seen p .invocations)) ⌝ }
 {
     let n = invocation_count(p);
@@ -79,6 +80,14 @@ fn task_nodes(p: Plan, nodes: &[u8; BYTES], homes: &[u8; BYTES]) -> [u8; BYTES]
     found
 }
 
+pub fn nodes_of_tasks(p: Plan) -> [u8; BYTES]
+    ensures { λ r. ⌜ r ≡ byNumber (taskNode (seen p)) ⌝ }
+{
+    let nodes = module_nodes(p);
+    let homes = task_homes(p);
+    task_nodes(p, &nodes, &homes)
+}
+
 // A task that is invoked is a bus task as soon as a connection from it leaves its node.
 fn marked(before: bool, invoked: bool, here: u8, there: u8) -> bool
     ensures { λ r. ⌜ r ≡ (before || (invoked && not (eqb there here))) ⌝ }
@@ -103,7 +112,7 @@ fn bus_tasks(p: Plan, nodes: &[u8; BYTES], invoked: &[bool; BYTES]) -> [bool; BY
     tasks
 }
 
-fn either(a: bool, b: bool) -> bool
+pub fn either(a: bool, b: bool) -> bool
     ensures { λ r. ⌜ r ≡ (a || b) ⌝ }
 {
     a || b

@@ -10,16 +10,14 @@ use Rattle.laws.proofs.Res.{refuse≢ok, refuse-number, refuse-place}
 use Rattle.rules.specs.Limits.{mostFrames}
 use Rattle.rules.specs.Records.{Rec, records, tableFollows}
 use Rattle.rules.specs.Plan as rules
-use Rattle.rules.specs.Plan.{readPlan}
 use Rattle.rules.specs.Frames.{layoutOf}
-use Rattle.rules.specs.Checker.{Passed, judged, tableOf, checkFiles}
+use Rattle.rules.specs.Checker.{Passed, judged, tableOf, checkFiles, isForConsumers}
 use Rattle.rules.proofs.RecordsExact.{records-refused}
 use Rattle.answers.specs.declared.Refusal.{Refusal}
 use Rattle.answers.specs.Refusals.{numberOf, placeOf, said, heard}
 use Rattle.answers.specs.declared.Verdict.the-variants.{Fine, Refused}
 use Rattle.plan.specs.declared.Plan.{Plan}
 use Rattle.plan.specs.Memory.{seen, layOut}
-use Rattle.plan.proofs.Laid.{read-seen}
 use Rattle.planrules.specs.declared.Reading as planread
 use Rattle.planrules.specs.Reading as plans
 use Rattle.planrules.specs.Reading.{Reads}
@@ -28,13 +26,14 @@ use Rattle.line.specs.declared.Line.{Line}
 use Rattle.line.specs.Line.{Drawing, drawing, lineIn, lineOf, noLine}
 use Rattle.line.specs.Laying.{Lays, laid, fileLaid}
 use Rattle.line.proofs.Drawn.{Drawn}
-use Rattle.line.proofs.Reading.{sound-laid}
+use Rattle.line.proofs.Reading.{sound-laid, read-in-seen}
 use Rattle.naming.specs.Places.{Numbered}
 use Rattle.checker.specs.declared.Passing.{Passing}
 use Rattle.checker.specs.declared.CheckedRows.{CheckedRows}
 use Rattle.checker.specs.Unscanned.{ByTable}
 use Rattle.checker.specs.Passing.{Passes, noPassing, startsOf, tablePassed}
 use Rattle.checker.proofs.Ways.{right-by, drawn-ready, laid-refused, laid-sound, file-laid, file-drawn, plan-refused}
+use Rattle.rules.specs.Traffic.{readIn}
 
 -- the three arrays of a plan's pairs are zeros
 abbrev NoPairs : List ℕ → List ℕ → List ℕ → Type 0
@@ -107,47 +106,47 @@ pub read-refused : (n at : ℕ) (rule : Res rules.Plan) → plans.verdict rule �
 read-refused n at (ok p) e = refuse≢ok (sym e)
 read-refused n at (refuse m k) e = rw (refuse-number e, refuse-place e)
 
-module _ (plan table : List ℕ) (reading : planread.Reading) (reads : Reads reading (readPlan plan)) where
+module _ (plan table : List ℕ) (reading : planread.Reading) (reads : Reads reading (readIn (isForConsumers table) plan)) where
   pub way-unread : (r : Passing) {tasks deadlines starts : List ℕ} (why : Refusal) → reading .answer ≡ Refused why → r ≡ noPassing why
       → NoPairs tasks deadlines starts → Passes r tasks deadlines starts (checkFiles plan table)
   unfolding checkFiles
   way-unread r why q e z =
-      let n : readPlan plan ≡ said why = read-refused (numberOf why) (placeOf why) (readPlan plan) (sym (reads .answered) ∙ ap heard q) in
+      let n : readIn (isForConsumers table) plan ≡ said why = read-refused (numberOf why) (placeOf why) (readIn (isForConsumers table) plan) (sym (reads .answered) ∙ ap heard q) in
       passes-refused why r (checkFiles plan table) e z (rw n)
 
   module _ (sound : reading .answer ≡ Fine) (x : Laid) {tasks releases deadlines : List ℕ} (lays : Lays x tasks releases deadlines (laid (seen (reading .plan)))) where
-    lays-file : Lays x tasks releases deadlines (fileLaid plan)
-    lays-file = sound-laid plan reading reads x sound lays
+    lays-file : Lays x tasks releases deadlines (fileLaid (isForConsumers table) plan)
+    lays-file = sound-laid (isForConsumers table) plan reading reads x sound lays
 
     -- what a plan that is not laid out leaves of its frames
-    none-laid : (n at : ℕ) → fileLaid plan ≡ refuse n at → drawing (x .line) tasks releases deadlines ≡ noLine
+    none-laid : (n at : ℕ) → fileLaid (isForConsumers table) plan ≡ refuse n at → drawing (x .line) tasks releases deadlines ≡ noLine
     none-laid n at e = rw e at (lays-file .left)
 
     pub way-unlaid : (r : Passing) {starts : List ℕ} (why : Refusal) → x .answer ≡ Refused why → r ≡ noPassing why → starts ≡ replicate mostFrames 0
         → Passes r tasks deadlines starts (checkFiles plan table)
     unfolding noLine
     way-unlaid r why q e s =
-        let n : fileLaid plan ≡ said why = laid-refused (numberOf why) (placeOf why) (fileLaid plan) (sym (lays-file .answered) ∙ ap heard q) in
+        let n : fileLaid (isForConsumers table) plan ≡ said why = laid-refused (numberOf why) (placeOf why) (fileLaid (isForConsumers table) plan) (sym (lays-file .answered) ∙ ap heard q) in
         let none = none-laid (numberOf why) (placeOf why) n in
         passes-refused why r (checkFiles plan table) e (ap (λ (z : Drawing). z .tasks) none, ap (λ (z : Drawing). z .deadlines) none, s)
         (plan-refused plan table (numberOf why) (placeOf why) n)
 
     module _ (fine : x .answer ≡ Fine) where
       -- the plan that was read is the one that is laid out
-      read-is : {C : Type 0} → ((q : rules.Plan) → fileLaid plan ≡ ok q → drawing (x .line) tasks releases deadlines ≡ lineOf q → reading .plan ≡ layOut q → seen (reading .plan) ≡ q → C) → C
+      read-is : {C : Type 0} → ((q : rules.Plan) → fileLaid (isForConsumers table) plan ≡ ok q → drawing (x .line) tasks releases deadlines ≡ lineOf q → reading .plan ≡ layOut q → seen (reading .plan) ≡ q → C) → C
       read-is go =
-          laid-sound (fileLaid plan) x lays-file fine λ q isLaid same.
-          file-laid plan q isLaid λ isRead _.
+          laid-sound (fileLaid (isForConsumers table) plan) x lays-file fine λ q isLaid same.
+          file-laid (isForConsumers table) plan q isLaid λ isRead _.
           let held : reading .plan ≡ layOut q = rw isRead at (reads .left) in
-          go q isLaid same held (rw held (read-seen plan q isRead))
+          go q isLaid same held (rw held (read-in-seen (isForConsumers table) plan q isRead))
 
       pub way-ready : (reading .plan ≡ layOut (seen (reading .plan))) × (drawing (x .line) tasks releases deadlines ≡ lineOf (seen (reading .plan))) × Drawn (seen (reading .plan))
-      way-ready = read-is λ q isLaid same held is. rw is (held, same, file-drawn plan q isLaid)
+      way-ready = read-is λ q isLaid same held is. rw is (held, same, file-drawn (isForConsumers table) plan q isLaid)
 
       pub way-on : {r : Passing} {pairTasks pairDeadlines starts : List ℕ} → Passes r pairTasks pairDeadlines starts (tablePassed (seen (reading .plan)) table)
           → Passes r pairTasks pairDeadlines starts (checkFiles plan table)
       unfolding checkFiles tablePassed
       way-on {r} h =
           read-is λ q isLaid same held is.
-          file-laid plan q isLaid λ isRead drawn.
+          file-laid (isForConsumers table) plan q isLaid λ isRead drawn.
           rw (isRead, drawn) (rw is at h)

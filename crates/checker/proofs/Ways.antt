@@ -14,11 +14,11 @@ use Rattle.laws.proofs.Lists.{true-false}
 use Rattle.laws.proofs.Res.{refuse≢ok, ok-injective, refuse-number, refuse-place, bind-case, bind-refused, then-case, then-refused}
 use Rattle.units.specs.declared.Offset.{Offset}
 use Rattle.rules.specs.Records.{Rec, records, tableFollows}
-use Rattle.rules.specs.Plan.{Plan, readPlan}
-use Rattle.rules.specs.Traffic.{basic}
+use Rattle.rules.specs.Plan.{Plan}
+use Rattle.rules.specs.Traffic.{readIn, traffic}
 use Rattle.rules.specs.Frames.{layout, layoutOf}
 use Rattle.rules.specs.Checker as rules
-use Rattle.rules.specs.Checker.{TableRead, tableOf, judged, checkFiles, checkedRow}
+use Rattle.rules.specs.Checker.{TableRead, tableOf, judged, checkFiles, checkedRow, isForConsumers}
 use Rattle.rules.proofs.RecordsExact.{records-refused}
 use Rattle.rules.proofs.LaidOut.{laid-out}
 use Rattle.rules.proofs.SingleRows.{table-single}
@@ -106,26 +106,26 @@ pub drawn-ready : (p : Plan) → Drawn p → {l : Drawing} → l ≡ lineOf p �
 drawn-ready p d same = rw same (line-numbered p d, line-controls p d)
 
 -- a file that passes 1 to 11
-pub file-laid : {C : Type 0} (file : List ℕ) (p : Plan) → fileLaid file ≡ ok p → (readPlan file ≡ ok p → layout p ≡ ok (layoutOf p) → C) → C
+pub file-laid : {C : Type 0} (consumers : Bool) (file : List ℕ) (p : Plan) → fileLaid consumers file ≡ ok p → (readIn consumers file ≡ ok p → layout p ≡ ok (layoutOf p) → C) → C
 unfolding laid fileLaid
-file-laid {C} file p e go =
-    bind-case (readPlan file) _ e λ q isRead e₁.
+file-laid {C} consumers file p e go =
+    bind-case (readIn consumers file) _ e λ q isRead e₁.
     then-case (layout q) (ok q) e₁ λ l isLaid same.
     let is : q ≡ p = ok-injective same in
     go (isRead ∙ ap ok is) (ap layout (sym is) ∙ isLaid ∙ ap ok (sym (laid-out q l isLaid .is) ∙ ap layoutOf is))
 
-pub file-drawn : (file : List ℕ) (p : Plan) → fileLaid file ≡ ok p → Drawn p
-file-drawn file p e = file-laid file p e λ isRead isLaid. drawn file p (layoutOf p) isRead isLaid
+pub file-drawn : (consumers : Bool) (file : List ℕ) (p : Plan) → fileLaid consumers file ≡ ok p → Drawn p
+file-drawn consumers file p e = file-laid consumers file p e λ isRead isLaid. drawn consumers file p (layoutOf p) isRead isLaid
 
-pub judge-ready : (plan : List ℕ) (x : Laid) {tasks releases deadlines : List ℕ} → Lays x tasks releases deadlines (fileLaid plan) → x .answer ≡ Fine
+pub judge-ready : (consumers : Bool) (plan : List ℕ) (x : Laid) {tasks releases deadlines : List ℕ} → Lays x tasks releases deadlines (fileLaid consumers plan) → x .answer ≡ Fine
     → Numbered tasks deadlines (x .line .frames) × (x .line .controls ≤ 8)
-judge-ready plan x h e = laid-sound (fileLaid plan) x h e λ p q same. drawn-ready p (file-drawn plan p q) same
+judge-ready consumers plan x h e = laid-sound (fileLaid consumers plan) x h e λ p q same. drawn-ready p (file-drawn consumers plan p q) same
 
 -- a plan that 1 to 11 refuse
-pub plan-refused : (plan table : List ℕ) (n at : ℕ) → fileLaid plan ≡ refuse n at → checkFiles plan table ≡ refuse n at
+pub plan-refused : (plan table : List ℕ) (n at : ℕ) → fileLaid (isForConsumers table) plan ≡ refuse n at → checkFiles plan table ≡ refuse n at
 unfolding checkFiles laid fileLaid
 plan-refused plan table n at e =
-    bind-refused (readPlan plan) _ e (λ a. rw a)
+    bind-refused (readIn (isForConsumers table) plan) _ e (λ a. rw a)
     (λ q a b. then-refused (layout q) (ok q) b (λ c. rw (a, c)) (λ l c f. refuse≢ok (sym f)))
 
 -- ---- a table that was read
@@ -180,7 +180,7 @@ rows-laid p t =
 
 -- what the rules hand on of a table that passes
 abbrev pub passedOf : Plan → TableRead → rules.Passed
-passedOf p t = record { plan = p; traffic = basic p; layout = layoutOf p; table = t }
+passedOf p t = record { plan = p; traffic = traffic p; layout = layoutOf p; table = t }
 
 module _ (p : Plan) (d : Drawn p) (t : TableRead) (early : Bool) (j : Judgement)
     (right : Right early (lineOf p .releases) (lineOf p .frames) (judged (layoutOf p) t) (layoutOf p .pairs) t j) where
@@ -223,39 +223,39 @@ module _ (plan table : List ℕ) (lent : ℕ) (early : Bool) (r : CheckedRows) (
   pub way-few : lent < mostFrames → r ≡ refusedBy TooFewRows → Promised
   way-few h e = refused-as TooFewRows e (short-is plan table lent h)
 
-  module _ (enough : mostFrames ≤ lent) (x : Laid) (h : Lays x tasks releases deadlines (fileLaid plan)) where
+  module _ (enough : mostFrames ≤ lent) (x : Laid) (h : Lays x tasks releases deadlines (fileLaid (isForConsumers table) plan)) where
     -- 1 to 11
     pub way-plan : (why : Refusal) → x .answer ≡ Refused why → r ≡ refusedBy why → Promised
     way-plan why q e =
-        let n : fileLaid plan ≡ said why = laid-refused (numberOf why) (placeOf why) (fileLaid plan) (sym (h .answered) ∙ ap heard q) in
+        let n : fileLaid (isForConsumers table) plan ≡ said why = laid-refused (numberOf why) (placeOf why) (fileLaid (isForConsumers table) plan) (sym (h .answered) ∙ ap heard q) in
         refused-as why e (enough-is plan table lent enough ∙ plan-refused plan table (numberOf why) (placeOf why) n)
 
     module _ (sound : x .answer ≡ Fine) where
       -- 20
-      broken-refused : (p : Plan) → fileLaid plan ≡ ok p → (n at : ℕ) → records tableFollows 20 table ≡ refuse n at → checkFiles plan table ≡ refuse 20 at
+      broken-refused : (p : Plan) → fileLaid (isForConsumers table) plan ≡ ok p → (n at : ℕ) → records tableFollows 20 table ≡ refuse n at → checkFiles plan table ≡ refuse 20 at
       unfolding checkFiles
       broken-refused p laid n at e =
-          file-laid plan p laid λ isRead isLaid. rw (isRead, isLaid, e, records-refused tableFollows 20 table n at .0 e .0)
+          file-laid (isForConsumers table) plan p laid λ isRead isLaid. rw (isRead, isLaid, e, records-refused tableFollows 20 table n at .0 e .0)
 
       -- 21 to 28
-      judged-is : (p : Plan) (rs : List Rec) → fileLaid plan ≡ ok p → records tableFollows 20 table ≡ ok rs
+      judged-is : (p : Plan) (rs : List Rec) → fileLaid (isForConsumers table) plan ≡ ok p → records tableFollows 20 table ≡ ok rs
           → lentPassed plan table lent ≡ _>>_ (judged (layoutOf p) (tableOf rs)) (ok (passedOf p (tableOf rs)))
       unfolding checkFiles
-      judged-is p rs laid areRows = enough-is plan table lent enough ∙ file-laid plan p laid λ isRead isLaid. rw (isRead, isLaid, areRows)
+      judged-is p rs laid areRows = enough-is plan table lent enough ∙ file-laid (isForConsumers table) plan p laid λ isRead isLaid. rw (isRead, isLaid, areRows)
 
       -- the line and its frames
       abbrev l : Drawing
       l = drawing (x .line) tasks releases deadlines
 
       pub way-table : ByTable early l (records tableFollows 20 table) r starts → Promised
-      way-table by = laid-sound (fileLaid plan) x h sound λ p laid same. go p laid same (records tableFollows 20 table) refl by
+      way-table by = laid-sound (fileLaid (isForConsumers table) plan) x h sound λ p laid same. go p laid same (records tableFollows 20 table) refl by
         where
-          go : (p : Plan) → fileLaid plan ≡ ok p → l ≡ lineOf p → (m : Res (List Rec)) → records tableFollows 20 table ≡ m → ByTable early l m r starts
+          go : (p : Plan) → fileLaid (isForConsumers table) plan ≡ ok p → l ≡ lineOf p → (m : Res (List Rec)) → records tableFollows 20 table ≡ m → ByTable early l m r starts
               → Promised
           go p laid same (refuse n at) broken by =
               refused-as (BadTableRecords (record { 0 = at })) by (enough-is plan table lent enough ∙ broken-refused p laid n at broken)
           go p laid same (ok rs) areRows by =
-              let d = file-drawn plan p laid in
+              let d = file-drawn (isForConsumers table) plan p laid in
               judged-by p d (tableOf rs) early (judgement (r .answer) starts) (right-by p d rs same (by .1)) lent (checking r tasks releases deadlines starts)
               (lentPassed plan table lent) enough (judged-is p rs laid areRows)
               (ap {B = Checked} (λ (n : ℕ). record { answer = r .answer; rows = rowsWith n tasks releases deadlines starts }) (by .0)

@@ -8,7 +8,7 @@ use Rattle.laws.specs.Loops.{padTo}
 use Rattle.rules.specs.Limits.{mostFrames}
 use Rattle.rules.specs.Records.{records, tableFollows}
 use Rattle.rules.specs.Plan as rules
-use Rattle.rules.specs.Traffic.{basic}
+use Rattle.rules.specs.Traffic.{traffic}
 use Rattle.rules.specs.Frames.{layoutOf}
 use Rattle.rules.specs.Checker.{Passed, judged, tableOf}
 use Rattle.answers.specs.Refusals.{heard}
@@ -56,4 +56,4 @@ unfoldable pub tablePassed : rules.Plan → List ℕ → Res Passed
 tablePassed p table = do
   rs ← records tableFollows 20 table
   judged (layoutOf p) (tableOf rs)
-  ok (record { plan = p; traffic = basic p; layout = layoutOf p; table = tableOf rs })
+  ok (record { plan = p; traffic = traffic p; layout = layoutOf p; table = tableOf rs })

@@ -21,8 +21,10 @@ use judging::judge;
 use line::Line;
 use line::lay_out;
 use line::of_plan;
+use line::read_in;
 use plan::Plan;
 use table::read::Outcome;
+use table::read::is_for_consumers;
 use table::read::read_table;
 use units::Frame;
 
@@ -106,7 +108,7 @@ pub fn judged(
     if lent < Frame::MOST {
         return refused(Refusal::TooFewRows);
     }
-    let laid = lay_out(plan, tasks, releases, deadlines);
+    let laid = lay_out(plan, is_for_consumers(table), tasks, releases, deadlines);
     let answer = laid.answer;
     if let Verdict::Refused(why) = answer {
         return refused(why);
@@ -267,7 +269,7 @@ pub fn passed(
     requires { ⌜ (now tasks ≡ replicate mostFrames 0) × (now deadlines ≡ replicate mostFrames 0) × (now starts ≡ replicate mostFrames 0) ⌝ }
     ensures { λ r. ⌜ Passes r (now (tasks .exit)) (now (deadlines .exit)) (now (starts .exit)) (checkFiles (now (plan .entry)) (now (table .entry))) ⌝ }
 {
-    let reading = planrules::read(plan);
+    let reading = read_in(plan, is_for_consumers(table));
     let answer = reading.answer;
     if let Verdict::Refused(why) = answer {
         return unpassed(why);

@@ -109,9 +109,11 @@ pub mod connection {
     pub const LENGTH: usize = CONSUMER + super::U8;
 }
 
-// A table's head.
+// A table's head; a table of the consumer edition has one of another kind, with the same numbers.
 pub mod header {
     pub const KIND: u8 = 16;
+
+    pub const CONSUMERS_KIND: u8 = 20;
 
     pub const PERIOD: usize = 0;
 

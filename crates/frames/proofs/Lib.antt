@@ -5,3 +5,4 @@ pub mod Laying
 pub mod FairRuns
 pub mod Modeless
 pub mod Unique
+pub mod Reading

@@ -2,9 +2,9 @@
 -- a turn, the end.
 use mathlib.Core.Path.{_≡_, sym, ap, _∙_}
 use mathlib.Core.Bool.{Bool, true, false, _&&_}
-use mathlib.Core.List.{List, [], _∷_}
+use mathlib.Core.List.{List, [], _∷_, map}
 use mathlib.Core.Logic.{_⊎_, inl, inr}
-use native.Mathlib.Nat.{zero-add, eq-or-lt-of-le, dvd-refl, dvd-add}
+use native.Mathlib.Nat.{zero-add, eq-or-lt-of-le}
 use native.Mathlib.Omega.{arith}
 use borrow.Author.Tests.{eq-eqb, eqb-true, ltb-true, leb-true, lt-ltb, le-ltb}
 use lib.Dec.{eqb, ltb, leb}
@@ -12,17 +12,19 @@ use lib.ListN.{getD, length, set, replicate, length-set, length-replicate, getD-
 use lib.Seq.{getD-set-same, getD-set-other}
 use Prim.Native.Nat.{ℕ, zero, suc, _+_, _-_, _*_, _%_, _≤_, _<_, _∣_, max}
 use Rattle.laws.specs.Lists.{keep, all, tab, upTo}
-use Rattle.laws.specs.Numbers.{divides}
+use Rattle.laws.specs.Numbers.{least}
 use Rattle.laws.proofs.Lists.{both-left, both-right, both, all-true, length-tab, length-keep, getD-tab, tested, as-many, one-less}
-use Rattle.laws.proofs.Members.{All, empty, also, keep-nothing, all-tab}
+use Rattle.laws.proofs.Members.{All, empty, also, all-weaker, all-member, keep-nothing, all-tab, member-tab}
 use Rattle.laws.proofs.Orders.{le-or-lt}
-use Rattle.laws.proofs.Divisors.{divides-true, divides-is}
+use Rattle.laws.proofs.Divisors.{divides-true}
 use Rattle.rules.specs.Traffic.{Run}
-use Rattle.rules.specs.Direct.{placeOf, isDue, dueAt}
+use Rattle.rules.specs.Direct.{readAfter, isEnd, deadlineAfter, placeOf, isDue, dueAt, releaseFor}
 use Rattle.rules.proofs.Grid.{ends, latest}
-use Rattle.rules.proofs.Direct.{Goes, ends-none}
+use Rattle.rules.proofs.Direct.{Goes, is-after, after-least}
+use Rattle.rules.proofs.ReadersGo.{ReadersGo}
 use Rattle.tree.specs.Tree.{Grown, Raised}
-use Rattle.frames.specs.Walk.{runAt, runsIn, isFair, Ready, keyOf, limitOf, Planted, Waits, Waiting, CellMet}
+use Rattle.frames.specs.Walk.{runAt, runsIn, isFair, AreRead, Readable, latestDeadline, Ready, keyOf, limitOf, Planted, Waits, Waiting, CellMet}
+use Rattle.frames.proofs.Reading.{readable, read-within}
 use Rattle.tree.proofs.Trees.{AtLeaf, root-under, root-leaf}
 
 -- ---- fair runs
@@ -44,11 +46,16 @@ fair-run cycle r h =
       leb-true (r .worst) (r .period) (both-right (leb (r .period) cycle) (leb (r .worst) (r .period)) b),
     )
 
-pub fair-go : (cycle : ℕ) (rs : List Run) → all (isFair cycle) rs ≡ true → All Goes rs
-fair-go cycle [] h = empty
-fair-go cycle (r ∷ rs) h =
-    let f = fair-run cycle r (both-left (isFair cycle r) (all (isFair cycle) rs) h) in
-    also (record { task = f .0; again = f .1 }) (fair-go cycle rs (both-right (isFair cycle r) (all (isFair cycle) rs) h))
+pub run-goes : (readers : ℕ → List ℕ) (cycle : ℕ) (r : Run) → isFair cycle r ≡ true → ReadersGo cycle (readers (r .task)) → Goes readers r
+run-goes readers cycle r h g =
+    let f = fair-run cycle r h in
+    record { task = f .0; again = f .1; some = g .some; each = all-weaker (λ u k. k .0) (g .each) }
+
+pub fair-go : (readers : ℕ → List ℕ) (cycle : ℕ) (rs : List Run) → all (isFair cycle) rs ≡ true → AreRead readers cycle rs → All (Goes readers) rs
+fair-go readers cycle [] h empty = empty
+fair-go readers cycle (r ∷ rs) h (also g a) =
+    also (run-goes readers cycle r (both-left (isFair cycle r) (all (isFair cycle) rs) h) g)
+    (fair-go readers cycle rs (both-right (isFair cycle r) (all (isFair cycle) rs) h) a)
 
 module _ (task period worst : List ℕ) where
   pub fair-at : (cycle n i : ℕ) → all (isFair cycle) (runsIn task period worst n) ≡ true → i < n → Fair task period worst cycle i
@@ -60,35 +67,60 @@ module _ (task period worst : List ℕ) where
       let f = fair-run cycle (runAt task period worst i) (ap (isFair cycle) (sym e) ∙ all-true (isFair cycle) (tab (runAt task period worst) 0 n) (runAt task period worst i) i h k) in
       record { place = f .0; positive = f .1; within = f .2; slow = f .3 }
 
+module _ (readers : ℕ → List ℕ) (task period worst : List ℕ) where
   -- ---- the greatest release of a place
 
-  ends-here : (i d t : ℕ) → getD period i 0 ∣ d → getD task i 0 ≡ t → ends (runAt task period worst i) d t ≡ suc (d - getD period i 0 + getD worst i 0)
-  unfolding runAt
-  ends-here i d t h e = rw (divides-is (getD period i 0) d h, eq-eqb (getD task i 0) t e)
+  ends-here : (i d t : ℕ) → isEnd readers d (runAt task period worst i) ≡ true → getD task i 0 ≡ t
+      → ends readers (runAt task period worst i) d t ≡ suc (d - getD period i 0 + getD worst i 0)
+  unfolding runAt isDue releaseFor
+  ends-here i d t h e = rw (h, eq-eqb (getD task i 0) t e)
 
-  latest-over : (d t lo n i : ℕ) → lo ≤ i → i < lo + n → ends (runAt task period worst i) d t ≤ latest (tab (runAt task period worst) lo n) d t
+  latest-over : (d t lo n i : ℕ) → lo ≤ i → i < lo + n → ends readers (runAt task period worst i) d t ≤ latest readers (tab (runAt task period worst) lo n) d t
   latest-over d t lo zero i a b = absurd (omega arith)
   latest-over d t lo (suc n) i a b = which (latest-over d t (suc lo) n i) (eq-or-lt-of-le a)
     where
-      which : (suc lo ≤ i → i < suc lo + n → ends (runAt task period worst i) d t ≤ latest (tab (runAt task period worst) (suc lo) n) d t)
-          → (lo ≡ i) ⊎ (lo < i) → ends (runAt task period worst i) d t ≤ max (ends (runAt task period worst lo) d t) (latest (tab (runAt task period worst) (suc lo) n) d t)
+      which : (suc lo ≤ i → i < suc lo + n → ends readers (runAt task period worst i) d t ≤ latest readers (tab (runAt task period worst) (suc lo) n) d t)
+          → (lo ≡ i) ⊎ (lo < i) → ends readers (runAt task period worst i) d t ≤ max (ends readers (runAt task period worst lo) d t) (latest readers (tab (runAt task period worst) (suc lo) n) d t)
       which go (inl e) = rw e (omega arith)
-      which go (inr l) = let h : ends (runAt task period worst i) d t ≤ latest (tab (runAt task period worst) (suc lo) n) d t = go l (omega arith) in omega arith
+      which go (inr l) = let h : ends readers (runAt task period worst i) d t ≤ latest readers (tab (runAt task period worst) (suc lo) n) d t = go l (omega arith) in omega arith
 
-  latest-under : (d t b lo n : ℕ) → ((i : ℕ) → lo ≤ i → i < lo + n → ends (runAt task period worst i) d t ≤ b) → latest (tab (runAt task period worst) lo n) d t ≤ b
+  latest-under : (d t b lo n : ℕ) → ((i : ℕ) → lo ≤ i → i < lo + n → ends readers (runAt task period worst i) d t ≤ b) → latest readers (tab (runAt task period worst) lo n) d t ≤ b
   latest-under d t b lo zero h = omega arith
   latest-under d t b lo (suc n) h =
-      let x : ends (runAt task period worst lo) d t ≤ b = h lo (omega arith) (omega arith) in
-      let y : latest (tab (runAt task period worst) (suc lo) n) d t ≤ b = latest-under d t b (suc lo) n (λ i u v. h i (omega arith) (omega arith)) in
+      let x : ends readers (runAt task period worst lo) d t ≤ b = h lo (omega arith) (omega arith) in
+      let y : latest readers (tab (runAt task period worst) (suc lo) n) d t ≤ b = latest-under d t b (suc lo) n (λ i u v. h i (omega arith) (omega arith)) in
       omega arith
 
   -- ---- the first messages at the leaves
 
   module _ (runs size cycle : ℕ) where
+    pub read-at : Ready readers task period worst runs size cycle → (i : ℕ) → i < runs → ReadersGo cycle (readers (getD task i 0))
+    unfolding runsIn runAt
+    read-at r i h = all-member (r .read) (member-tab (runAt task period worst) 0 runs i (omega arith) (omega arith))
+
+    pub goes-at : Ready readers task period worst runs size cycle → (i : ℕ) → i < runs → Goes readers (runAt task period worst i)
+    unfolding runAt
+    goes-at r i h =
+        let f = fair-at task period worst cycle runs i (r .fair) h in
+        let g = read-at r i h in
+        record { task = f .place; again = f .positive; some = g .some; each = all-weaker (λ u k. k .0) (g .each) }
+
+    pub readable-at : Ready readers task period worst runs size cycle → (i : ℕ) → i < runs → Readable (readers (getD task i 0))
+    readable-at r i h =
+        let f = fair-at task period worst cycle runs i (r .fair) h in
+        readable (omega (arith, f .positive, f .within)) (r .short) (read-at r i h)
+
+    -- so far ahead a key does not wrap
+    pub next-within : {d i x : ℕ} → Ready readers task period worst runs size cycle → d ≤ cycle → i < runs
+        → x ≡ least (map (readAfter (getD period i 0) d) (readers (getD task i 0))) → x ≤ latestDeadline
+    next-within {d} {i} r l h e =
+        let f = fair-at task period worst cycle runs i (r .fair) h in
+        rw e (omega (arith, read-within cycle (getD period i 0) d (read-at r i h) (f .within) l, r .short))
+
     pub record Planting (tree : List ℕ) (i : ℕ) : Type 0 where
       pub within : i ≤ runs
       pub places : length tree ≡ 128
-      pub firsts : (j : ℕ) → j < i → getD tree (size + j) 0 ≡ keyOf (getD period j 0) (getD task j 0) j
+      pub firsts : (j : ℕ) → j < i → getD tree (size + j) 0 ≡ keyOf (deadlineAfter readers 0 (runAt task period worst j)) (getD task j 0) j
       pub rest : (k : ℕ) → size + i ≤ k → k < 128 → getD tree k 0 ≡ limitOf cycle
 
     pub planting-none : (v : ℕ) → v ≡ limitOf cycle → Planting (replicate 128 v) 0
@@ -100,9 +132,10 @@ module _ (task period worst : List ℕ) where
           rest = λ k a b. getD-replicate 128 k v 0 b ∙ e;
         }
 
-    pub planting-more : {tree : List ℕ} {i v : ℕ} → Planting tree i → Ready task period worst runs size cycle → i < runs → v ≡ keyOf (getD period i 0) (getD task i 0) i
-        → Planting (set tree (size + i) v) (i + 1)
-    planting-more {tree} {i} {v} p r h e =
+    pub planting-more : {tree : List ℕ} {i x v : ℕ} → Planting tree i → Ready readers task period worst runs size cycle → i < runs
+        → x ≡ least (map (readAfter (getD period i 0) 0) (readers (getD task i 0))) → v ≡ keyOf x (getD task i 0) i → Planting (set tree (size + i) v) (i + 1)
+    unfolding deadlineAfter runAt
+    planting-more {tree} {i} {x} {v} p r h ex ev =
         record {
           within = omega arith;
           places = length-set tree (size + i) v ∙ p .places;
@@ -110,11 +143,11 @@ module _ (task period worst : List ℕ) where
           rest = λ k a b. getD-set-other tree (size + i) k v 0 (λ q. omega arith) ∙ p .rest k (omega arith) b;
         }
       where
-        which : (j : ℕ) → (j ≡ i) ⊎ (j < i) → getD (set tree (size + i) v) (size + j) 0 ≡ keyOf (getD period j 0) (getD task j 0) j
-        which j (inl q) = rw q (getD-set-same tree (size + i) v 0 (omega (arith, p .places, r .few, r .small)) ∙ e)
+        which : (j : ℕ) → (j ≡ i) ⊎ (j < i) → getD (set tree (size + i) v) (size + j) 0 ≡ keyOf (deadlineAfter readers 0 (runAt task period worst j)) (getD task j 0) j
+        which j (inl q) = rw q (getD-set-same tree (size + i) v 0 (omega (arith, p .places, r .few, r .small)) ∙ rw ex at ev)
         which j (inr q) = getD-set-other tree (size + i) (size + j) v 0 (λ u. omega arith) ∙ p .firsts j q
 
-    pub planting-all : {tree : List ℕ} {i : ℕ} → Planting tree i → Ready task period worst runs size cycle → runs ≤ i → Planted task period runs size cycle tree
+    pub planting-all : {tree : List ℕ} {i : ℕ} → Planting tree i → Ready readers task period worst runs size cycle → runs ≤ i → Planted readers task period worst runs size cycle tree
     planting-all p r h =
         record {
           places = p .places;
@@ -122,22 +155,23 @@ module _ (task period worst : List ℕ) where
           rest = λ k a b. p .rest (size + k) (omega (arith, p .within)) (omega (arith, r .small));
         }
 
-    pub waiting-start : {old tree : List ℕ} → Ready task period worst runs size cycle → Planted task period runs size cycle old → Grown old size tree → Waiting task period runs size cycle 32 32 tree
+    pub waiting-start : {old tree : List ℕ} → Ready readers task period worst runs size cycle → Planted readers task period worst runs size cycle old → Grown old size tree → Waiting readers task period worst runs size cycle 32 32 tree
     waiting-start {old} {tree} r p g =
         record {
           whole = g .whole;
-          each = λ i h. each i h (fair-at cycle runs i (r .fair) h);
+          each = λ i h. each i h (goes-at r i h);
           rest = λ i a b. g .leaves (size + i) (omega arith) ∙ p .rest i a b;
         }
       where
-        each : (i : ℕ) → i < runs → Fair task period worst cycle i → Waits task period 32 32 i (getD tree (size + i) 0)
-        each i h f =
+        each : (i : ℕ) → i < runs → Goes readers (runAt task period worst i) → Waits readers task period worst 32 32 i (getD tree (size + i) 0)
+        each i h go =
+            let a = is-after readers 0 (runAt task period worst i) go in
             record {
-              next = getD period i 0;
+              next = deadlineAfter readers 0 (runAt task period worst i);
               is = g .leaves (size + i) (omega arith) ∙ p .firsts i h;
-              multiple = dvd-refl (getD period i 0);
-              reached = omega (arith, f .positive);
-              first = omega (arith, f .place);
+              end = a .0;
+              reached = omega (arith, a .1);
+              first = λ y e l. after-least readers 0 (runAt task period worst i) go y e (omega (arith, fair-at task period worst cycle runs i (r .fair) h .place));
             }
 
     -- ---- the run at the root
@@ -146,7 +180,7 @@ module _ (task period worst : List ℕ) where
       pub run : i < runs
       pub here : getD tree (size + i) 0 ≡ root
 
-    pub at-root : {lo hi : ℕ} {tree : List ℕ} {root i : ℕ} → Ready task period worst runs size cycle → Waiting task period runs size cycle lo hi tree
+    pub at-root : {lo hi : ℕ} {tree : List ℕ} {root i : ℕ} → Ready readers task period worst runs size cycle → Waiting readers task period worst runs size cycle lo hi tree
         → root ≡ getD tree 1 0 → root < limitOf cycle → i ≡ root % 64 → AtRoot tree root i
     at-root {lo} {hi} {tree} {root} {i} r w e l q = which (le-or-lt runs (leaf .place))
       where
@@ -166,9 +200,24 @@ module _ (task period worst : List ℕ) where
     -- ---- the messages of one place
 
     -- a run whose message comes later has none at this place
-    none-ends : {lo hi i key : ℕ} (d t : ℕ) (w : Waits task period lo hi i key) → hi ≤ placeOf d t → placeOf d t < placeOf (w .next) (getD task i 0) → ends (runAt task period worst i) d t ≡ 0
-    unfolding runAt
-    none-ends {i = i} d t w h l = ends-none (runAt task period worst i) (w .next) d t (w .multiple) l (omega (arith, w .first))
+    not-due : {lo hi i key : ℕ} (d t : ℕ) (w : Waits readers task period worst lo hi i key) → hi ≤ placeOf d t → placeOf d t < placeOf (w .next) (getD task i 0)
+        → isDue readers d t (runAt task period worst i) ≡ false
+    unfolding isDue runAt
+    not-due {i = i} d t w h l = which (tested (isEnd readers d (runAt task period worst i))) (tested (eqb (getD task i 0) t))
+      where
+        which : (isEnd readers d (runAt task period worst i) ≡ true) ⊎ (isEnd readers d (runAt task period worst i) ≡ false)
+            → (eqb (getD task i 0) t ≡ true) ⊎ (eqb (getD task i 0) t ≡ false)
+            → (isEnd readers d (runAt task period worst i) && eqb (getD task i 0) t) ≡ false
+        which (inl p) (inl q) =
+            let e : getD task i 0 ≡ t = eqb-true (getD task i 0) t q in
+            let n : w .next ≤ d = w .first d p (omega arith) in
+            absurd (omega arith)
+        which (inl p) (inr q) = rw (p, q)
+        which (inr p) q = rw p
+
+    none-ends : {lo hi i key : ℕ} (d t : ℕ) (w : Waits readers task period worst lo hi i key) → hi ≤ placeOf d t → placeOf d t < placeOf (w .next) (getD task i 0)
+        → ends readers (runAt task period worst i) d t ≡ 0
+    none-ends d t w h l = rw (not-due d t w h l)
 
     module _ (d t : ℕ) where
       -- the run's message at this place is still to be taken
@@ -180,40 +229,34 @@ module _ (task period worst : List ℕ) where
 
       -- the messages that come before the root are taken
       pub record Taking (tree : List ℕ) (root best taken : ℕ) : Type 0 where
-        pub waiting : Waiting task period runs size cycle (placeOf d t) (suc (placeOf d t)) tree
+        pub waiting : Waiting readers task period worst runs size cycle (placeOf d t) (suc (placeOf d t)) tree
         pub root-is : root ≡ getD tree 1 0
-        pub counted : (i : ℕ) → i < runs → suc (placeOf d t) * 64 ≤ getD tree (size + i) 0 → ends (runAt task period worst i) d t ≤ best
-        pub under : best ≤ latest (runsIn task period worst runs) d t
-        pub so-far : taken + ahead tree ≡ length (dueAt (runsIn task period worst runs) d t)
+        pub counted : (i : ℕ) → i < runs → suc (placeOf d t) * 64 ≤ getD tree (size + i) 0 → ends readers (runAt task period worst i) d t ≤ best
+        pub under : best ≤ latest readers (runsIn task period worst runs) d t
+        pub so-far : taken + ahead tree ≡ length (dueAt readers (runsIn task period worst runs) d t)
 
       -- a run has a message at this place exactly where it waits with it
-      due-ahead : {tree : List ℕ} → Ready task period worst runs size cycle → Waiting task period runs size cycle (placeOf d t) (placeOf d t) tree → t < 32 → (i : ℕ) → i < runs
-          → isDue d t (runAt task period worst i) ≡ isAhead tree i
+      due-ahead : {tree : List ℕ} → Ready readers task period worst runs size cycle → Waiting readers task period worst runs size cycle (placeOf d t) (placeOf d t) tree → t < 32 → (i : ℕ) → i < runs
+          → isDue readers d t (runAt task period worst i) ≡ isAhead tree i
       unfolding isDue runAt
-      due-ahead {tree} r w short i h = which (le-or-lt (suc (placeOf d t) * 64) (getD tree (size + i) 0)) (tested (divides (getD period i 0) d && eqb (getD task i 0) t))
+      due-ahead {tree} r w short i h = which (le-or-lt (suc (placeOf d t) * 64) (getD tree (size + i) 0))
         where
           v : getD tree (size + i) 0 ≡ keyOf (w .each i h .next) (getD task i 0) i
           v = w .each i h .is
 
           which : (suc (placeOf d t) * 64 ≤ getD tree (size + i) 0) ⊎ (getD tree (size + i) 0 < suc (placeOf d t) * 64)
-              → ((divides (getD period i 0) d && eqb (getD task i 0) t) ≡ true) ⊎ ((divides (getD period i 0) d && eqb (getD task i 0) t) ≡ false)
-              → (divides (getD period i 0) d && eqb (getD task i 0) t) ≡ ltb (getD tree (size + i) 0) (suc (placeOf d t) * 64)
-          which (inl a) (inl b) =
-              let z : ends (runAt task period worst i) d t ≡ 0 = none-ends d t (w .each i h) (omega arith) (omega (arith, v, r .few, r .small)) in
-              let p : ends (runAt task period worst i) d t ≡ suc (d - getD period i 0 + getD worst i 0)
-              = ends-here i d t (divides-true (getD period i 0) d (both-left (divides (getD period i 0) d) (eqb (getD task i 0) t) b))
-              (eqb-true (getD task i 0) t (both-right (divides (getD period i 0) d) (eqb (getD task i 0) t) b)) in
-              absurd (omega arith)
-          which (inl a) (inr b) = b ∙ sym (le-ltb (getD tree (size + i) 0) (suc (placeOf d t) * 64) a)
-          which (inr a) b =
-              let f = fair-at cycle runs i (r .fair) h in
+              → isDue readers d t (runAt task period worst i) ≡ ltb (getD tree (size + i) 0) (suc (placeOf d t) * 64)
+          which (inl a) =
+              not-due d t (w .each i h) (omega arith) (omega (arith, v, r .few, r .small))
+              ∙ sym (le-ltb (getD tree (size + i) 0) (suc (placeOf d t) * 64) a)
+          which (inr a) =
+              let f = fair-at task period worst cycle runs i (r .fair) h in
               let c : placeOf d t ≤ placeOf (w .each i h .next) (getD task i 0) = w .each i h .reached in
               let n : w .each i h .next ≡ d = omega (arith, v, f .place) in
               let e : getD task i 0 ≡ t = omega (arith, v, f .place) in
-              both (divides-is (getD period i 0) d (rw n at (w .each i h .multiple))) (eq-eqb (getD task i 0) t e)
-              ∙ sym (lt-ltb (getD tree (size + i) 0) (suc (placeOf d t) * 64) a)
+              both (rw n at (w .each i h .end)) (eq-eqb (getD task i 0) t e) ∙ sym (lt-ltb (getD tree (size + i) 0) (suc (placeOf d t) * 64) a)
 
-      pub taking-start : {tree : List ℕ} {root : ℕ} → Ready task period worst runs size cycle → Waiting task period runs size cycle (placeOf d t) (placeOf d t) tree → t < 32 → root ≡ getD tree 1 0 → Taking tree root 0 0
+      pub taking-start : {tree : List ℕ} {root : ℕ} → Ready readers task period worst runs size cycle → Waiting readers task period worst runs size cycle (placeOf d t) (placeOf d t) tree → t < 32 → root ≡ getD tree 1 0 → Taking tree root 0 0
       unfolding runsIn dueAt
       taking-start {tree} {root} r w short e =
           record {
@@ -221,43 +264,45 @@ module _ (task period worst : List ℕ) where
             root-is = e;
             counted = counted;
             under = omega arith;
-            so-far = sym (as-many (runAt task period worst) (λ k. k) (isDue d t) (isAhead tree) 0 runs (λ k a b. due-ahead r w short k (omega arith)) ∙ sym (zero-add (ahead tree)));
+            so-far = sym (as-many (runAt task period worst) (λ k. k) (isDue readers d t) (isAhead tree) 0 runs (λ k a b. due-ahead r w short k (omega arith)) ∙ sym (zero-add (ahead tree)));
           }
         where
-          later : {i key : ℕ} → Waits task period (placeOf d t) (placeOf d t) i key → Waits task period (placeOf d t) (suc (placeOf d t)) i key
-          later v = record { next = v .next; is = v .is; multiple = v .multiple; reached = v .reached; first = omega (arith, v .first) }
+          later : {i key : ℕ} → Waits readers task period worst (placeOf d t) (placeOf d t) i key → Waits readers task period worst (placeOf d t) (suc (placeOf d t)) i key
+          later v = record { next = v .next; is = v .is; end = v .end; reached = v .reached; first = λ y e h. v .first y e (omega arith) }
 
-          counted : (i : ℕ) → i < runs → suc (placeOf d t) * 64 ≤ getD tree (size + i) 0 → ends (runAt task period worst i) d t ≤ 0
+          counted : (i : ℕ) → i < runs → suc (placeOf d t) * 64 ≤ getD tree (size + i) 0 → ends readers (runAt task period worst i) d t ≤ 0
           counted i h l =
               let v : getD tree (size + i) 0 ≡ keyOf (w .each i h .next) (getD task i 0) i = w .each i h .is in
-              let z : ends (runAt task period worst i) d t ≡ 0 = none-ends d t (w .each i h) (omega arith) (omega (arith, v, r .few, r .small)) in
+              let z : ends readers (runAt task period worst i) d t ≡ 0 = none-ends d t (w .each i h) (omega arith) (omega (arith, v, r .few, r .small)) in
               omega arith
 
       -- no more are taken than there are runs
       pub taken-few : {tree : List ℕ} {root best taken : ℕ} → Taking tree root best taken → taken ≤ runs
       unfolding runsIn dueAt
-      taken-few g = omega (arith, g .so-far, length-keep (isDue d t) (tab (runAt task period worst) 0 runs), length-tab (runAt task period worst) 0 runs)
+      taken-few g = omega (arith, g .so-far, length-keep (isDue readers d t) (tab (runAt task period worst) 0 runs), length-tab (runAt task period worst) 0 runs)
 
       -- the run at the root ends at this place
       pub record Ending (root i : ℕ) : Type 0 where
         pub run : i < runs
         pub key-is : root ≡ keyOf d t i
         pub task-is : getD task i 0 ≡ t
+        pub end : isEnd readers d (runAt task period worst i) ≡ true
         pub multiple : getD period i 0 ∣ d
         pub fair : Fair task period worst cycle i
 
-      module _ {tree : List ℕ} {root best taken i : ℕ} (r : Ready task period worst runs size cycle) (inside : d ≤ cycle) (short : t < 32) (g : Taking tree root best taken) (l : root < suc (placeOf d t) * 64)
+      module _ {tree : List ℕ} {root best taken i : ℕ} (r : Ready readers task period worst runs size cycle) (inside : d ≤ cycle) (short : t < 32) (g : Taking tree root best taken) (l : root < suc (placeOf d t) * 64)
           (q : i ≡ root % 64) where
         found : AtRoot tree root i
         found = at-root r (g .waiting) (g .root-is) (omega arith) q
 
-        waits : Waits task period (placeOf d t) (suc (placeOf d t)) i (getD tree (size + i) 0)
+        waits : Waits readers task period worst (placeOf d t) (suc (placeOf d t)) i (getD tree (size + i) 0)
         waits = g .waiting .each i (found .run)
 
         fair : Fair task period worst cycle i
-        fair = fair-at cycle runs i (r .fair) (found .run)
+        fair = fair-at task period worst cycle runs i (r .fair) (found .run)
 
         pub ending : Ending root i
+        unfolding isEnd runAt
         ending =
             let v : root ≡ keyOf (waits .next) (getD task i 0) i = sym (found .here) ∙ waits .is in
             let c : placeOf d t ≤ placeOf (waits .next) (getD task i 0) = waits .reached in
@@ -268,16 +313,37 @@ module _ (task period worst : List ℕ) where
               run = found .run;
               key-is = rw (n, e) at v;
               task-is = e;
-              multiple = rw n at (waits .multiple);
+              end = rw n at (waits .end);
+              multiple = divides-true (getD period i 0) d (both-left _ _ (rw n at (waits .end)));
               fair = fair;
             }
 
-        module _ {tree′ : List ℕ} {root′ : ℕ} (u : Raised tree size (size + i) (root + getD period i 0 * 2048) tree′ root′) where
-          leaf-here : getD tree′ (size + i) 0 ≡ root + getD period i 0 * 2048
-          leaf-here = u .leaves (size + i) (omega arith) ∙ getD-set-same tree (size + i) (root + getD period i 0 * 2048) 0 (omega (arith, g .waiting .whole .places, found .run, r .few, r .small))
+        pub next-readable : Readable (readers t)
+        next-readable = rw (ending .task-is) at (readable-at r i (found .run))
+
+        pub next-short : {x : ℕ} → x ≡ least (map (readAfter (getD period i 0) d) (readers t)) → x ≤ latestDeadline
+        next-short e = next-within r inside (found .run) (rw (ending .task-is) e)
+
+        module _ {x key root′ : ℕ} {tree′ : List ℕ} (ex : x ≡ least (map (readAfter (getD period i 0) d) (readers t))) (ek : key ≡ keyOf x t i)
+            (u : Raised tree size (size + i) key tree′ root′) where
+          next-is : x ≡ deadlineAfter readers d (runAt task period worst i)
+          unfolding deadlineAfter runAt
+          next-is = rw (ending .task-is) ex
+
+          next-end : isEnd readers x (runAt task period worst i) ≡ true
+          next-end = rw next-is (is-after readers d (runAt task period worst i) (goes-at r i (found .run)) .0)
+
+          next-behind : d < x
+          next-behind = rw next-is (is-after readers d (runAt task period worst i) (goes-at r i (found .run)) .1)
+
+          next-first : (y : ℕ) → isEnd readers y (runAt task period worst i) ≡ true → d < y → x ≤ y
+          next-first y e h = rw next-is (after-least readers d (runAt task period worst i) (goes-at r i (found .run)) y e h)
+
+          leaf-here : getD tree′ (size + i) 0 ≡ keyOf x t i
+          leaf-here = u .leaves (size + i) (omega arith) ∙ getD-set-same tree (size + i) key 0 (omega (arith, g .waiting .whole .places, found .run, r .few, r .small)) ∙ ek
 
           leaf-other : (k : ℕ) → (k ≡ i → ⊥) → getD tree′ (size + k) 0 ≡ getD tree (size + k) 0
-          leaf-other k n = u .leaves (size + k) (omega arith) ∙ getD-set-other tree (size + i) (size + k) (root + getD period i 0 * 2048) 0 (λ e. n (omega arith))
+          leaf-other k n = u .leaves (size + k) (omega arith) ∙ getD-set-other tree (size + i) (size + k) key 0 (λ e. n (omega arith))
 
           -- each turn goes on to a later message
           pub root-rises : root < root′
@@ -310,7 +376,7 @@ module _ (task period worst : List ℕ) where
               which (inl a) (inl b) =
                   let e : leaf .place ≡ i = omega arith in
                   let y : getD tree′ (size + i) 0 ≡ root′ = rw e at is in
-                  omega (arith, y, leaf-here, fair .positive)
+                  omega (arith, y, leaf-here, ending .key-is, next-behind)
               which (inl a) (inr b) = other (λ e. omega arith)
               which (inr a) (inl b) = other (λ e. omega arith)
               which (inr a) (inr b) = other (λ e. omega arith)
@@ -319,7 +385,7 @@ module _ (task period worst : List ℕ) where
           one-taken =
               one-less (isAhead tree) (isAhead tree′) i 0 runs (omega arith) (omega (arith, found .run))
               (lt-ltb (getD tree (size + i) 0) (suc (placeOf d t) * 64) (omega (arith, found .here)))
-              (le-ltb (getD tree′ (size + i) 0) (suc (placeOf d t) * 64) (omega (arith, leaf-here, ending .key-is, fair .positive)))
+              (le-ltb (getD tree′ (size + i) 0) (suc (placeOf d t) * 64) (omega (arith, leaf-here, next-behind, short)))
               (λ k n. ap (λ (x : ℕ). ltb x (suc (placeOf d t) * 64)) (sym (leaf-other k n)))
 
           pub taking-turn : {b best′ : ℕ} → b ≡ suc (d - getD period i 0 + getD worst i 0) → best′ ≡ max best b → Taking tree′ root′ best′ (taken + 1)
@@ -338,42 +404,42 @@ module _ (task period worst : List ℕ) where
                 so-far = omega (arith, g .so-far, one-taken);
               }
             where
-              is-end : ends (runAt task period worst i) d t ≡ suc (d - getD period i 0 + getD worst i 0)
-              is-end = ends-here i d t (ending .multiple) (ending .task-is)
+              is-end : ends readers (runAt task period worst i) d t ≡ suc (d - getD period i 0 + getD worst i 0)
+              is-end = ends-here i d t (ending .end) (ending .task-is)
 
-              top : ends (runAt task period worst i) d t ≤ latest (tab (runAt task period worst) 0 runs) d t
+              top : ends readers (runAt task period worst i) d t ≤ latest readers (tab (runAt task period worst) 0 runs) d t
               top = latest-over d t 0 runs i (omega arith) (omega (arith, found .run))
 
-              again : Waits task period (placeOf d t) (suc (placeOf d t)) i (getD tree′ (size + i) 0)
+              again : Waits readers task period worst (placeOf d t) (suc (placeOf d t)) i (getD tree′ (size + i) 0)
               again =
                   record {
-                    next = d + getD period i 0;
-                    is = omega (arith, leaf-here, ending .key-is, ending .task-is);
-                    multiple = dvd-add (getD period i 0) (ending .multiple) (dvd-refl (getD period i 0));
-                    reached = omega (arith, ending .task-is);
-                    first = omega (arith, ending .task-is);
+                    next = x;
+                    is = omega (arith, leaf-here, ending .task-is);
+                    end = next-end;
+                    reached = omega (arith, ending .task-is, next-behind, short);
+                    first = λ y e h. next-first y e (omega (arith, ending .task-is));
                   }
 
-              as-before : (k : ℕ) → k < runs → (k ≡ i → ⊥) → Waits task period (placeOf d t) (suc (placeOf d t)) k (getD tree′ (size + k) 0)
+              as-before : (k : ℕ) → k < runs → (k ≡ i → ⊥) → Waits readers task period worst (placeOf d t) (suc (placeOf d t)) k (getD tree′ (size + k) 0)
               as-before k h n = rw (leaf-other k n) (g .waiting .each k h)
 
-              each : (k : ℕ) → k < runs → (k ≤ i) ⊎ (i < k) → (i ≤ k) ⊎ (k < i) → Waits task period (placeOf d t) (suc (placeOf d t)) k (getD tree′ (size + k) 0)
+              each : (k : ℕ) → k < runs → (k ≤ i) ⊎ (i < k) → (i ≤ k) ⊎ (k < i) → Waits readers task period worst (placeOf d t) (suc (placeOf d t)) k (getD tree′ (size + k) 0)
               each k h (inl a) (inl c) = let e : k ≡ i = omega arith in rw e again
               each k h (inl a) (inr c) = as-before k h (λ e. omega arith)
               each k h (inr a) c = as-before k h (λ e. omega arith)
 
-              still : (k : ℕ) → k < runs → suc (placeOf d t) * 64 ≤ getD tree′ (size + k) 0 → (k ≡ i → ⊥) → ends (runAt task period worst k) d t ≤ best′
+              still : (k : ℕ) → k < runs → suc (placeOf d t) * 64 ≤ getD tree′ (size + k) 0 → (k ≡ i → ⊥) → ends readers (runAt task period worst k) d t ≤ best′
               still k h a n =
-                  let z : ends (runAt task period worst k) d t ≤ best = g .counted k h (rw (leaf-other k n) at a) in
+                  let z : ends readers (runAt task period worst k) d t ≤ best = g .counted k h (rw (leaf-other k n) at a) in
                   omega arith
 
-              counted : (k : ℕ) → k < runs → suc (placeOf d t) * 64 ≤ getD tree′ (size + k) 0 → (k ≤ i) ⊎ (i < k) → (i ≤ k) ⊎ (k < i) → ends (runAt task period worst k) d t ≤ best′
+              counted : (k : ℕ) → k < runs → suc (placeOf d t) * 64 ≤ getD tree′ (size + k) 0 → (k ≤ i) ⊎ (i < k) → (i ≤ k) ⊎ (k < i) → ends readers (runAt task period worst k) d t ≤ best′
               counted k h a (inl x) (inl y) = let e : k ≡ i = omega arith in rw e (omega (arith, is-end, eb, em))
               counted k h a (inl x) (inr y) = still k h a (λ e. omega arith)
               counted k h a (inr x) y = still k h a (λ e. omega arith)
 
-      pub taking-end : {tree : List ℕ} {root best taken : ℕ} → Ready task period worst runs size cycle → Taking tree root best taken → suc (placeOf d t) * 64 ≤ root
-          → CellMet task period worst runs size cycle d t tree best root taken
+      pub taking-end : {tree : List ℕ} {root best taken : ℕ} → Ready readers task period worst runs size cycle → Taking tree root best taken → suc (placeOf d t) * 64 ≤ root
+          → CellMet readers task period worst runs size cycle d t tree best root taken
       unfolding runsIn
       taking-end {tree} {root} {best} r g l =
           record {
@@ -394,12 +460,12 @@ module _ (task period worst : List ℕ) where
               ap length
               (keep-nothing (isAhead tree) (all-tab (λ k. k) 0 runs (λ k a b. le-ltb (getD tree (size + k) 0) (suc (placeOf d t) * 64) (later k (omega arith)))))
 
-          all-counted : latest (tab (runAt task period worst) 0 runs) d t ≤ best
+          all-counted : latest readers (tab (runAt task period worst) 0 runs) d t ≤ best
           all-counted = latest-under d t best 0 runs (λ i a b. g .counted i (omega arith) (later i (omega arith)))
 
-          each : (i : ℕ) → i < runs → Waits task period (suc (placeOf d t)) (suc (placeOf d t)) i (getD tree (size + i) 0)
+          each : (i : ℕ) → i < runs → Waits readers task period worst (suc (placeOf d t)) (suc (placeOf d t)) i (getD tree (size + i) 0)
           each i h =
               let w = g .waiting .each i h in
               let v : getD tree (size + i) 0 ≡ keyOf (w .next) (getD task i 0) i = w .is in
               let u : suc (placeOf d t) * 64 ≤ getD tree (size + i) 0 = later i h in
-              record { next = w .next; is = w .is; multiple = w .multiple; reached = omega (arith, u, v, r .few, r .small); first = w .first }
+              record { next = w .next; is = w .is; end = w .end; reached = omega (arith, u, v, r .few, r .small); first = w .first }

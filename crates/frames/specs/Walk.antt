@@ -5,13 +5,15 @@ use mathlib.Core.List.{List, map}
 use lib.Dec.{leb, ltb}
 use lib.ListN.{getD, length, take}
 use lib.Seq.{sets}
-use Prim.Native.Nat.{ℕ, suc, _+_, _*_, _-_, _≤_, _<_, _∣_, min}
+use Prim.Native.Nat.{ℕ, suc, _+_, _*_, _-_, _≤_, _<_, min}
 use Rattle.laws.specs.Lists.{all, tab}
 use Rattle.rules.specs.Limits.{longestTime, mostFrames, mostInvocations, mostTasks}
 use Rattle.rules.specs.Traffic.{Run}
 use Rattle.rules.specs.Frames.{Pair}
-use Rattle.rules.specs.Direct.{placeOf, dueAt, Walk}
+use Rattle.rules.specs.Direct.{isEnd, deadlineAfter, placeOf, dueAt, Walk}
 use Rattle.rules.proofs.Grid.{cell, latest}
+use Rattle.rules.proofs.ReadersGo.{ReadersGo}
+use Rattle.laws.proofs.Members.{All}
 use Rattle.tree.specs.Tree.{mostLeaves, treePlaces, Tree}
 
 -- the run whose numbers stand at place i, and the runs at the places below n; their modes do not matter to the frames
@@ -26,13 +28,18 @@ runsIn task period worst n = tab (runAt task period worst) 0 n
 unfoldable pub isFair : ℕ → Run → Bool
 isFair busPeriod r = (ltb (r .task) mostTasks && ltb 0 (r .period)) && (leb (r .period) busPeriod && leb (r .worst) (r .period))
 
--- What is asked of the runs, and of the tree that has a leaf for each.
-pub record Ready (task period worst : List ℕ) (runs size cycle : ℕ) : Type 0 where
-  pub few : runs ≤ size
-  pub some : 0 < size
-  pub small : size ≤ mostLeaves
-  pub short : cycle ≤ longestTime
-  pub fair : all (isFair cycle) (runsIn task period worst runs) ≡ true
+-- the results of each run's task are read, each reader coming again in the cycle
+abbrev pub AreRead : (ℕ → List ℕ) → ℕ → List Run → Type 0
+AreRead readers cycle rs = All (λ r. ReadersGo cycle (readers (r .task))) rs
+
+-- What is asked of the readers of one task, and the latest deadline with which a run can wait: a reader comes again within the next cycle.
+pub record Readable (us : List ℕ) : Type 0 where
+  pub some : 0 < length us
+  pub few : length us ≤ mostInvocations
+  pub each : All (λ u. (0 < u) × (u ≤ longestTime)) us
+
+abbrev pub latestDeadline : ℕ
+latestDeadline = 2 * longestTime
 
 -- The key of run i's message at the place of deadline d and task t; behind all keys the limit.
 abbrev pub keyOf : ℕ → ℕ → ℕ → ℕ
@@ -41,33 +48,44 @@ keyOf d t i = placeOf d t * mostInvocations + i
 abbrev pub limitOf : ℕ → ℕ
 limitOf cycle = (cycle + 1) * (mostTasks * mostInvocations)
 
--- each run's first message stands at its leaf
-pub record Planted (task period : List ℕ) (runs size cycle : ℕ) (tree : List ℕ) : Type 0 where
-  pub places : length tree ≡ treePlaces
-  pub firsts : (i : ℕ) → i < runs → getD tree (size + i) 0 ≡ keyOf (getD period i 0) (getD task i 0) i
-  pub rest : (i : ℕ) → runs ≤ i → i < size → getD tree (size + i) 0 ≡ limitOf cycle
-
--- The message with which run i waits: its place is not before lo, and the run's message before it stood before hi.
-pub record Waits (task period : List ℕ) (lo hi i key : ℕ) : Type 0 where
+-- The message with which run i waits: the run ends there with one that is read, its place is not before lo, and no such end from hi on is
+-- before it.
+pub record Waits (readers : ℕ → List ℕ) (task period worst : List ℕ) (lo hi i key : ℕ) : Type 0 where
   pub next : ℕ
   pub is : key ≡ keyOf next (getD task i 0) i
-  pub multiple : getD period i 0 ∣ next
+  pub end : isEnd readers next (runAt task period worst i) ≡ true
   pub reached : lo ≤ placeOf next (getD task i 0)
-  pub first : placeOf next (getD task i 0) < hi + mostTasks * getD period i 0
+  pub first : (y : ℕ) → isEnd readers y (runAt task period worst i) ≡ true → hi ≤ placeOf y (getD task i 0) → next ≤ y
 
--- so each run waits at its leaf of a tree
-pub record Waiting (task period : List ℕ) (runs size cycle lo hi : ℕ) (tree : List ℕ) : Type 0 where
-  pub whole : Tree tree size
-  pub each : (i : ℕ) → i < runs → Waits task period lo hi i (getD tree (size + i) 0)
-  pub rest : (i : ℕ) → runs ≤ i → i < size → getD tree (size + i) 0 ≡ limitOf cycle
+module _ (readers : ℕ → List ℕ) (task period worst : List ℕ) (runs size cycle : ℕ) where
+  -- What is asked of the runs and their readers, and of the tree that has a leaf for each run.
+  pub record Ready : Type 0 where
+    pub few : runs ≤ size
+    pub some : 0 < size
+    pub small : size ≤ mostLeaves
+    pub short : cycle ≤ longestTime
+    pub fair : all (isFair cycle) (runsIn task period worst runs) ≡ true
+    pub read : AreRead readers cycle (runsIn task period worst runs)
 
--- the messages of task t and deadline d are taken, and all that wait come behind them
-pub record CellMet (task period worst : List ℕ) (runs size cycle d t : ℕ) (tree : List ℕ) (best root taken : ℕ) : Type 0 where
-  pub is : best ≡ latest (runsIn task period worst runs) d t
-  pub took : taken ≡ length (dueAt (runsIn task period worst runs) d t)
-  pub waiting : Waiting task period runs size cycle (suc (placeOf d t)) (suc (placeOf d t)) tree
-  pub root-is : root ≡ getD tree 1 0
-  pub past : suc (placeOf d t) * mostInvocations ≤ root
+  -- each run's first message that is read stands at its leaf
+  pub record Planted (tree : List ℕ) : Type 0 where
+    pub places : length tree ≡ treePlaces
+    pub firsts : (i : ℕ) → i < runs → getD tree (size + i) 0 ≡ keyOf (deadlineAfter readers 0 (runAt task period worst i)) (getD task i 0) i
+    pub rest : (i : ℕ) → runs ≤ i → i < size → getD tree (size + i) 0 ≡ limitOf cycle
+
+  -- so each run waits at its leaf of a tree
+  pub record Waiting (lo hi : ℕ) (tree : List ℕ) : Type 0 where
+    pub whole : Tree tree size
+    pub each : (i : ℕ) → i < runs → Waits readers task period worst lo hi i (getD tree (size + i) 0)
+    pub rest : (i : ℕ) → runs ≤ i → i < size → getD tree (size + i) 0 ≡ limitOf cycle
+
+  -- the messages of task t and deadline d are taken, and all that wait come behind them
+  pub record CellMet (d t : ℕ) (tree : List ℕ) (best root taken : ℕ) : Type 0 where
+    pub is : best ≡ latest readers (runsIn task period worst runs) d t
+    pub took : taken ≡ length (dueAt readers (runsIn task period worst runs) d t)
+    pub waiting : Waiting (suc (placeOf d t)) (suc (placeOf d t)) tree
+    pub root-is : root ≡ getD tree 1 0
+    pub past : suc (placeOf d t) * mostInvocations ≤ root
 
 -- the frame of one place
 unfoldable pub frameAt : ℕ → ℕ → ℕ → List Pair

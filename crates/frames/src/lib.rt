@@ -1,17 +1,21 @@
 // From the runs of bus tasks to the frames by number, straight from message to message in the frames' order: of each run the next
-// message waits in a tree, by deadline, then by task. Runs and frames stand in an array for each number, lent.
+// message that is read waits in a tree, by deadline, then by task. Runs, readers and frames stand in an array for each number, lent.
 ghost use mathlib.Core.Path.{_≡_};
 ghost use mathlib.Core.Bool.{true};
+ghost use mathlib.Core.List.{map};
 ghost use lib.ListN.{getD};
-ghost use Prim.Native.Nat.{suc, _+_, _-_, _*_, _≤_, _<_};
+ghost use Prim.Native.Nat.{suc, _+_, _-_, _*_, _≤_, _<_, _∣_};
 ghost use Rattle.laws.specs.Lists.{all};
+ghost use Rattle.laws.specs.Numbers.{up, down, least};
 ghost use Rattle.rules.specs.Limits.{longestTime, mostFrames, mostInvocations, mostTasks};
-ghost use Rattle.rules.specs.Direct.{placeOf, walkRuns};
-ghost use Rattle.frames.specs.Walk.{runsIn, isFair, keyOf, Ready, Planted, Waiting, CellMet, frameAt, Stored, Derived};
+ghost use Rattle.rules.specs.Direct.{readAfter, placeOf, walkRuns};
+ghost use Rattle.bus.specs.Readers.{readersSeen};
+ghost use Rattle.frames.specs.Walk.{runsIn, isFair, AreRead, keyOf, latestDeadline, Readable, Ready, Planted, Waiting, CellMet, frameAt, Stored, Derived};
 
 pub mod laid;
 
 use figures::larger;
+use figures::smaller;
 use plan::Invocation;
 use tree::PLACES;
 use tree::grow;
@@ -45,32 +49,79 @@ fn behind_release(d: Ticks, period: Ticks, worst: Ticks) -> Ticks
     Ticks(d.0 - period.0 + worst.0 + 1)
 }
 
+// The first deadline not before `first`, a multiple of `period`, whose message is read with period `reader` (rule 21.9): that of the run
+// which ended last when it is read next. Who reads as often as the run ends, or more often, reads every message.
+fn read_from(period: u32, first: u32, reader: u32) -> u32
+    requires { ⌜ (0 < period) × (period ∣ first) × (first ≤ latestDeadline) ⌝ }
+    requires { ⌜ (0 < reader) × (reader ≤ longestTime) ⌝ }
+    ensures { λ r. ⌜ r ≡ down period (up reader first) ⌝ }
+{
+    if reader <= period {
+        return first;
+    }
+    let read = (first + (reader - 1)) / reader * reader;
+    read / period * period
+}
+
+// The first deadline behind `d`, itself one, of a run of `task` whose message is read: the first of those by its readers. None is before the
+// run's next end.
+fn next_read(
+    period: u32,
+    d: u32,
+    reader_counts: &[usize; TaskNo::MOST],
+    reader_periods: &[u32; TaskNo::MOST * Invocation::MOST],
+    task: TaskNo,
+) -> u32
+    requires { ⌜ (0 < period) × (period ∣ d) × (d + period ≤ latestDeadline) × (task .0 < mostTasks) ⌝ }
+    requires { ⌜ Readable (readersSeen (now «reader_counts») (now «reader_periods») (task .0)) ⌝ }
+    ensures { λ r. ⌜ r ≡ least (map (readAfter period d) (readersSeen (now («reader_counts» .entry)) (now («reader_periods» .entry)) (task .0))) ⌝ }
+{
+    let first = d + period;
+    let place = task.0 as usize;
+    let row = place * Invocation::MOST;
+    let count = reader_counts[place];
+    let mut next = read_from(period, first, reader_periods[row]);
+    let mut i = 1;
+    while i < count {
+        if next == first {
+            return next;
+        }
+        next = smaller(next, read_from(period, first, reader_periods[row + i]));
+        i += 1;
+    }
+    next
+}
+
 // A message waits by its deadline, then by its task, then by its run.
 fn key(deadline: Ticks, task: TaskNo, run: usize) -> u32
-    requires { ⌜ deadline .0 ≤ longestTime ⌝ }
+    requires { ⌜ deadline .0 ≤ latestDeadline ⌝ }
     requires { ⌜ run < mostInvocations ⌝ }
     ensures { λ r. ⌜ r ≡ keyOf (deadline .0) (task .0) run ⌝ }
 {
     (deadline.0 * TASKS + task.0 as u32) * RUNS + run as u32
 }
 
-// The first message of each run, by its key; behind the runs a key that is behind all deadlines.
+// The first message of each run that is read, by its key; behind the runs a key that is behind all deadlines.
 fn plant(
     task: &[u8; Invocation::MOST],
     period: &[u32; Invocation::MOST],
     worst: &[u32; Invocation::MOST],
+    reader_counts: &[usize; TaskNo::MOST],
+    reader_periods: &[u32; TaskNo::MOST * Invocation::MOST],
     runs: usize,
     cycle: Ticks,
     size: usize,
 ) -> [u32; PLACES]
-    requires { ⌜ Ready (now task) (now period) (now worst) runs size (cycle .0) ⌝ }
-    ensures { λ r. ⌜ Planted (now (task .entry)) (now (period .entry)) runs size (cycle .0) r ⌝ }
+    requires { ⌜ Ready (readersSeen (now «reader_counts») (now «reader_periods»)) (now task) (now period) (now worst) runs size (cycle .0) ⌝ }
+    ensures { λ r. ⌜ Planted (readersSeen (now («reader_counts» .entry)) (now («reader_periods» .entry))) (now (task .entry)) (now (period .entry)) (now (worst .entry)) runs size (cycle .0) r ⌝ }
 {
     let last = cycle.0;
     let mut tree = [(last + 1) * CELLS; PLACES];
     let mut i = 0;
     while i < runs {
-        tree[size + i] = key(Ticks(period[i]), TaskNo(task[i]), i);
+        let t = TaskNo(task[i]);
+        let next = next_read(period[i], 0, reader_counts, reader_periods, t);
+        tree[size + i] = key(Ticks(next), t, i);
         i += 1;
     }
     tree
@@ -88,6 +139,8 @@ fn meet(
     task: &[u8; Invocation::MOST],
     period: &[u32; Invocation::MOST],
     worst: &[u32; Invocation::MOST],
+    reader_counts: &[usize; TaskNo::MOST],
+    reader_periods: &[u32; TaskNo::MOST * Invocation::MOST],
     runs: usize,
     cycle: Ticks,
     size: usize,
@@ -96,16 +149,15 @@ fn meet(
     first: u32,
     tree: &mut [u32; PLACES],
 ) -> Met
-    requires { ⌜ Ready (now task) (now period) (now worst) runs size (cycle .0) ⌝ }
+    requires { ⌜ Ready (readersSeen (now «reader_counts») (now «reader_periods»)) (now task) (now period) (now worst) runs size (cycle .0) ⌝ }
     requires { ⌜ (0 < d .0) × (d .0 ≤ cycle .0) × (t .0 < mostTasks) ⌝ }
-    requires { ⌜ Waiting (now task) (now period) runs size (cycle .0) (placeOf (d .0) (t .0)) (placeOf (d .0) (t .0)) (now tree) ⌝ }
+    requires { ⌜ Waiting (readersSeen (now «reader_counts») (now «reader_periods»)) (now task) (now period) (now worst) runs size (cycle .0) (placeOf (d .0) (t .0)) (placeOf (d .0) (t .0)) (now tree) ⌝ }
     requires { ⌜ first ≡ getD (now tree) 1 0 ⌝ }
-    ensures { λ r. ⌜ CellMet (now (task .entry)) (now (period .entry)) (now (worst .entry)) runs size (cycle .0) (d .0) (t .0) (now (tree .exit)) (r .best .0) (r .root) (r .taken) ⌝ }
+    ensures { λ r. ⌜ CellMet (readersSeen (now («reader_counts» .entry)) (now («reader_periods» .entry))) (now (task .entry)) (now (period .entry)) (now (worst .entry)) runs size (cycle .0) (d .0) (t .0) (now (tree .exit)) (r .best .0) (r .root) (r .taken) ⌝ }
 {
-    // As numbers: the loop's invariant speaks of them, and a struct that the loop does not read is not there any more.
+    // As a number: the loop's invariant speaks of it, and a struct that the loop does not read is not there any more.
     let last = cycle.0;
-    let number = t.0 as u32;
-    let end = (d.0 * TASKS + number + 1) * RUNS;
+    let end = (d.0 * TASKS + t.0 as u32 + 1) * RUNS;
     let mut root = first;
     let mut best = 0;
     let mut taken = 0;
@@ -113,7 +165,8 @@ fn meet(
         let i = (root % RUNS) as usize;
         let b = behind_release(d, Ticks(period[i]), Ticks(worst[i]));
         best = larger(best, b.0);
-        root = raise(tree, size, i, root + period[i] * CELLS);
+        let next = next_read(period[i], d.0, reader_counts, reader_periods, t);
+        root = raise(tree, size, i, key(Ticks(next), t, i));
         taken += 1;
     }
     Met {
@@ -155,10 +208,12 @@ pub struct Walked {
 }
 
 // The frames by number, straight from one to the next (rule 13.4). The one for which there is no place is counted and not stored.
-pub fn derive<'a>(
+pub fn derive<'a, 'b>(
     task: &'a [u8; Invocation::MOST],
     period: &'a [u32; Invocation::MOST],
     worst: &'a [u32; Invocation::MOST],
+    reader_counts: &'b [usize; TaskNo::MOST],
+    reader_periods: &'b [u32; TaskNo::MOST * Invocation::MOST],
     runs: usize,
     cycle: Ticks,
     tasks: &mut [u8; Frame::MOST],
@@ -168,12 +223,22 @@ pub fn derive<'a>(
     requires { ⌜ runs ≤ mostInvocations ⌝ }
     requires { ⌜ cycle .0 ≤ longestTime ⌝ }
     requires { ⌜ all (isFair (cycle .0)) (runsIn (now task) (now period) (now worst) runs) ≡ true ⌝ }
-    ensures { λ r. ⌜ Derived (now (tasks .entry)) (now (releases .entry)) (now (deadlines .entry)) (walkRuns (cycle .0) (runsIn (now (task .entry)) (now (period .entry)) (now (worst .entry)) runs)) (now (tasks .exit)) (now (releases .exit)) (now (deadlines .exit)) (r .count) (r .steps) ⌝ }
+    requires { ⌜ AreRead (readersSeen (now «reader_counts») (now «reader_periods»)) (cycle .0) (runsIn (now task) (now period) (now worst) runs) ⌝ }
+    ensures { λ r. ⌜ Derived (now (tasks .entry)) (now (releases .entry)) (now (deadlines .entry)) (walkRuns (readersSeen (now («reader_counts» .entry)) (now («reader_periods» .entry))) (cycle .0) (runsIn (now (task .entry)) (now (period .entry)) (now (worst .entry)) runs)) (now (tasks .exit)) (now (releases .exit)) (now (deadlines .exit)) (r .count) (r .steps) ⌝ }
     ensures { λ r. ⌜ r .steps ≤ suc mostFrames * runs ⌝ }
 {
     let limit = (cycle.0 + 1) * CELLS;
     let size = leaves(runs);
-    let mut tree = plant(task, period, worst, runs, cycle, size);
+    let mut tree = plant(
+        task,
+        period,
+        worst,
+        reader_counts,
+        reader_periods,
+        runs,
+        cycle,
+        size,
+    );
     grow(&mut tree, size);
     let mut root = tree[1];
     let mut count = 0;
@@ -185,6 +250,8 @@ pub fn derive<'a>(
             task,
             period,
             worst,
+            reader_counts,
+            reader_periods,
             runs,
             cycle,
             size,

@@ -3,16 +3,18 @@ use mathlib.Core.Bool.{Bool, _&&_}
 use mathlib.Core.List.{List}
 use lib.Dec.{ltb}
 use lib.ListN.{length, getD, replicate}
-use Prim.Native.Nat.{ℕ, _+_, _*_, _/_, _%_, _^_, _<_}
+use Prim.Native.Nat.{ℕ, _+_, _*_, _/_, _%_, _^_, _≤_, _<_}
 use Rattle.laws.specs.Lists.{tab}
 use Rattle.laws.specs.Loops.{stores}
 use Rattle.laws.specs.Numbers.{divides}
 use Rattle.places.specs.Bits.{bitsOf}
 use Rattle.places.specs.Flags.{flagBytes}
-use Rattle.rules.specs.Limits.{mostModules, mostModes, mostTasks, mostFrames}
+use Rattle.rules.specs.Limits.{mostModules, mostModes, mostTasks, mostInvocations, mostFrames}
 use Rattle.rules.specs.Plan.{Plan, Invocation, theMode, theTask}
 use Rattle.rules.specs.Traffic.{moduleNode, isSending}
 use Rattle.rules.specs.Playing.{periodAmong}
+use Rattle.rules.specs.Readers.{isReadBy, readersOf}
+use Rattle.bus.specs.Readers.{readersLaid, readersSeen}
 use Rattle.line.specs.declared.Line.{Line}
 use Rattle.station.specs.Memory.{notBegun}
 use Rattle.stationrefusals.specs.declared.Modules.{Modules}
@@ -88,14 +90,26 @@ stopAt starts tasks times q = getD starts q 0 + getD times (getD tasks q 0) 0
 unfoldable pub StopsFit : ℕ → List ℕ → List ℕ → List ℕ → Type 0
 StopsFit pairs starts tasks times = (q : ℕ) → q < pairs → stopAt starts tasks times q < 2 ^ 32
 
--- A mode has the message of a pair exactly when the task's period in the mode is above 0 and divides the deadline.
-unfoldable pub hasMessage : List ℕ → ℕ → ℕ → ℕ → Bool
-hasMessage runs t deadline μ =
-    ltb 0 (getD runs (μ * mostTasks + t) 0) && divides (getD runs (μ * mostTasks + t) 0) deadline
+-- so many readers at most has every task for which a count stands there
+unfoldable pub FewReaders : List ℕ → Type 0
+FewReaders counts = (t : ℕ) → getD counts t 0 ≤ mostInvocations
+
+-- A mode has the message of a pair exactly when the task's period in the mode is above 0 and divides the deadline, and the message is read:
+-- `counts` and `periods` hold the readers of each task.
+unfoldable pub hasMessage : List ℕ → List ℕ → List ℕ → ℕ → ℕ → ℕ → Bool
+hasMessage runs counts periods t deadline μ =
+    let period = getD runs (μ * mostTasks + t) 0 in
+    ltb 0 period && (divides period deadline && isReadBy (readersSeen counts periods t) period deadline)
 
 -- the modes that have the message of a pair, as bits
-unfoldable pub modesAt : List ℕ → List ℕ → List ℕ → ℕ → ℕ
-modesAt runs tasks deadlines q = bitsOf (hasMessage runs (getD tasks q 0) (getD deadlines q 0)) mostModes
+unfoldable pub modesAt : List ℕ → List ℕ → List ℕ → List ℕ → List ℕ → ℕ → ℕ
+modesAt runs counts periods tasks deadlines q =
+    bitsOf (hasMessage runs counts periods (getD tasks q 0) (getD deadlines q 0)) mostModes
+
+-- the same of a plan, in its edition
+unfoldable pub modesIn : Plan → List ℕ → List ℕ → ℕ → ℕ
+modesIn p tasks deadlines =
+    modesAt (runsOf p) (readersLaid (readersOf p) .counts) (readersLaid (readersOf p) .periods) tasks deadlines
 
 -- all that is kept, and nothing played; the arrays are by pair
 unfoldable pub keptFrom : Plan → Line → List ℕ → List ℕ → List ℕ → Station
@@ -115,7 +129,7 @@ keptFrom p l tasks deadlines starts =
       «pair_deadlines» = deadlines;
       «pair_starts» = starts;
       «pair_stops» = byPair (l .frames) (stopAt starts tasks (l .times));
-      «pair_modes» = byPair (l .frames) (modesAt (runsOf p) tasks deadlines);
+      «pair_modes» = byPair (l .frames) (modesIn p tasks deadlines);
       play = notBegun .play;
       nodes = notBegun .nodes;
     }

@@ -3,19 +3,24 @@ ghost use mathlib.Core.Path.{_≡_};
 ghost use mathlib.Core.Bool.{cond};
 ghost use Prim.Native.Nat.{_+_, _*_, _^_, _≤_, _<_};
 ghost use Rattle.rules.specs.Traffic.{isSending};
+ghost use Rattle.rules.specs.Readers.{isRead, isReadBy};
 ghost use Rattle.rules.specs.Limits.{mostFrames, mostModes, mostNodes};
 ghost use Rattle.rules.proofs.PlanKept.{PlanKept};
 ghost use Rattle.places.specs.Bits.{bitsOf};
 ghost use Rattle.plan.specs.Memory.{seen};
+ghost use Rattle.bus.specs.Readers.{readersSeen};
 ghost use Rattle.bus.specs.Senders.{byNumber};
 ghost use Rattle.station.specs.Memory.{notBegun};
-ghost use Rattle.keeping.specs.Keeping.{StopsFit, byPair, controlsOf, hasMessage, keptFrom, modesAt, modesOf, modulesOf, runsOf, stopAt, tasksOf};
+ghost use Rattle.keeping.specs.Keeping.{FewReaders, StopsFit, byPair, controlsOf, hasMessage, keptFrom, modesAt, modesOf, modulesOf, runsOf, stopAt, tasksOf};
+use bus::readers::Readers;
 use bus::senders::Senders;
 use figures::divides;
 use line::Line;
 use places::byte_at;
+use places::count_at;
 use places::flag_byte;
 use places::number_at;
+use plan::Invocation;
 use plan::Plan;
 use plan::look::invocation_at;
 use plan::look::invocation_count;
@@ -155,22 +160,64 @@ fn stops<'a>(
     stops
 }
 
+// Whether the message of a run of this period with this deadline is read by one who reads with period `reader` (rule 21.8). Who reads as
+// often as the run ends, or more often, reads every message.
+fn is_read(period: u32, deadline: u32, reader: u32) -> bool
+    requires { ⌜ 0 < period ⌝ }
+    ensures { λ r. ⌜ r ≡ isRead period deadline reader ⌝ }
+{
+    if reader <= period {
+        return true;
+    }
+    let behind = deadline % reader;
+    if behind == 0 {
+        return true;
+    }
+    reader - behind < period
+}
+
+// The same by any reader of the task; a task that has no place has none.
+fn some_reader<'a>(
+    counts: &'a [usize; TaskNo::MOST],
+    periods: &'a [u32; TaskNo::MOST * Invocation::MOST],
+    task: usize,
+    period: u32,
+    deadline: u32,
+) -> bool
+    requires { ⌜ (task < 256) × (0 < period) × FewReaders (now counts) ⌝ }
+    ensures { λ r. ⌜ r ≡ isReadBy (readersSeen (now (counts .entry)) (now (periods .entry)) task) period deadline ⌝ }
+{
+    let row = task * Invocation::MOST;
+    let count = count_at(counts, task);
+    let mut k = 0;
+    while k < count {
+        if is_read(period, deadline, number_at(periods, row + k)) {
+            return true;
+        }
+        k += 1;
+    }
+    false
+}
+
 // A period of 0, which is none, is not divided by.
 fn has_message<'a>(
     runs: &'a [u32; ModeNo::MOST * TaskNo::MOST],
+    counts: &'a [usize; TaskNo::MOST],
+    periods: &'a [u32; TaskNo::MOST * Invocation::MOST],
     task: usize,
     deadline: u32,
     mode: usize,
 ) -> bool
-    requires { ⌜ (task < 256) × (mode < mostModes) ⌝ }
-    ensures { λ r. ⌜ r ≡ hasMessage (now (runs .entry)) task deadline mode ⌝ }
+    requires { ⌜ (task < 256) × (mode < mostModes) × FewReaders (now counts) ⌝ }
+    ensures { λ r. ⌜ r ≡ hasMessage (now (runs .entry)) (now (counts .entry)) (now (periods .entry)) task deadline mode ⌝ }
 {
     let period = number_at(runs, mode * TaskNo::MOST + task);
     if 0 < period {
-        divides(period, deadline)
-    } else {
-        false
+        if divides(period, deadline) {
+            return some_reader(counts, periods, task, period, deadline);
+        }
     }
+    false
 }
 
 fn with_bit(bits: u32, set: bool) -> u32
@@ -181,32 +228,49 @@ fn with_bit(bits: u32, set: bool) -> u32
 }
 
 // The modes that have the message of a pair, as bits, from the last mode down to the first.
-fn modes_with<'a>(runs: &'a [u32; ModeNo::MOST * TaskNo::MOST], task: usize, deadline: u32) -> u32
-    requires { ⌜ task < 256 ⌝ }
-    ensures { λ r. ⌜ r ≡ bitsOf (hasMessage (now (runs .entry)) task deadline) mostModes ⌝ }
+fn modes_with<'a>(
+    runs: &'a [u32; ModeNo::MOST * TaskNo::MOST],
+    counts: &'a [usize; TaskNo::MOST],
+    periods: &'a [u32; TaskNo::MOST * Invocation::MOST],
+    task: usize,
+    deadline: u32,
+) -> u32
+    requires { ⌜ (task < 256) × FewReaders (now counts) ⌝ }
+    ensures { λ r. ⌜ r ≡ bitsOf (hasMessage (now (runs .entry)) (now (counts .entry)) (now (periods .entry)) task deadline) mostModes ⌝ }
 {
     let mut bits = 0;
     let mut left = ModeNo::MOST;
     while 0 < left {
         left -= 1;
-        bits = with_bit(bits, has_message(runs, task, deadline, left));
+        bits = with_bit(
+            bits,
+            has_message(runs, counts, periods, task, deadline, left),
+        );
     }
     bits
 }
 
 fn pair_modes<'a>(
     runs: &'a [u32; ModeNo::MOST * TaskNo::MOST],
+    counts: &'a [usize; TaskNo::MOST],
+    periods: &'a [u32; TaskNo::MOST * Invocation::MOST],
     pairs: usize,
     tasks: &'a [u8; Frame::MOST],
     deadlines: &'a [u32; Frame::MOST],
 ) -> [u32; Frame::MOST]
-    requires { ⌜ pairs ≤ mostFrames ⌝ }
-    ensures { λ r. ⌜ r ≡ byPair pairs (modesAt (now (runs .entry)) (now (tasks .entry)) (now (deadlines .entry))) ⌝ }
+    requires { ⌜ (pairs ≤ mostFrames) × FewReaders (now counts) ⌝ }
+    ensures { λ r. ⌜ r ≡ byPair pairs (modesAt (now (runs .entry)) (now (counts .entry)) (now (periods .entry)) (now (tasks .entry)) (now (deadlines .entry))) ⌝ }
 {
     let mut modes: [u32; Frame::MOST] = [0; Frame::MOST];
     let mut q = 0;
     while q < pairs {
-        modes[q] = modes_with(runs, byte_at(tasks, q), number_at(deadlines, q));
+        modes[q] = modes_with(
+            runs,
+            counts,
+            periods,
+            byte_at(tasks, q),
+            number_at(deadlines, q),
+        );
         q += 1;
     }
     modes
@@ -245,8 +309,16 @@ pub fn kept<'a>(
     let senders = Senders::of(p);
     let sending = senders.modules;
     let runs = runs(p);
+    let readers = Readers::of(p);
     let pair_stops = stops(line.frames, starts, pair_tasks, &line.times);
-    let pair_modes = pair_modes(&runs, line.frames, pair_tasks, pair_deadlines);
+    let pair_modes = pair_modes(
+        &runs,
+        &readers.counts,
+        &readers.periods,
+        line.frames,
+        pair_tasks,
+        pair_deadlines,
+    );
     let pair_tasks = *pair_tasks;
     let pair_deadlines = *pair_deadlines;
     let pair_starts = *starts;

@@ -19,3 +19,5 @@ pub mod Turns
 pub mod Stores
 pub mod Sums
 pub mod Gather
+pub mod Readers
+pub mod Rows

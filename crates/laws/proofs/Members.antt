@@ -377,3 +377,21 @@ tab-differ lo (suc n) = before {x = lo} (all-tab {P = Differ lo} (λ k. k) (suc 
 pub each-once : (n : ℕ) (l : List ℕ) → ((k : ℕ) → k < n → List·Memᴰ k l) → length l ≡ n → Pairs Differ l
 each-once n l c h =
     covering-once (upTo n) l (tab-differ 0 n) (λ k i. c k (all-member (all-upTo n) i)) (omega (arith, h, length-upTo n))
+
+-- of places in order, of elements
+pub pairs-of-places : {A : Type 0} {R : A → A → Type 0} (l : List A) (d : A)
+    → ((j k : ℕ) → j < k → k < length l → R (getD l j d) (getD l k d)) → Pairs R l
+pairs-of-places [] d h = alone
+pairs-of-places (x ∷ l) d h =
+    before (all-of-places l d (λ k w. h 0 (suc k) (suc-le-suc zero-le) (suc-le-suc w)))
+    (pairs-of-places l d (λ j k v w. h (suc j) (suc k) (suc-le-suc v) (suc-le-suc w)))
+
+-- ---- functions and tests that agree on a list
+
+pub map-same : {A B : Type 0} {f g : A → B} {l : List A} → All (λ x. f x ≡ g x) l → map f l ≡ map g l
+map-same empty = refl
+map-same (also e r) = rw (e, map-same r)
+
+pub keep-same : {A : Type 0} {p q : A → Bool} {l : List A} → All (λ x. p x ≡ q x) l → keep p l ≡ keep q l
+keep-same empty = refl
+keep-same (also e r) = rw (e, keep-same r)

@@ -1,8 +1,8 @@
 -- Numbers: divisors and multiples, roundings, little-endian bytes.
 use mathlib.Core.Bool.{Bool}
-use mathlib.Core.List.{List, [], _∷_}
+use mathlib.Core.List.{List, [], _∷_, foldr}
 use lib.Dec.{eqb}
-use Prim.Native.Nat.{ℕ, zero, suc, _+_, _*_, _-_, _/_, _%_, max}
+use Prim.Native.Nat.{ℕ, zero, suc, _+_, _*_, _-_, _/_, _%_, min, max}
 
 -- a divides b (0 divides 0 alone)
 abbrev pub divides : ℕ → ℕ → Bool
@@ -51,3 +51,8 @@ sum (x ∷ xs) = x + sum xs
 abbrev pub greatest : List ℕ → ℕ
 greatest [] = 0
 greatest (x ∷ xs) = max x (greatest xs)
+
+-- the least number of a list (of none 0)
+abbrev pub least : List ℕ → ℕ
+least [] = 0
+least (x ∷ xs) = foldr min x xs

@@ -5,7 +5,7 @@ use lib.ListN.{length}
 use Prim.Native.Nat.{ℕ}
 use Rattle.laws.specs.Lists.{tab}
 use Rattle.rules.specs.Plan.{Plan}
-use Rattle.rules.specs.Traffic.{busPeriod, basic}
+use Rattle.rules.specs.Traffic.{traffic}
 use Rattle.rules.specs.Frames.{layoutOf, controlRows, controlEnd, gapTime}
 use Rattle.rules.specs.Frames as rules
 use Rattle.control.specs.declared.Control.{Control}
@@ -15,12 +15,14 @@ use Rattle.frames.specs.Laid.{Frames, framesWith, framesLaid}
 use Rattle.line.specs.declared.Line.{Line}
 use Rattle.line.specs.Line.{drawing, lineIn, lineOf}
 use Rattle.payloads.specs.Tests.{taskTime}
+use Rattle.rules.specs.Records.{headKind}
 
-pub line-is : (p : Plan) {period gap floor : ℕ} {time : List ℕ} {control : Control} {n : ℕ}
-    → period ≡ busPeriod p → gap ≡ gapTime (p .bus) → floor ≡ controlEnd p → time ≡ tab (taskTime p) 0 32
+pub line-is : (p : Plan) {head period gap floor : ℕ} {time : List ℕ} {control : Control} {n : ℕ}
+    → head ≡ headKind (p .consumers) → period ≡ traffic p .period → gap ≡ gapTime (p .bus) → floor ≡ controlEnd p → time ≡ tab (taskTime p) 0 32
     → control ≡ controlLaid (controlRows p) → n ≡ length (rules.pairs p)
     → _≡_ {A = Line}
     (record {
+      head = head;
       period = record { 0 = period };
       resolution = record { 0 = p .bus .resolution };
       gap = record { 0 = gap };
@@ -33,12 +35,12 @@ pub line-is : (p : Plan) {period gap floor : ℕ} {time : List ℕ} {control : C
       frames = n;
     })
     (lineIn (lineOf p))
-unfolding lineOf layoutOf rules.pairs basic controlLaid
-line-is p e₁ e₂ e₃ e₄ c q = rw (e₁, e₂, e₃, e₄, c, q)
+unfolding lineOf layoutOf rules.pairs controlLaid
+line-is p e₀ e₁ e₂ e₃ e₄ c q = rw (e₀, e₁, e₂, e₃, e₄, c, q)
 
 pub drawing-is : (p : Plan) {line : Line} {n : ℕ} {tasks releases deadlines : List ℕ}
     → line ≡ lineIn (lineOf p) → framesWith n tasks releases deadlines ≡ framesLaid (rules.pairs p) → drawing line tasks releases deadlines ≡ lineOf p
-unfolding lineOf layoutOf rules.pairs basic framesLaid frames.column
+unfolding lineOf layoutOf rules.pairs framesLaid frames.column
 drawing-is p {tasks = tasks} {releases} {deadlines} e f =
     ap (λ (l : Line). drawing l tasks releases deadlines) e
     ∙ ap (λ (x : Frames). drawing (lineIn (lineOf p)) (x .tasks) (x .releases) (x .deadlines)) f

@@ -11,16 +11,19 @@ use Rattle.laws.specs.Lists.{tab}
 use Rattle.laws.proofs.Lists.{getD-tab}
 use Rattle.laws.proofs.Arrays.{tab-list, getD-laid}
 use Rattle.laws.proofs.Members.{All, Pairs, all-weaker, all-member}
-use Rattle.rules.specs.Plan.{Plan, readPlan}
+use Rattle.rules.specs.Plan.{Plan}
 use Rattle.rules.specs.Frames.{Pair, pairs, ControlRow, noControlRow, Layout, layout, layoutOf}
 use Rattle.rules.specs.LatestRelease.{noPair, timeAlone}
-use Rattle.rules.proofs.PlanKept.{PlanKept, readable-kept}
+use Rattle.rules.proofs.PlanKept.{PlanKept}
 use Rattle.rules.proofs.LaidOut.{LaidOut, laid-out, pairs-kept, control-count}
 use Rattle.rules.proofs.Payload.{time-alone}
 use Rattle.rules.proofs.PairsOf.{Before, plan-pairs}
 use Rattle.control.specs.Control.{nodeOf, startOf, stopOf}
 use Rattle.line.specs.Line.{lineOf, taskOf, releaseOf, deadlineOf}
 use Rattle.payloads.specs.Tests.{taskTime}
+use Rattle.rules.specs.Traffic.{readIn}
+use Rattle.rules.proofs.Editions.{readable-kept-in}
+use mathlib.Core.Bool.{Bool}
 
 -- What holds of the layout of a plan that was read and laid out.
 pub record Drawn (p : Plan) : Type 0 where
@@ -30,10 +33,10 @@ pub record Drawn (p : Plan) : Type 0 where
   pub tasks : All (λ f. f .task < 32) (pairs p)
   pub controls : length (layoutOf p .control) ≤ 8
 
-pub drawn : (file : List ℕ) (p : Plan) (l : Layout) → readPlan file ≡ ok p → layout p ≡ ok l → Drawn p
+pub drawn : (consumers : Bool) (file : List ℕ) (p : Plan) (l : Layout) → readIn consumers file ≡ ok p → layout p ≡ ok l → Drawn p
 unfolding layoutOf pairs
-drawn file p l r e =
-    let kept : PlanKept p = readable-kept file p r in
+drawn consumers file p l r e =
+    let kept : PlanKept p = readable-kept-in consumers file p r in
     let laid : LaidOut p l = laid-out p l e in
     record {
       kept = kept;

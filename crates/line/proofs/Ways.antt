@@ -14,7 +14,7 @@ use Rattle.laws.proofs.Res.{refuse≢ok, refuse-number, refuse-place}
 use Rattle.laws.proofs.Lists.{all-keep, all-upTo-more, getD-tab}
 use Rattle.rules.specs.Limits.{mostFrames}
 use Rattle.rules.specs.Plan.{Plan}
-use Rattle.rules.specs.Traffic.{isBusTask, busTasks, controlPayload, isSendingNode, sendingNodes, busPeriod}
+use Rattle.rules.specs.Traffic.{isBusTask, busTasks, controlPayload, isSendingNode, sendingNodes, traffic}
 use Rattle.rules.specs.Frames.{layout, layoutOf, messageFits, controlFits, payloadsFit, controlEnd}
 use Rattle.answers.specs.declared.Refusal.{Refusal}
 use Rattle.answers.specs.Refusals.{said}
@@ -97,10 +97,10 @@ module _ (p : Plan) where
       ten-control e f = rest ∙ rw (fit-is, e, f)
 
       module _ (m : all (messageKeeps tasks p) (upTo (length (p .tasks))) ≡ true) (k : all (payloadKeeps payloads (p .bus .most)) (upTo (p .nodes)) ≡ true) where
-        pub eleven : busPeriod p < controlEnd p → layout p ≡ refuse 11 0
+        pub eleven : traffic p .period < controlEnd p → layout p ≡ refuse 11 0
         unfolding closing
-        eleven h = rest ∙ rw (fit-is, m, k, lt-leb (controlEnd p) (busPeriod p) h)
+        eleven h = rest ∙ rw (fit-is, m, k, lt-leb (controlEnd p) (traffic p .period) h)
 
-        pub sound : controlEnd p ≤ busPeriod p → layout p ≡ ok (layoutOf p)
+        pub sound : controlEnd p ≤ traffic p .period → layout p ≡ ok (layoutOf p)
         unfolding closing
-        sound h = rest ∙ rw (fit-is, m, k, le-leb (controlEnd p) (busPeriod p) h)
+        sound h = rest ∙ rw (fit-is, m, k, le-leb (controlEnd p) (traffic p .period) h)

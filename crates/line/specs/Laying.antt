@@ -3,11 +3,12 @@ use mathlib.Core.Path.{_≡_}
 use lib.Dec.{leb}
 use lib.ListN.{length}
 use Rattle.laws.specs.Res.{Res, ok, refuse, _>>=_, _>>_, unless}
+use mathlib.Core.Bool.{Bool}
 use mathlib.Core.List.{List}
 use Prim.Native.Nat.{ℕ}
-use Rattle.rules.specs.Plan.{Plan, readPlan}
+use Rattle.rules.specs.Plan.{Plan}
 use Rattle.rules.specs.Limits.{mostFrames}
-use Rattle.rules.specs.Traffic.{busPeriod}
+use Rattle.rules.specs.Traffic.{readIn, traffic}
 use Rattle.rules.specs.Frames.{Layout, layout, layoutOf, pairs, payloadsFit, controlEnd}
 use Rattle.answers.specs.Refusals.{said, heard}
 use Rattle.answers.specs.declared.Verdict.{Verdict}
@@ -33,7 +34,7 @@ pub record Closes (r : Laid) (rule : Res Plan) : Type 0 where
 unfoldable pub closing : Plan → Res Layout
 closing p = do
   unless 10 0 (payloadsFit p)
-  unless 11 0 (leb (controlEnd p) (busPeriod p))
+  unless 11 0 (leb (controlEnd p) (traffic p .period))
   ok (layoutOf p)
 
 -- refusals 9 to 11, where 6 to 8 do not apply
@@ -48,8 +49,8 @@ laid p = do
   layout p
   ok p
 
--- refusals 1 to 11 of a plan file
-unfoldable pub fileLaid : List ℕ → Res Plan
-fileLaid file = do
-  p ← readPlan file
+-- refusals 1 to 11 of a plan file in an edition
+unfoldable pub fileLaid : Bool → List ℕ → Res Plan
+fileLaid consumers file = do
+  p ← readIn consumers file
   laid p

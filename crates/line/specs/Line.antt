@@ -24,6 +24,7 @@ deadlineOf f = f .deadline
 
 -- The line and its frames as one: of the frames, in an array for each of their numbers, there are `frames`.
 pub record Drawing : Type 0 where
+  pub head : ℕ
   pub period : Ticks
   pub resolution : Ticks
   pub gap : Ticks
@@ -42,6 +43,7 @@ pub record Drawing : Type 0 where
 abbrev pub drawing : Line → List ℕ → List ℕ → List ℕ → Drawing
 drawing l tasks releases deadlines =
     record {
+      head = l .head;
       period = l .period;
       resolution = l .resolution;
       gap = l .gap;
@@ -61,6 +63,7 @@ drawing l tasks releases deadlines =
 abbrev pub lineIn : Drawing → Line
 lineIn d =
     record {
+      head = d .head;
       period = d .period;
       resolution = d .resolution;
       gap = d .gap;
@@ -78,6 +81,7 @@ unfoldable pub lineOf : Plan → Drawing
 lineOf p =
     let l = layoutOf p in
     record {
+      head = l .head;
       period = record { 0 = l .period };
       resolution = record { 0 = l .grid };
       gap = record { 0 = l .gap };
@@ -97,6 +101,7 @@ lineOf p =
 unfoldable pub noLine : Drawing
 noLine =
     record {
+      head = 0;
       period = record { 0 = 0 };
       resolution = record { 0 = 0 };
       gap = record { 0 = 0 };

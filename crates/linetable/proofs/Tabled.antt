@@ -12,13 +12,12 @@ use Rattle.laws.specs.Loops.{padTo, stores}
 use Rattle.laws.proofs.Loops.{stores-at}
 use Rattle.laws.proofs.Arrays.{tab-list, getD-laid}
 use Rattle.laws.proofs.Members.{All, all-getD, all-weaker, all-unmap, map-getD, member-getD}
-use Rattle.rules.specs.Plan.{Plan, readPlan}
+use Rattle.rules.specs.Plan.{Plan}
 use Rattle.rules.specs.Frames.{Pair, pairs, Layout, layout, layoutOf}
 use Rattle.rules.specs.LatestRelease.{Placed, noPair, timeAlone, latestRelease}
 use Rattle.rules.specs.Table.{DataRow, PlacedRow, heldIn, pairsIn, alone, dataRow, tableBytes, tableLength, rowsFrom}
 use Rattle.rules.specs.Obeys.{IsPair, pairAt}
 use Rattle.rules.specs.RuleSteps.{unplaced}
-use Rattle.rules.proofs.PlanKept.{readable-kept}
 use Rattle.rules.proofs.LaidOut.{laid-out, gap-within}
 use Rattle.rules.proofs.Placing.{Settled, rule-settled, placed-well}
 use Rattle.rules.proofs.TableBytes.{DataFits, TableFits}
@@ -32,10 +31,20 @@ use Rattle.table.specs.Rows.{controlIn, dataIn, tableIn}
 use Rattle.line.proofs.Drawn.{Drawn, drawn}
 use Rattle.linetable.proofs.OverLine.{time-is, controls-are}
 use Rattle.linetable.proofs.Scattered.{noPlaced, tasks-are, releases-are, deadlines-are, rows-count, starts-scattered}
+use Rattle.rules.specs.Traffic.{readIn}
+use Rattle.rules.proofs.Editions.{readable-kept-in}
+use mathlib.Core.Bool.{Bool}
+use Rattle.rules.proofs.Heads.{IsHead, head-of}
+use Rattle.table.proofs.Glued.{head-in}
 
-pub bytes-long : (l : Layout) (rows : List PlacedRow) → length rows ≡ length (l .pairs)
-    → length (tableBytes l rows) ≡ tableLength (length (l .control)) (length (l .pairs))
-bytes-long l rows e = table-length l rows ∙ ap (tableLength (length (l .control))) e
+-- the head of a plan's table is one of the two kinds
+its-head : (p : Plan) → IsHead (layoutOf p .head)
+unfolding layoutOf
+its-head p = head-of (p .consumers)
+
+pub bytes-long : (p : Plan) (rows : List PlacedRow) → length rows ≡ length (layoutOf p .pairs)
+    → length (tableBytes (layoutOf p) rows) ≡ tableLength (length (layoutOf p .control)) (length (layoutOf p .pairs))
+bytes-long p rows e = table-length (layoutOf p) (its-head p) rows ∙ ap (tableLength (length (layoutOf p .control))) e
 
 -- ---- facts of what was placed
 
@@ -45,14 +54,14 @@ pub record Fair (p : Plan) (placed : List Placed) : Type 0 where
   pub settled : Settled (layoutOf p) placed
   pub fits : TableFits (layoutOf p) (map alone placed)
 
-pub fair : (file : List ℕ) (p : Plan) (placed : List Placed) → readPlan file ≡ ok p → layout p ≡ ok (layoutOf p) → latestRelease (layoutOf p) ≡ ok placed → Fair p placed
+pub fair : (consumers : Bool) (file : List ℕ) (p : Plan) (placed : List Placed) → readIn consumers file ≡ ok p → layout p ≡ ok (layoutOf p) → latestRelease (layoutOf p) ≡ ok placed → Fair p placed
 unfolding layoutOf
-fair file p placed isRead isLaid rule =
+fair consumers file p placed isRead isLaid rule =
     record {
-      isDrawn = drawn file p (layoutOf p) isRead isLaid;
+      isDrawn = drawn consumers file p (layoutOf p) isRead isLaid;
       settled = rule-settled (layoutOf p) (gap-within p) placed rule;
       fits =
-          table-fits p (readable-kept file p isRead) (laid-out p (layoutOf p) isLaid) (map alone placed)
+          table-fits p (readable-kept-in consumers file p isRead) (laid-out p (layoutOf p) isLaid) (map alone placed)
           (placed-well (layoutOf p) (gap-within p) (λ f. refl) placed rule);
     }
 
@@ -151,11 +160,11 @@ module _ (p : Plan) (placed : List Placed) (h : Fair p placed) where
   rows-written : tab written 0 n ≡ map (dataRow l) (map alone placed)
   rows-written = tab-list written (map row placed) (row noPlaced) n (sym count ∙ sym (length-map placed row)) row-at ∙ sym (map-map (dataRow l) alone placed)
 
-  pub table-written : tableIn (line.lineOf p .period .0) (tab (controlIn (line.lineOf p .«control_nodes») (line.lineOf p .«control_starts») (line.lineOf p .«control_stops»)) 0 (line.lineOf p .controls))
+  pub table-written : tableIn (line.lineOf p .head) (line.lineOf p .period .0) (tab (controlIn (line.lineOf p .«control_nodes») (line.lineOf p .«control_starts») (line.lineOf p .«control_stops»)) 0 (line.lineOf p .controls))
       (tab written 0 n) (line.lineOf p .controls) n
       ≡ tableBytes l (map alone placed)
   unfolding tableIn tableBytes line.lineOf
-  table-written = rw (rows-written, controls-are p (h .isDrawn), length-map placed alone, count)
+  table-written = rw (rows-written, controls-are p (h .isDrawn), length-map placed alone, count, head-in (its-head p) (l .period) (length (l .control)) n)
 
   -- ---- the frame rows
 

@@ -63,7 +63,7 @@ pub makes-table : (p : Plan) (placed : List Placed) (n : ℕ) (rows : Rows) (bef
 unfolding madeTable
 makes-table p placed n rows before after h e room q s =
     let table = tableBytes (layoutOf p) (map alone placed) in
-    let long : length table ≡ n = bytes-long (layoutOf p) (map alone placed) (length-map placed alone ∙ h .settled .count) ∙ sym e in
+    let long : length table ≡ n = bytes-long p (map alone placed) (length-map placed alone ∙ h .settled .count) ∙ sym e in
     record {
       answered = ap ok (sym long);
       left = q;
@@ -101,7 +101,7 @@ ruleOver line end =
 
 module _ (line : Drawing) (s : Stands line) where
   drawn-of : Drawn (s .plan)
-  drawn-of = drawn (s .file) (s .plan) (layoutOf (s .plan)) (s .isRead) (s .isLaid)
+  drawn-of = drawn (s .consumers) (s .file) (s .plan) (layoutOf (s .plan)) (s .isRead) (s .isLaid)
 
   -- what the arrays of a line are known to keep
   pub few-frames : line .frames ≤ mostFrames
@@ -149,12 +149,12 @@ module _ (line : Drawing) (s : Stands line) where
 
   module _ (placing : Placing) (a : AllPlaced (layoutOf (s .plan)) placing) where
     fair-of : Fair (s .plan) (a .placed)
-    fair-of = fair (s .file) (s .plan) (a .placed) (s .isRead) (s .isLaid) (a .rule)
+    fair-of = fair (s .consumers) (s .file) (s .plan) (a .placed) (s .isRead) (s .isLaid) (a .rule)
 
     -- the length of the table that is to be written
     long : length (tableBytes (layoutOf (s .plan)) (map alone (a .placed))) ≡ tableLength (line .controls) (line .frames)
     unfolding lineOf
-    long = bytes-long (layoutOf (s .plan)) (map alone (a .placed)) (length-map (a .placed) alone ∙ fair-of .settled .count) ∙ rw (s .is)
+    long = bytes-long (s .plan) (map alone (a .placed)) (length-map (a .placed) alone ∙ fair-of .settled .count) ∙ rw (s .is)
 
     -- 13: the buffer is too short
     too-short : (room : ℕ) → room < tableLength (line .controls) (line .frames) → laidTable (layoutOf (s .plan)) room ≡ refuse 13 (tableLength (line .controls) (line .frames))

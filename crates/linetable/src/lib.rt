@@ -52,6 +52,7 @@ fn write_placed<'a>(
     );
     table::write::write_table(
         &mut *buf,
+        line.head,
         line.period,
         &line.control_nodes,
         &line.control_starts,

@@ -37,9 +37,9 @@ pub station-none : (n : ℕ) → (n ≡ 40 → ⊥) → (n ≡ 41 → ⊥) → (
 unfolding ofStation
 station-none n h40 h41 h42 h43 h44 = rw (ne-eqb n 40 h40, ne-eqb n 41 h41, ne-eqb n 42 h42, ne-eqb n 43 h43, ne-eqb n 44 h44) refl
 
-pub text-none : (n : ℕ) → (n ≡ 60 → ⊥) → (n ≡ 61 → ⊥) → ofText n ≡ unknown
+pub text-none : (n : ℕ) → (n ≡ 60 → ⊥) → (n ≡ 61 → ⊥) → (n ≡ 62 → ⊥) → ofText n ≡ unknown
 unfolding ofText
-text-none n h60 h61 = rw (ne-eqb n 60 h60, ne-eqb n 61 h61) refl
+text-none n h60 h61 h62 = rw (ne-eqb n 60 h60, ne-eqb n 61 h61, ne-eqb n 62 h62) refl
 
 -- ---- which list a number is looked up in
 

@@ -64,11 +64,12 @@ ofStation n =
     (at n 43 "a result is overdue; the place is the task"
     (at n 44 "a change of mode that is not allowed; the place is the module" unknown))))
 
--- Rule 18.8: texts; and a number that no answer has.
+-- Rules 18.8 and 21.11: what the library and the programs are given; and a number that no answer has.
 unfoldable pub ofText : ℕ → List ℕ
 ofText n =
     at n 60 "a line of the text cannot be read; the place is the line, counted from 1"
-    (at n 61 "there is too much to read; the place is how many bytes are read" unknown)
+    (at n 61 "there is too much to read; the place is how many bytes are read"
+    (at n 62 "no edition of this number; the place is the number" unknown))
 
 -- the words of any number
 unfoldable pub meaning : ℕ → List ℕ

@@ -203,7 +203,7 @@ fn put_of_station(out: &mut [u8], at: usize, number: u32) -> usize
     }
 }
 
-// Rule 18.8: texts; and a number that no answer has.
+// Rules 18.8 and 21.11: what is given; and a number that no answer has.
 fn put_of_text(out: &mut [u8], at: usize, number: u32) -> usize
     requires { ⌜ at + 100 ≤ 18446744073709551615 ⌝ }
     ensures { λ r. ⌜ (now (out .exit) ≡ sets (now (out .entry)) at (ofText number)) × (r ≡ at + length (ofText number)) ⌝ }
@@ -219,6 +219,11 @@ fn put_of_text(out: &mut [u8], at: usize, number: u32) -> usize
             &mut *out,
             at,
             b"there is too much to read; the place is how many bytes are read",
+        ),
+        62 => put_bytes(
+            &mut *out,
+            at,
+            b"no edition of this number; the place is the number",
         ),
         _ => put_unknown(&mut *out, at),
     }

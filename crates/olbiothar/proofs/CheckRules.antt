@@ -11,10 +11,10 @@ use Rattle.laws.specs.Res.{Res, ok, refuse}
 use Rattle.laws.proofs.Res.{refuse≢ok, bind-case, then-case, ok-injective}
 use Rattle.laws.proofs.Orders.{le-or-lt}
 use Rattle.rules.specs.Records.{records, tableFollows}
-use Rattle.rules.specs.Plan.{readPlan}
+use Rattle.rules.specs.Traffic.{readIn}
 use Rattle.rules.specs.Frames.{layout}
 use Rattle.rules.specs.Table.{FrameRow}
-use Rattle.rules.specs.Checker.{Passed, tableOf, judged, checkFiles, checkedRow, check}
+use Rattle.rules.specs.Checker.{Passed, tableOf, judged, checkFiles, checkedRow, check, isForConsumers}
 use Rattle.rows.specs.Rows.{rowsLaid}
 use Rattle.units.specs.declared.Frame.{Frame}
 use Rattle.rows.specs.Frames.{rowOf, filled, rowsWith}
@@ -40,7 +40,7 @@ use Rattle.olbiothar.proofs.FewFrames.{few-laid}
 few-passed : (plan table : List ℕ) (c : Passed) → checkFiles plan table ≡ ok c → length (c .layout .pairs) ≤ mostFrames
 unfolding checkFiles
 few-passed plan table c e =
-    bind-case (readPlan plan) _ e λ p _ e₁.
+    bind-case (readIn (isForConsumers table) plan) _ e λ p _ e₁.
     bind-case (layout p) _ e₁ λ l isLaid e₂.
     bind-case (records tableFollows 20 table) _ e₂ λ rs _ e₃.
     then-case (judged l (tableOf rs)) _ e₃ λ _ _ e₄.

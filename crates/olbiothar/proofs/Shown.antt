@@ -1,7 +1,9 @@
 -- Demand 3 of the exported functions, by the contracts of `olbiothar_begin` and `olbiothar_tick` alone, for any calls. After a beginning
 -- that answered number 0, the value in the lent station that a node shows of a task of another node that it consumes, and that a task's
--- own node shows, is the one result of the last run of the task that has ended by the history of the calls that answered number 0.
+-- own node shows, is the one result of the last run of the task that has ended by the history of the calls that answered number 0: in the
+-- basic edition at every tick; in either edition at every tick on the task's own node, and on another where a task there reads it.
 use mathlib.Core.Path.{_≡_, refl, sym, ap, _∙_, subst}
+use mathlib.Core.Bool.{false}
 use mathlib.Core.List.{List, [], _∷_}
 use mathlib.Core.Logic.{_↔_}
 use mathlib.Core.Option.{Option}
@@ -10,11 +12,14 @@ use Prim.Native.Nat.{ℕ}
 use Rattle.laws.specs.Res.{Res, ok, refuse}
 use Rattle.laws.proofs.Refusals.{Gives}
 use Rattle.rules.specs.Plan.{Plan, readPlan}
+use Rattle.rules.specs.Traffic.{readIn}
+use Rattle.rules.specs.Checker.{isForConsumers}
 use Rattle.rules.specs.Playing.{Input}
 use Rattle.rules.specs.Station as rules
 use Rattle.rules.specs.Station.{begin}
-use Rattle.rules.specs.Told.{ShowsTold}
+use Rattle.rules.specs.Told.{ShowsTold, ShowsRead}
 use Rattle.rules.specs.Allowed.{MayTell, Allowed}
+use Rattle.rules.proofs.Editions.{read-in}
 use Rattle.rules.proofs.FollowsTold.{numbers-of-any-tick}
 use Rattle.rules.proofs.RefusalNumbers.{passed-gives}
 use Rattle.rules.proofs.StationExact.{begin-checks}
@@ -26,7 +31,7 @@ use Rattle.station.specs.Memory.{keptOf, ruled, stateOf}
 use Rattle.station.specs.declared.Station.{Station}
 use Rattle.station.proofs.Plays.{Plays, start, plays-on}
 use Rattle.beginning.specs.Begins.{stationLaid, verdict}
-use Rattle.beginning.proofs.Shown.{shows-told, history-allowed, call-exact}
+use Rattle.beginning.proofs.Shown.{shows-told, shows-read, history-allowed, call-exact}
 use Rattle.outward.specs.Answers.{answerOf}
 use Rattle.outward.specs.Numbers.{tickBy}
 use Rattle.outward.specs.declared.Answer.{Answer}
@@ -102,26 +107,34 @@ module _ (plan table : List ℕ) (modes : Starting) (before station : Station) (
           let other : n ≡ 40 → ⊥ = λ z. absurd (omega arith) in
           absurd (omega (arith, passed-gives plan table .number n p (begin-checks plan table starting n p other .0 q)))
 
-  -- it had a plan
-  pub began-plan : (p : Plan) × (readPlan plan ≡ ok p)
+  -- it had a plan, in the table's edition and as it is read
+  pub began-plan : (p : Plan) × (readIn (isForConsumers table) plan ≡ ok p)
   began-plan = let told = begun plan table starting (began .0) (began .1) in (told .read, told .isRead)
 
-  module _ (p : Plan) (reads : readPlan plan ≡ ok p) (history : List Input) (after : Station) (calls : Calls station history after) where
+  pub began-read : (q : Plan) × (readPlan plan ≡ ok q)
+  began-read = let r = read-in (isForConsumers table) plan (began-plan .0) (began-plan .1) in (r .0, r .1)
+
+  module _ (history : List Input) (after : Station) (calls : Calls station history after) where
     played : Plays (stationLaid (began .0)) history after
     played = subst (λ (st : Station). Plays st history after) (begins .leaves ∙ rw (began .1)) (calls-play calls)
 
-    -- what the lent station shows is told by the history
-    pub calls-shown : ShowsTold p (startingAt modes) history (stateOf after .shown)
-    calls-shown = shows-told plan table starting (began .0) (began .1) p reads history after played
+    -- in either edition: what the lent station shows where it is read, and on a task's own node, is told by the history
+    pub calls-read : (q : Plan) → readPlan plan ≡ ok q → ShowsRead q (startingAt modes) history (stateOf after .shown)
+    calls-read q reads = shows-read plan table starting (began .0) (began .1) q reads history after played
 
-    -- in which each result came in its time and modes changed at their instants
-    pub calls-allowed : Allowed p (startingAt modes) history
-    calls-allowed = history-allowed plan table starting (began .0) (began .1) p reads history after played
+    module _ (p : Plan) (reads : readIn (isForConsumers table) plan ≡ ok p) where
+      -- in the basic edition all that it shows to consumers is
+      pub calls-shown : p .consumers ≡ false → ShowsTold p (startingAt modes) history (stateOf after .shown)
+      calls-shown = shows-told plan table starting (began .0) (began .1) p reads history after played
 
-    -- and the next call answers number 0 exactly when it is given such a tick
-    pub call-answers : {r′ : TickAnswer} {next : Station} (input : given.Input) → Ticks after input r′ next
-        → (r′ .answer .number ≡ 0) ↔ MayTell p (startingAt modes) history (inputOf input)
-    call-answers input c =
-        let number = number-exact input c in
-        let told = call-exact plan table starting (began .0) (began .1) p reads history after played (inputOf input) in
-        (λ e. told .0 (number .0 e), λ m. number .1 (told .1 m))
+      -- in that history each result came in its time and modes changed at their instants
+      pub calls-allowed : Allowed p (startingAt modes) history
+      calls-allowed = history-allowed plan table starting (began .0) (began .1) p reads history after played
+
+      -- and the next call answers number 0 exactly when it is given such a tick
+      pub call-answers : {r′ : TickAnswer} {next : Station} (input : given.Input) → Ticks after input r′ next
+          → (r′ .answer .number ≡ 0) ↔ MayTell p (startingAt modes) history (inputOf input)
+      call-answers input c =
+          let number = number-exact input c in
+          let told = call-exact plan table starting (began .0) (began .1) p reads history after played (inputOf input) in
+          (λ e. told .0 (number .0 e), λ m. number .1 (told .1 m))

@@ -13,9 +13,9 @@ use Rattle.outward.specs.declared.TickAnswer.{TickAnswer}
 use Rattle.olbiothar.specs.Lent.{MakesRows, ChecksRows}
 use Rattle.olbiothar.specs.Playing.{BeginsIn, Ticks}
 
-pub make-once : (a b : Answer) (plan : List ℕ) (before rows rows′ : List Frame) (old buffer buffer′ : List ℕ)
-    → MakesRows a plan before rows old buffer → MakesRows b plan before rows′ old buffer′ → (a ≡ b) × (rows ≡ rows′) × (buffer ≡ buffer′)
-make-once a b plan before rows rows′ old buffer buffer′ p q =
+pub make-once : (a b : Answer) (edition : ℕ) (plan : List ℕ) (before rows rows′ : List Frame) (old buffer buffer′ : List ℕ)
+    → MakesRows a edition plan before rows old buffer → MakesRows b edition plan before rows′ old buffer′ → (a ≡ b) × (rows ≡ rows′) × (buffer ≡ buffer′)
+make-once a b edition plan before rows rows′ old buffer buffer′ p q =
     (p .answered ∙ sym (q .answered), rows-once rows rows′ (p .left ∙ sym (q .left)), p .written ∙ sym (q .written))
 
 pub check-once : (a b : Answer) (plan table : List ℕ) (before rows rows′ : List Frame)

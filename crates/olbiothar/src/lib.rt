@@ -41,10 +41,15 @@ use stationruns::Starting;
 use units::ByteCount;
 use units::Frame;
 
-// The table of a plan, at the front of the lent bytes; its length, or refusals 19 and 1 to 13.
+// The table of a plan in an edition, at the front of the lent bytes; its length, or refusals 19, 62 and 1 to 13.
 #[no_mangle]
-pub extern "C" fn olbiothar_make(plan: &[u8], rows: &mut [Frame], table: &mut [u8]) -> Answer
-    ensures { λ r. ⌜ MakesRows r (now (plan .entry)) (now (rows .entry)) (now (rows .exit)) (now (table .entry)) (now (table .exit)) ⌝ }
+pub extern "C" fn olbiothar_make(
+    plan: &[u8],
+    edition: u8,
+    rows: &mut [Frame],
+    table: &mut [u8],
+) -> Answer
+    ensures { λ r. ⌜ MakesRows r edition (now (plan .entry)) (now (rows .entry)) (now (rows .exit)) (now (table .entry)) (now (table .exit)) ⌝ }
 {
     let mut tasks = zero_bytes();
     let mut releases = zero_words();
@@ -52,6 +57,7 @@ pub extern "C" fn olbiothar_make(plan: &[u8], rows: &mut [Frame], table: &mut [u
     let mut starts = zero_words();
     let making = maker::made_in(
         plan,
+        edition,
         rows.len(),
         table,
         &mut tasks,

@@ -18,6 +18,12 @@ pub fn number_at(a: &[u32], i: usize) -> u32
     if i < a.len() { a[i] } else { 0 }
 }
 
+pub fn count_at(a: &[usize], i: usize) -> usize
+    ensures { λ r. ⌜ r ≡ getD (now (a .entry)) i 0 ⌝ }
+{
+    if i < a.len() { a[i] } else { 0 }
+}
+
 pub fn value_at(a: &[u64], i: usize) -> u64
     ensures { λ r. ⌜ r ≡ getD (now (a .entry)) i 0 ⌝ }
 {

@@ -1,4 +1,5 @@
 -- How a plan stands in memory: from the rules' plan to the struct (`layOut`), and from the struct to the rules' plan (`seen`).
+use mathlib.Core.Bool.{false}
 use mathlib.Core.List.{[], _∷_, map}
 use lib.ListN.{getD, length, take}
 use Prim.Native.Nat.{ℕ}
@@ -72,11 +73,22 @@ layOut p =
       tasks = padTo mostTasks (taskLaid rules.noTask) (map taskLaid (p .tasks));
       invocations = padTo mostInvocations (invocationLaid rules.noInvocation) (map invocationLaid (p .invocations));
       connections = padTo mostConnections (connectionLaid rules.noConnection) (map connectionLaid (p .connections));
+      consumers = p .consumers;
     }
 
 -- the plan with nothing in it
 unfoldable pub noPlan : rules.Plan
-noPlan = record { bus = noBus; nodes = 0; modules = []; modes = []; tasks = []; invocations = []; connections = [] }
+noPlan =
+    record {
+      bus = noBus;
+      nodes = 0;
+      modules = [];
+      modes = [];
+      tasks = [];
+      invocations = [];
+      connections = [];
+      consumers = false;
+    }
 
 unfoldable pub emptyPlan : Plan
 emptyPlan = layOut noPlan
@@ -124,4 +136,5 @@ seen p =
       tasks = map taskSeen (take (countSeen p 5) (p .tasks));
       invocations = map invocationSeen (take (countSeen p 6) (p .invocations));
       connections = map connectionSeen (take (countSeen p 7) (p .connections));
+      consumers = p .consumers;
     }

@@ -93,7 +93,7 @@ impl Connection {
 }
 
 // `counts` is by kind: 2 is the number of nodes, 3 to 7 how many things of that kind the file has. A thing without a place left is
-// counted and not stored.
+// counted and not stored. `consumers` is the edition in which the plan is sent.
 pub struct Plan {
     pub bus: Bus,
     pub counts: [usize; 8],
@@ -102,6 +102,7 @@ pub struct Plan {
     pub tasks: [Task; TaskNo::MOST],
     pub invocations: [Invocation; Invocation::MOST],
     pub connections: [Connection; Connection::MOST],
+    pub consumers: bool,
 }
 
 impl Plan {
@@ -143,6 +144,7 @@ impl Plan {
             tasks: [task; TaskNo::MOST],
             invocations: [invocation; Invocation::MOST],
             connections: [connection; Connection::MOST],
+            consumers: false,
         }
     }
 }

@@ -64,44 +64,44 @@ number-least p kind at h = go (isThing kind) refl
 
 module _ (p : Plan) (kind n : ℕ) (counts body : List ℕ) (number : n ≡ numberOf (p .counts) kind) (raised : counts ≡ countedMore (p .counts) kind) where
   pub stored-bus : {key : ℕ} (b : Bus) → ABus key → keptKind kind n ≡ key → b ≡ busLaid (rules.busOf (recordOf key body))
-      → record { bus = b; counts = counts; modules = p .modules; modes = p .modes; tasks = p .tasks; invocations = p .invocations; connections = p .connections }
+      → record { bus = b; counts = counts; modules = p .modules; modes = p .modes; tasks = p .tasks; invocations = p .invocations; connections = p .connections; consumers = p .consumers }
       ≡ withRecord p (recordOf kind body)
   unfolding withRecord withBus rules.isBusRecord isBus recordOf countedMore isThing
   stored-bus b plain e w = rw (raised, w, kept-kind kind n 1 e (omega arith))
   stored-bus b framed e w = rw (raised, w, kept-kind kind n 9 e (omega arith))
 
   pub stored-nodes : (x : ℕ) → keptKind kind n ≡ 2 → x ≡ rules.nth (recordOf 2 body .numbers) 0
-      → record { bus = p .bus; counts = set counts 2 x; modules = p .modules; modes = p .modes; tasks = p .tasks; invocations = p .invocations; connections = p .connections }
+      → record { bus = p .bus; counts = set counts 2 x; modules = p .modules; modes = p .modes; tasks = p .tasks; invocations = p .invocations; connections = p .connections; consumers = p .consumers }
       ≡ withRecord p (recordOf kind body)
   unfolding withRecord rules.isBusRecord isBus withNodes recordOf countedMore isThing
   stored-nodes x e w = rw (raised, w, kept-kind kind n 2 e (omega arith))
 
   pub stored-module : (m : Module) → keptKind kind n ≡ 3 → m ≡ moduleLaid (rules.moduleOf (recordOf 3 body .numbers))
-      → record { bus = p .bus; counts = counts; modules = set (p .modules) n m; modes = p .modes; tasks = p .tasks; invocations = p .invocations; connections = p .connections }
+      → record { bus = p .bus; counts = counts; modules = set (p .modules) n m; modes = p .modes; tasks = p .tasks; invocations = p .invocations; connections = p .connections; consumers = p .consumers }
       ≡ withRecord p (recordOf kind body)
   unfolding withRecord rules.isBusRecord isBus withModule oneMore countSeen recordOf countedMore numberOf isThing
   stored-module m e w = rw (raised, w, number, kept-kind kind n 3 e (omega arith))
 
   pub stored-mode : (μ : Mode) → keptKind kind n ≡ 4 → μ ≡ modeLaid (rules.modeOf (recordOf 4 body .numbers))
-      → record { bus = p .bus; counts = counts; modules = p .modules; modes = set (p .modes) n μ; tasks = p .tasks; invocations = p .invocations; connections = p .connections }
+      → record { bus = p .bus; counts = counts; modules = p .modules; modes = set (p .modes) n μ; tasks = p .tasks; invocations = p .invocations; connections = p .connections; consumers = p .consumers }
       ≡ withRecord p (recordOf kind body)
   unfolding withRecord rules.isBusRecord isBus withMode oneMore countSeen recordOf countedMore numberOf isThing
   stored-mode μ e w = rw (raised, w, number, kept-kind kind n 4 e (omega arith))
 
   pub stored-task : (t : Task) → keptKind kind n ≡ 5 → t ≡ taskLaid (rules.taskOf (recordOf 5 body .numbers))
-      → record { bus = p .bus; counts = counts; modules = p .modules; modes = p .modes; tasks = set (p .tasks) n t; invocations = p .invocations; connections = p .connections }
+      → record { bus = p .bus; counts = counts; modules = p .modules; modes = p .modes; tasks = set (p .tasks) n t; invocations = p .invocations; connections = p .connections; consumers = p .consumers }
       ≡ withRecord p (recordOf kind body)
   unfolding withRecord rules.isBusRecord isBus withTask oneMore countSeen recordOf countedMore numberOf isThing
   stored-task t e w = rw (raised, w, number, kept-kind kind n 5 e (omega arith))
 
   pub stored-invocation : (i : Invocation) → keptKind kind n ≡ 6 → i ≡ invocationLaid (rules.invocationOf (recordOf 6 body .numbers))
-      → record { bus = p .bus; counts = counts; modules = p .modules; modes = p .modes; tasks = p .tasks; invocations = set (p .invocations) n i; connections = p .connections }
+      → record { bus = p .bus; counts = counts; modules = p .modules; modes = p .modes; tasks = p .tasks; invocations = set (p .invocations) n i; connections = p .connections; consumers = p .consumers }
       ≡ withRecord p (recordOf kind body)
   unfolding withRecord rules.isBusRecord isBus withInvocation oneMore countSeen recordOf countedMore numberOf isThing
   stored-invocation i e w = rw (raised, w, number, kept-kind kind n 6 e (omega arith))
 
   pub stored-connection : (c : Connection) → keptKind kind n ≡ 7 → c ≡ connectionLaid (rules.connectionOf (recordOf 7 body .numbers))
-      → record { bus = p .bus; counts = counts; modules = p .modules; modes = p .modes; tasks = p .tasks; invocations = p .invocations; connections = set (p .connections) n c }
+      → record { bus = p .bus; counts = counts; modules = p .modules; modes = p .modes; tasks = p .tasks; invocations = p .invocations; connections = set (p .connections) n c; consumers = p .consumers }
       ≡ withRecord p (recordOf kind body)
   unfolding withRecord rules.isBusRecord isBus withConnection oneMore countSeen recordOf countedMore numberOf isThing
   stored-connection c e w = rw (raised, w, number, kept-kind kind n 7 e (omega arith))
@@ -137,7 +137,7 @@ Other x = (((((((Unit {0} × (x ≡ 1 → ⊥)) × (x ≡ 9 → ⊥)) × (x ≡ 
 module _ (p : Plan) (n : ℕ) (body : List ℕ) (sized : sizesOf p ≡ sizesOf emptyPlan) where
   -- the plan with nothing but its counts changed
   abbrev counting : List ℕ → Plan
-  counting counts = record { bus = p .bus; counts = counts; modules = p .modules; modes = p .modes; tasks = p .tasks; invocations = p .invocations; connections = p .connections }
+  counting counts = record { bus = p .bus; counts = counts; modules = p .modules; modes = p .modes; tasks = p .tasks; invocations = p .invocations; connections = p .connections; consumers = p .consumers }
 
   -- a kind behind those of a plan
   beyond : (kind : ℕ) → 7 < kind → (kind ≡ 9 → ⊥) → counting (countedMore (p .counts) kind) ≡ withRecord p (recordOf kind body)

@@ -52,6 +52,7 @@ withBus p b =
       tasks = p .tasks;
       invocations = p .invocations;
       connections = p .connections;
+      consumers = p .consumers;
     }
 
 unfoldable pub withNodes : Plan → ℕ → Plan
@@ -64,6 +65,7 @@ withNodes p n =
       tasks = p .tasks;
       invocations = p .invocations;
       connections = p .connections;
+      consumers = p .consumers;
     }
 
 -- A plan with one thing more: it is counted, and it stands behind those of its kind if a place is left.
@@ -77,6 +79,7 @@ withModule p m =
       tasks = p .tasks;
       invocations = p .invocations;
       connections = p .connections;
+      consumers = p .consumers;
     }
 
 unfoldable pub withMode : Plan → Mode → Plan
@@ -89,6 +92,7 @@ withMode p μ =
       tasks = p .tasks;
       invocations = p .invocations;
       connections = p .connections;
+      consumers = p .consumers;
     }
 
 unfoldable pub withTask : Plan → Task → Plan
@@ -101,6 +105,7 @@ withTask p t =
       tasks = set (p .tasks) (countSeen p 5) t;
       invocations = p .invocations;
       connections = p .connections;
+      consumers = p .consumers;
     }
 
 unfoldable pub withInvocation : Plan → Invocation → Plan
@@ -113,6 +118,7 @@ withInvocation p i =
       tasks = p .tasks;
       invocations = set (p .invocations) (countSeen p 6) i;
       connections = p .connections;
+      consumers = p .consumers;
     }
 
 unfoldable pub withConnection : Plan → Connection → Plan
@@ -125,6 +131,7 @@ withConnection p c =
       tasks = p .tasks;
       invocations = p .invocations;
       connections = set (p .connections) (countSeen p 7) c;
+      consumers = p .consumers;
     }
 
 -- A plan with one record more, by its kind; a kind that no plan has changes nothing.

@@ -49,35 +49,35 @@ hasNames k = eqb k 3 || (eqb k 4 || (eqb k 5 || (eqb k 6 || eqb k 7)))
 hasRanges : ℕ → Bool
 hasRanges k = isBus k || (eqb k 4 || (eqb k 5 || eqb k 6))
 
-named : (k : ℕ) → k < 19 → (nameless (fields k) || hasNames k) ≡ true
+named : (k : ℕ) → k < 21 → (nameless (fields k) || hasNames k) ≡ true
 unfolding nameless hasNames fields kinds
-named = below (λ k. nameless (fields k) || hasNames k) 19 refl
+named = below (λ k. nameless (fields k) || hasNames k) 21 refl
 
-ranged : (k : ℕ) → k < 19 → (rangeless (fields k) || hasRanges k) ≡ true
+ranged : (k : ℕ) → k < 21 → (rangeless (fields k) || hasRanges k) ≡ true
 unfolding rangeless hasRanges isBus fields kinds
-ranged = below (λ k. rangeless (fields k) || hasRanges k) 19 refl
+ranged = below (λ k. rangeless (fields k) || hasRanges k) 21 refl
 
 left-true : (a b : Bool) → (a || b) ≡ true → b ≡ false → a ≡ true
 left-true true b e f = refl
 left-true false b e f = true-false (sym e ∙ f)
 
 module _ (kind : ℕ) (b : List ℕ) where
-  namesless-if : (c : Bool) → ltb kind 19 ≡ c → hasNames kind ≡ false → nameless (fields kind) ≡ true
+  namesless-if : (c : Bool) → ltb kind 21 ≡ c → hasNames kind ≡ false → nameless (fields kind) ≡ true
   unfolding nameless
-  namesless-if true e h = left-true (nameless (fields kind)) (hasNames kind) (named kind (ltb-true kind 19 e)) h
-  namesless-if false e h = rw (unlisted kind (ltb-false kind 19 e))
+  namesless-if true e h = left-true (nameless (fields kind)) (hasNames kind) (named kind (ltb-true kind 21 e)) h
+  namesless-if false e h = rw (unlisted kind (ltb-false kind 21 e))
 
-  rangesless-if : (c : Bool) → ltb kind 19 ≡ c → hasRanges kind ≡ false → rangeless (fields kind) ≡ true
+  rangesless-if : (c : Bool) → ltb kind 21 ≡ c → hasRanges kind ≡ false → rangeless (fields kind) ≡ true
   unfolding rangeless
-  rangesless-if true e h = left-true (rangeless (fields kind)) (hasRanges kind) (ranged kind (ltb-true kind 19 e)) h
-  rangesless-if false e h = rw (unlisted kind (ltb-false kind 19 e))
+  rangesless-if true e h = left-true (rangeless (fields kind)) (hasRanges kind) (ranged kind (ltb-true kind 21 e)) h
+  rangesless-if false e h = rw (unlisted kind (ltb-false kind 21 e))
 
   pub no-names : (counts : ℕ → ℕ) → (kind ≡ 3 → ⊥) → (kind ≡ 4 → ⊥) → (kind ≡ 5 → ⊥) → (kind ≡ 6 → ⊥) → (kind ≡ 7 → ⊥)
       → namesAreThere counts (recordOf kind b) ≡ true
   unfolding namesAreThere recordOf hasNames
   no-names counts h3 h4 h5 h6 h7 =
       nameless-passes counts (fields kind) (decoded (fields kind) b)
-      (namesless-if (ltb kind 19) refl (rw (ne-eqb kind 3 h3, ne-eqb kind 4 h4, ne-eqb kind 5 h5, ne-eqb kind 6 h6, ne-eqb kind 7 h7)))
+      (namesless-if (ltb kind 21) refl (rw (ne-eqb kind 3 h3, ne-eqb kind 4 h4, ne-eqb kind 5 h5, ne-eqb kind 6 h6, ne-eqb kind 7 h7)))
 
   no-bus : (kind ≡ 1 → ⊥) → (kind ≡ 9 → ⊥) → isBus kind ≡ false
   unfolding isBus
@@ -89,7 +89,7 @@ module _ (kind : ℕ) (b : List ℕ) where
       rw (
         no-bus h1 h9,
         rangeless-passes (fields kind) (decoded (fields kind) b)
-            (rangesless-if (ltb kind 19) refl (rw (no-bus h1 h9, ne-eqb kind 4 h4, ne-eqb kind 5 h5, ne-eqb kind 6 h6))),
+            (rangesless-if (ltb kind 21) refl (rw (no-bus h1 h9, ne-eqb kind 4 h4, ne-eqb kind 5 h5, ne-eqb kind 6 h6))),
       )
 
 -- ---- a bus, judged as it stands in memory

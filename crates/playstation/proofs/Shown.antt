@@ -1,21 +1,24 @@
 -- Demand 3 of the program, by the contract of `attend` alone: the station after a history file is the one that calls of `tick` lead to,
--- those that the lines behind the first ask for, so what it shows is told by the history of those that are accepted.
+-- those that the lines behind the first ask for, so what it shows is told by the history of those that are accepted: in the basic edition
+-- all of it, in either edition where it is read and on a task's own node.
 use mathlib.Core.Path.{_≡_, refl, sym, ap, _∙_}
-use mathlib.Core.Bool.{true}
+use mathlib.Core.Bool.{true, false}
 use mathlib.Core.List.{List, [], _∷_}
 use Prim.Native.Nat.{ℕ, suc}
 use Rattle.laws.specs.Res.{ok}
 use Rattle.rules.specs.Plan.{Plan, readPlan}
+use Rattle.rules.specs.Traffic.{readIn}
+use Rattle.rules.specs.Checker.{isForConsumers}
 use Rattle.rules.specs.Playing.{Input}
 use Rattle.rules.specs.Station as rules
-use Rattle.rules.specs.Told.{ShowsTold}
+use Rattle.rules.specs.Told.{ShowsTold, ShowsRead}
 use Rattle.rules.specs.Allowed.{Allowed}
 use Rattle.stationruns.specs.Inputs.{startingAt}
 use Rattle.station.specs.Memory.{stateOf}
 use Rattle.station.specs.declared.Station.{Station}
 use Rattle.station.proofs.Plays.{Plays, afterCalls, start, acceptedOf, plays-calls}
 use Rattle.beginning.specs.Begins.{stationLaid}
-use Rattle.beginning.proofs.Shown.{shows-told, history-allowed}
+use Rattle.beginning.proofs.Shown.{shows-told, shows-read, history-allowed}
 use Rattle.history.specs.Reading.{readLine, startingFrom}
 use Rattle.history.specs.declared.What.{What}
 use Rattle.history.specs.declared.What.the-variants.{Blank, Begin, Tick, Quiet, Unreadable}
@@ -75,9 +78,16 @@ module _ (plan table s first : List ℕ) (lines : List (List ℕ)) (isFile : fro
   played-calls : Plays (stationLaid b) acceptedIn (played plan table s)
   played-calls = rw played-is (plays-calls (callsOf lines) start)
 
-  module _ (p : Plan) (reads : readPlan plan ≡ ok p) where
-    -- what the station after the file shows is told by them
-    pub played-shown : ShowsTold p (startingAt (startingFrom (readLine first .modes))) acceptedIn (stateOf (played plan table s) .shown)
+  -- what the station after the file shows is told by them: in either edition where it is read, and on a task's own node
+  pub played-read : (q : Plan) → readPlan plan ≡ ok q
+      → ShowsRead q (startingAt (startingFrom (readLine first .modes))) acceptedIn (stateOf (played plan table s) .shown)
+  played-read q reads =
+      shows-read plan table (startingAt (startingFrom (readLine first .modes))) b begins q reads acceptedIn (played plan table s) played-calls
+
+  module _ (p : Plan) (reads : readIn (isForConsumers table) plan ≡ ok p) where
+    -- in the basic edition on every node that consumes it
+    pub played-shown : p .consumers ≡ false
+        → ShowsTold p (startingAt (startingFrom (readLine first .modes))) acceptedIn (stateOf (played plan table s) .shown)
     played-shown =
         shows-told plan table (startingAt (startingFrom (readLine first .modes))) b begins p reads acceptedIn (played plan table s) played-calls
 

@@ -3,14 +3,14 @@ ghost use mathlib.Core.Path.{_≡_};
 ghost use mathlib.Core.Bool.{_&&_, _||_};
 ghost use lib.Dec.{eqb, leb};
 ghost use Rattle.rules.specs.Records as rules;
-ghost use Rattle.rules.specs.Records.{isBus, planFollows, tableFollows};
+ghost use Rattle.rules.specs.Records.{isBus, planFollows, headKind, isHead, tableFollows};
 ghost use Rattle.records.specs.Kinds.{lengthOf};
 
 // Stands in the table for a kind that is unknown; no body is that long.
 const UNKNOWN: u8 = 255;
 
 // The kinds from here on are unknown.
-const LISTED: u8 = fields::data_row::KIND + 1;
+const LISTED: u8 = fields::header::CONSUMERS_KIND + 1;
 
 // The length of each kind's body. Of bytes, so that the compiler keeps the table as it is: one of words it stores anew for each look.
 const LENGTHS: [u8; LISTED as usize] = [
@@ -33,6 +33,8 @@ const LENGTHS: [u8; LISTED as usize] = [
     fields::header::LENGTH as u8,
     fields::control_row::LENGTH as u8,
     fields::data_row::LENGTH as u8,
+    UNKNOWN,
+    fields::header::LENGTH as u8,
 ];
 
 pub fn body_length(kind: u8) -> u8
@@ -94,12 +96,37 @@ pub fn plan_follows(previous: u8, kind: u8) -> bool
     )
 }
 
+// The two heads of a table, of one edition each (rule 21.1).
+fn is_head(kind: u8) -> bool
+    ensures { λ r. ⌜ r ≡ isHead kind ⌝ }
+{
+    if kind == fields::header::KIND {
+        return true;
+    }
+    kind == fields::header::CONSUMERS_KIND
+}
+
+// The kind of a table's head in an edition.
+pub fn head_kind(consumers: bool) -> u8
+    ensures { λ r. ⌜ r ≡ headKind consumers ⌝ }
+{
+    if consumers {
+        fields::header::CONSUMERS_KIND
+    } else {
+        fields::header::KIND
+    }
+}
+
 // The same in a table.
 pub fn table_follows(previous: u8, kind: u8) -> bool
     ensures { λ r. ⌜ r ≡ tableFollows previous kind ⌝ }
 {
     if previous == 0 {
-        return kind == fields::header::KIND;
+        return is_head(kind);
+    }
+    if is_head(previous) {
+        // No row is below a head, also where its number is.
+        return rises(0, kind, fields::control_row::KIND, fields::data_row::KIND);
     }
     rises(
         previous,

@@ -12,9 +12,9 @@ use Prim.Native.Nat.{ℕ, _+_, _-_, _≤_, _<_, _∣_}
 use Rattle.laws.specs.Res.{ok}
 use Rattle.laws.proofs.Res.{bind-case}
 use Rattle.laws.proofs.Runs.{withinRun, run-most, same-run, same-multiple, multiple-same, run-behind, run-began}
-use Rattle.rules.specs.Plan.{Plan, readPlan}
+use Rattle.rules.specs.Plan.{Plan}
 use Rattle.rules.specs.Frames.{layoutOf}
-use Rattle.rules.specs.Checker.{TableRead}
+use Rattle.rules.specs.Checker.{TableRead, isForConsumers}
 use Rattle.rules.specs.Playing.{Input}
 use Rattle.rules.specs.Station.{Kept, State, Ticked, Begun, keptOf, runPeriod, taskAge, runAge, tick, started, step, begin}
 use Rattle.rules.specs.OneBoard.{modeNow, periodNow}
@@ -30,6 +30,7 @@ use Rattle.rules.proofs.TransparentOwn.{FairTask, period-is, whole-turn
 use Rattle.rules.proofs.TransparentPlan.{keptFor, fair-module, fair-task}
 use Rattle.rules.proofs.Transparent.{Beginning, facts, same-plan, timed}
 use Rattle.rules.proofs.TransparentTold.{in-mode-now, since-below, mode-told, Words, words, shows-told}
+use Rattle.rules.specs.Traffic.{readIn}
 
 -- ---- the station's count of a mode's age, and the history's
 
@@ -235,7 +236,7 @@ module _ (p : Plan) (kept : PlanKept p) (tr : TableRead) (starting : ℕ → Opt
 -- ---- of every beginning
 
 module _ (plan table : List ℕ) (starting : ℕ → Option ℕ) (b : Begun) (begins : begin plan table starting ≡ ok b)
-    (p : Plan) (reads : readPlan plan ≡ ok p) where
+    (p : Plan) (reads : readIn (isForConsumers table) plan ≡ ok p) where
   module _ (past : List Input) (s : State) (plays : played (b .kept) (b .state) past ≡ ok s) (i : Input) where
     abbrev told : Beginning plan table starting b
     told = facts plan table starting b begins p reads past s plays
@@ -280,10 +281,10 @@ module _ (plan table : List ℕ) (starting : ℕ → Option ℕ) (b : Begun) (be
   pub history-told : (history : List Input) → ((s : State) × (played (b .kept) (b .state) history ≡ ok s)) ↔ Allowed p starting history
   history-told history = (λ h. played-allowed history (h .0) (h .1), λ a. allowed-played a)
 
-  -- Demand 3 of the history alone: where each result comes in its time and modes change at their instants, the station goes through
+  -- Demand 3 of the history alone, in the basic edition: where each result comes in its time and modes change at their instants, the station goes through
   -- it, and shows what is told.
-  pub allowed-shown : (history : List Input) → Allowed p starting history
+  pub allowed-shown : p .consumers ≡ false → (history : List Input) → Allowed p starting history
       → (s : State) × (played (b .kept) (b .state) history ≡ ok s) × ShowsTold p starting history (s .shown)
-  allowed-shown history a =
+  allowed-shown basic history a =
       let q = allowed-played a in
-      (q .0, q .1, shows-told plan table starting b begins p reads history (q .0) (q .1))
+      (q .0, q .1, shows-told plan table starting b begins p reads history (q .0) (q .1) basic)

@@ -20,47 +20,12 @@ use Rattle.laws.proofs.Orders.{le-or-lt}
 use Rattle.laws.proofs.Members.{Pairs, member-getD}
 use Rattle.rules.specs.Limits.{mostFrames}
 use Rattle.rules.specs.Records.{records, tableFollows}
-use Rattle.rules.specs.Plan.{Plan, readPlan}
-use Rattle.rules.specs.Traffic.{basic}
+use Rattle.rules.specs.Plan.{Plan}
+use Rattle.rules.specs.Traffic.{traffic, readIn}
 use Rattle.rules.specs.Frames.{Pair, ControlRow, Layout, layout, layoutOf, pairsOf, pairs}
 use Rattle.rules.specs.LatestRelease.{noPair}
 use Rattle.rules.specs.Table.{FrameRow}
-use Rattle.rules.specs.Checker.{
-  Named,
-  TableRead,
-  tableOf,
-  headerRight,
-  controlAt,
-  noRow,
-  rowAt,
-  sameControl,
-  controlKept,
-  isPairOf,
-  sameName,
-  holdsOf,
-  heldBefore,
-  isNew,
-  namedIn,
-  pairsOfRow,
-  namesNew,
-  timeKept,
-  isReleasedBy,
-  releaseKept,
-  isDueFrom,
-  deadlineKept,
-  stopBefore,
-  gapKept,
-  lastKept,
-  lastRow,
-  rowsKeep,
-  shaped,
-  timed,
-  judged,
-  Passed,
-  checkFiles,
-  checkOutcome,
-  check,
-}
+use Rattle.rules.specs.Checker.{Named, TableRead, tableOf, headerRight, controlAt, noRow, rowAt, sameControl, controlKept, isPairOf, sameName, holdsOf, heldBefore, isNew, namedIn, pairsOfRow, namesNew, timeKept, isReleasedBy, releaseKept, isDueFrom, deadlineKept, stopBefore, gapKept, lastKept, lastRow, rowsKeep, shaped, timed, judged, Passed, checkFiles, checkOutcome, check, isForConsumers}
 use Rattle.rules.specs.Obeys.{
   pairAt,
   Names,
@@ -91,7 +56,7 @@ use Rattle.rules.specs.Obeys.{
 }
 use Rattle.rules.proofs.PairsOf.{Before, one-of-a-pair, plan-pairs}
 use Rattle.rules.proofs.LaidOut.{laid-out}
-use Rattle.rules.proofs.RefusalNumbers.{plan-gives, layout-gives, judged-gives}
+use Rattle.rules.proofs.RefusalNumbers.{layout-gives, judged-gives, read-gives}
 use Rattle.rules.proofs.RecordsExact.{records-exact, records-refused}
 
 -- ---- each rule
@@ -342,7 +307,7 @@ module _ (plan table : List ℕ) where
   pub passed-says : (c : Passed) → checkFiles plan table ≡ ok c → MayPass plan table
   unfolding checkFiles
   passed-says c e =
-      bind-case (readPlan plan) _ e λ p isRead e₁.
+      bind-case (readIn (isForConsumers table) plan) _ e λ p isRead e₁.
       bind-case (layout p) _ e₁ λ l isLaid e₂.
       bind-case (records tableFollows 20 table) _ e₂ λ rs areRows e₃.
       then-case (judged l (tableOf rs)) _ e₃ λ _ isJudged e₄.
@@ -359,7 +324,7 @@ module _ (plan table : List ℕ) where
 
   -- what is handed on when the table passes
   abbrev passedOf : MayPass plan table → Passed
-  passedOf h = record { plan = h .read; traffic = basic (h .read); layout = h .laid; table = tableOf (h .rows) }
+  passedOf h = record { plan = h .read; traffic = traffic (h .read); layout = h .laid; table = tableOf (h .rows) }
 
   pub passed-passes : (h : MayPass plan table) → checkFiles plan table ≡ ok (passedOf h)
   unfolding checkFiles
@@ -372,7 +337,7 @@ module _ (plan table : List ℕ) where
   pub passed-faults : (n p : ℕ) → checkFiles plan table ≡ refuse n p → CheckFault plan table n p
   unfolding checkFiles
   passed-faults n p e =
-      bind-refused (readPlan plan) _ e ofPlan λ q isRead e₁.
+      bind-refused (readIn (isForConsumers table) plan) _ e ofPlan λ q isRead e₁.
       bind-refused (layout q) _ e₁ (ofLayout isRead) λ l isLaid e₂.
       bind-refused (records tableFollows 20 table) _ e₂
       (λ f. let b = records-refused tableFollows 20 table n p .0 f in ofRecords isRead isLaid (b .0) (b .1)) λ rs areRows e₃.
@@ -444,14 +409,14 @@ rules-count-up l t = (refl, (refl, (refl, (refl, (refl, (refl, (refl, (refl, tt)
 
 module _ (plan table : List ℕ) where
   fault-twenty : (p : ℕ) → CheckFault plan table 20 p → UnreadAt plan table p
-  fault-twenty p (ofPlan e) = absurd (omega (arith, plan-gives plan .number 20 p e))
+  fault-twenty p (ofPlan e) = absurd (omega (arith, read-gives (isForConsumers table) plan .number 20 p e))
   fault-twenty p (ofLayout {q} a e) = absurd (omega (arith, layout-gives q .number 20 p e))
   fault-twenty p (ofRecords {q} {l} a b e f) = record { read = q; isRead = a; laid = l; isLaid = b; unread = f }
   fault-twenty p (ofTable {q} {l} {rs} a b c f) =
       absurd (omega (arith, judged-gives l (tableOf rs) .number 20 p (judged-exact l (sorted-pairs q l b) (tableOf rs) .refused 20 p f)))
 
   fault-rule : (i p : ℕ) → i < 8 → CheckFault plan table (21 + i) p → BrokenAt plan table i p
-  fault-rule i p w (ofPlan e) = absurd (omega (arith, plan-gives plan .number (21 + i) p e))
+  fault-rule i p w (ofPlan e) = absurd (omega (arith, read-gives (isForConsumers table) plan .number (21 + i) p e))
   fault-rule i p w (ofLayout {q} a e) = absurd (omega (arith, layout-gives q .number (21 + i) p e))
   fault-rule i p w (ofRecords a b e f) = absurd (omega (arith, e))
   fault-rule i p w (ofTable {q} {l} {rs} a b c f) =

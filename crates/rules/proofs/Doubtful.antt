@@ -1,7 +1,7 @@
 -- Doubtful: no connection that rules 6.5.8 and 6.5.9 refuse ever made a bus task or a consumer (docs/RULES.md, section 15). A repeat asks
 -- what the earlier one asks, and a connection of a task with itself leaves no node; so a plan comes to the same without them.
 use mathlib.Core.Path.{_≡_, refl, sym, ap, _∙_, fun-ext}
-use mathlib.Core.Bool.{Bool, true, false, not, _&&_, and-false}
+use mathlib.Core.Bool.{Bool, true, false, not, _&&_, and-false, cond}
 use mathlib.Core.List.{List, [], _∷_, map, foldr}
 use native.Mathlib.Omega.{arith}
 use borrow.Author.Tests.{eqb-true, eq-eqb}
@@ -13,7 +13,7 @@ use Rattle.laws.specs.Lists.{keep, any, isFresh, upTo}
 use Rattle.laws.proofs.Lists.{true-false, both-left, both-right}
 use Rattle.laws.proofs.LeftOut.{not-fresh, placeOf, keepAt-all, keepAt-from, place-within, place-passes, places-rise, any-keepAt}
 use Rattle.rules.specs.Plan.{Connection, Plan, noConnection, theMode, theTask, theConnection, periodOf, isOwn, sameEnds, connectionKeeps, readPlan}
-use Rattle.rules.specs.Traffic.{moduleNode, taskNode, invokes, leaves, isBusTask, busTasks, livesIn, isSending, standsOn, sendersOn, controlPayload}
+use Rattle.rules.specs.Traffic.{moduleNode, taskNode, invokes, leaves, isBusTask, busTasks, livesIn, isSending, standsOn, sendersOn, controlPayload, traffic, thinned}
 use Rattle.rules.specs.Traffic.{isSendingNode, sendingNodes, ofBusTask, runOf, busRuns, busPeriod, withMode, ofSender, switchGrid, basic}
 use Rattle.rules.specs.Frames.{ControlRow, sendingTime, pairs, pairSize, bytesIn, isModeIn, block, payload, rowTime, controlFrom, controlRows, controlEnd, someBusTask, messageFits, controlFits, payloadsFit, layoutOf, layout}
 use Rattle.rules.specs.History.{brings, consumes}
@@ -144,9 +144,19 @@ module _ (p : Plan) where
   unfolding controlRows
   same-rows = same-rows-from 0 (sendingNodes (withoutDoubtful p)) ∙ ap (controlFrom p 0) same-senders
 
-  same-traffic : basic (withoutDoubtful p) ≡ basic p
+  same-edition : withoutDoubtful p .consumers ≡ p .consumers
+  unfolding withoutDoubtful withConnections
+  same-edition = refl
+
+  same-basic : basic (withoutDoubtful p) ≡ basic p
   unfolding basic busPeriod
-  same-traffic = rw (same-runs, same-grid)
+  same-basic = rw (same-runs, same-grid)
+
+  same-traffic : p .consumers ≡ false → traffic (withoutDoubtful p) ≡ traffic p
+  unfolding traffic
+  same-traffic e =
+      ap (λ (b : Bool). cond b (thinned (withoutDoubtful p)) (basic (withoutDoubtful p))) (same-edition ∙ e)
+      ∙ same-basic ∙ sym (ap (λ (b : Bool). cond b (thinned p) (basic p)) e)
 
   same-control-fit : controlFits (withoutDoubtful p) ≡ controlFits p
   unfolding controlFits withoutDoubtful withConnections
@@ -160,10 +170,10 @@ module _ (p : Plan) where
   unfolding controlEnd withoutDoubtful withConnections
   same-end = rw same-rows
 
-  -- without its doubtful connections a plan gives the same refusal, or period, control rows, frames, windows and times
-  pub same-layout : layout (withoutDoubtful p) ≡ layout p
+  -- without its doubtful connections a plan gives the same refusal, or period, control rows, frames, windows and times, in the basic edition
+  pub same-layout : p .consumers ≡ false → layout (withoutDoubtful p) ≡ layout p
   unfolding layout layoutOf pairs someBusTask rowTime payload block bytesIn isModeIn theMode pairSize theTask withoutDoubtful withConnections
-  same-layout = rw (same-bus-tasks, same-traffic, same-fit, same-end, same-rows)
+  same-layout e = rw (same-bus-tasks, same-traffic e, same-fit, same-end, same-rows)
 
 -- a plan that is read has no doubtful connection
 pub none-in-read : (file : List ℕ) (p : Plan) → readPlan file ≡ ok p → withoutDoubtful p ≡ p

@@ -15,18 +15,20 @@ use Rattle.laws.proofs.Lists.{last-append, last-map, last-getD}
 use Rattle.laws.proofs.Orders.{compare-case}
 use Rattle.laws.proofs.Members.{All, empty, also, Chain, last-link, Pairs, all-weaker, all-append, all-map, pairs-getD, chain-append, chain-pairs, chain-map, map-getD}
 use Rattle.rules.specs.Records.{Rec, records, tableFollows}
-use Rattle.rules.specs.Plan.{Plan, readPlan}
+use Rattle.rules.specs.Plan.{Plan}
 use Rattle.rules.specs.Frames.{gapTime, noControlRow, layoutOf}
 use Rattle.rules.specs.Table.{FrameRow}
-use Rattle.rules.specs.Checker.{Row, noRow, TableRead, tableOf, rowAt, stopBefore, check}
+use Rattle.rules.specs.Checker.{Row, noRow, TableRead, tableOf, rowAt, stopBefore, check, isForConsumers}
 use Rattle.rules.specs.Obeys.{ObeysTable}
 use Rattle.rules.specs.Gaps.{Stretch, ofControl, ofData, inCycle, noStretch, stretchIn, GapBetween, GapsKept}
-use Rattle.rules.proofs.PlanKept.{PlanKept, readable-kept}
+use Rattle.rules.proofs.PlanKept.{PlanKept}
 use Rattle.rules.proofs.RecordsExact.{records-exact}
 use Rattle.rules.proofs.LaidOut.{laid-out, control-kept, control-chain}
 use Rattle.rules.proofs.CheckerExact.{checker-exact}
 use Rattle.rules.proofs.PairRows.{rows-last, rows-chain}
 use Rattle.rules.proofs.TransparentPlan.{control-same}
+use Rattle.rules.specs.Traffic.{readIn}
+use Rattle.rules.proofs.Editions.{readable-kept-in}
 
 -- it does not stop before it starts
 abbrev Lasts : Stretch → Type 0
@@ -142,11 +144,11 @@ module _ (p : Plan) (kept : PlanKept p) (t : TableRead) (obeys : ObeysTable (lay
 -- ---- a table that passes
 
 pub frames-apart : (plan table : List ℕ) (rows : List FrameRow) → check plan table rows .answer ≡ ok tt
-    → (p : Plan) → readPlan plan ≡ ok p → (rs : List Rec) → records tableFollows 20 table ≡ ok rs → GapsKept (gapTime (p .bus)) (tableOf rs)
+    → (p : Plan) → readIn (isForConsumers table) plan ≡ ok p → (rs : List Rec) → records tableFollows 20 table ≡ ok rs → GapsKept (gapTime (p .bus)) (tableOf rs)
 frames-apart plan table rows passed p isRead rs areRows =
     let h = checker-exact plan table rows .0 passed .1 in
     let plans : h .read ≡ p = ok-injective (sym (h .isRead) ∙ isRead) in
     let tables : h .rows ≡ rs = ok-injective (sym (records-exact tableFollows 20 table (h .rows) .1 (h .areRows)) ∙ areRows) in
     let laid : layoutOf (h .read) ≡ h .laid = laid-out (h .read) (h .laid) (h .isLaid) .is in
     let obeys : ObeysTable (layoutOf (h .read)) (tableOf (h .rows)) = rw laid (h .obeys) in
-    rw (← plans, ← tables) (gaps-kept (h .read) (readable-kept plan (h .read) (h .isRead)) (tableOf (h .rows)) obeys)
+    rw (← plans, ← tables) (gaps-kept (h .read) (readable-kept-in (isForConsumers table) plan (h .read) (h .isRead)) (tableOf (h .rows)) obeys)

@@ -1,5 +1,6 @@
 -- The pairs of the runs of bus tasks as a grid: deadlines 1 to P, at each the tasks below n, at each of these the greatest release
--- or none. So pairs can be found deadline by deadline, without sorting; and a deadline at which no run ends may be passed over.
+-- of a message that is read, or none. So pairs can be found deadline by deadline, without sorting; and a deadline at which no run ends may be
+-- passed over.
 use mathlib.Core.Path.{_≡_, refl, sym, ap, ap₂, _∙_, subst}
 use mathlib.Core.Bool.{Bool, true, false, cond, _&&_}
 use mathlib.Core.List.{List, [], _∷_, _++_, append-assoc}
@@ -9,13 +10,15 @@ use native.Mathlib.Omega.{arith}
 use borrow.Author.Tests.{eq-eqb, ne-eqb, eqb-true, ltb-true}
 use lib.Dec.{eqb, ltb}
 use Prim.Native.Nat.{ℕ, zero, suc, _+_, _*_, _-_, _/_, _≤_, _<_, max, compare, Ordering, Ordering·lt, Ordering·gt}
-use Rattle.laws.specs.Lists.{all, tab}
+use Rattle.laws.specs.Lists.{consIf, keep, all, tab}
 use Rattle.laws.specs.Numbers.{divides}
 use Rattle.laws.proofs.Lists.{tested, true-false, both-left, both-right}
 use Rattle.laws.proofs.Orders.{compare-less, compare-more, compare-same}
 use Rattle.laws.proofs.Divisors.{divides-true, divides-is}
-use Rattle.rules.specs.Traffic.{Run, Message, message, messagesOf, messages}
+use Rattle.rules.specs.Traffic.{Run, Message, message, messagesOf}
 use Rattle.rules.specs.Frames.{Pair, pairOf, thenBy, pairOrder, merged, withPair, pairsOf}
+use Rattle.rules.specs.Readers.{isReadBy, isReadMessage, readMessagesOf, readMessages}
+use Rattle.rules.specs.Direct.{isEnd, isDue, releaseFor}
 
 -- ---- the grid
 
@@ -216,16 +219,37 @@ best-append : (ms ns : List Message) (d t : ℕ) → best (ms ++ ns) d t ≡ max
 best-append [] ns d t = sym (zero-max (best ns d t))
 best-append (m ∷ ms) ns d t = ap (max (adds (pairOf m) d t)) (best-append ms ns d t) ∙ sym (max-assoc (adds (pairOf m) d t) (best ms d t) (best ns d t))
 
+-- where only messages with some deadlines are kept, the others' places are empty
+best-keep : (q : ℕ → Bool) (ms : List Message) (d t : ℕ) → best (keep (λ m. q (m .deadline)) ms) d t ≡ cond (q d) (best ms d t) 0
+unfolding pairOf
+best-keep q [] d t = nothing-either (q d)
+  where
+    nothing-either : (b : Bool) → zero ≡ cond b 0 0
+    nothing-either true = refl
+    nothing-either false = refl
+best-keep q (m ∷ ms) d t = which (tested (eqb (m .deadline) d)) (q (m .deadline)) refl (best-keep q ms d t)
+  where
+    kept : List Message
+    kept = keep (λ m. q (m .deadline)) ms
+
+    which : (eqb (m .deadline) d ≡ true) ⊎ (eqb (m .deadline) d ≡ false) → (b : Bool) → q (m .deadline) ≡ b → best kept d t ≡ cond (q d) (best ms d t) 0
+        → best (consIf b m kept) d t ≡ cond (q d) (max (adds (pairOf m) d t) (best ms d t)) 0
+    which (inl e) true h rest =
+        let g : q d ≡ true = ap q (sym (eqb-true (m .deadline) d e)) ∙ h in
+        rw g (ap (max (adds (pairOf m) d t)) (rw g at rest))
+    which (inl e) false h rest = let g : q d ≡ false = ap q (sym (eqb-true (m .deadline) d e)) ∙ h in rw g (rw g at rest)
+    which (inr e) true h rest = rw (e, zero-max (best kept d t), zero-max (best ms d t)) rest
+    which (inr e) false h rest = rw (e, zero-max (best ms d t)) rest
+
+within-consIf : {n period : ℕ} (b : Bool) {m : Message} {ms : List Message} → Within n period (m ∷ []) → Within n period ms → Within n period (consIf b m ms)
+within-consIf true (also h k l nothing) w = also h k l w
+within-consIf false h w = w
+
+within-keep : {n period : ℕ} (q : Message → Bool) {ms : List Message} → Within n period ms → Within n period (keep q ms)
+within-keep q nothing = nothing
+within-keep q (also {m = m} h k l w) = within-consIf (q m) (also h k l nothing) (within-keep q w)
+
 -- ---- the pairs of runs
-
--- what a run adds to the place of deadline d and task t: its message that has to be there by d, if its period divides d
-abbrev pub ends : Run → ℕ → ℕ → ℕ
-ends r d t = cond (divides (r .period) d && eqb (r .task) t) (suc (d - r .period + r .worst)) 0
-
--- what the place of deadline d and task t holds after all these runs
-abbrev pub latest : List Run → ℕ → ℕ → ℕ
-latest [] d t = 0
-latest (r ∷ rs) d t = max (ends r d t) (latest rs d t)
 
 times-less : (period i j : ℕ) → 0 < period → i < j → i * period < j * period
 times-less period i j p h =
@@ -264,12 +288,22 @@ message-number (suc q) period d e h =
     let o : suc q - 1 ≡ q = omega arith in
     (omega arith, rw o (omega arith))
 
+-- what a run adds to the place of deadline d and task t: its message that has to be there by d, if it ends there with one that is read
+abbrev pub ends : (ℕ → List ℕ) → Run → ℕ → ℕ → ℕ
+ends readers r d t = cond (isDue readers d t r) (suc (releaseFor d r)) 0
+
+-- what the place of deadline d and task t holds after all these runs
+abbrev pub latest : (ℕ → List ℕ) → List Run → ℕ → ℕ → ℕ
+latest readers [] d t = 0
+latest readers (r ∷ rs) d t = max (ends readers r d t) (latest readers rs d t)
+
 module _ (period : ℕ) (r : Run) where
-  run-ends : (d t : ℕ) → 0 < d → d ≤ period → best (messagesOf period r) d t ≡ ends r d t
-  unfolding messagesOf
-  run-ends d t h w = which (eq-zero-or-pos (r .period)) (tested (divides (r .period) d))
+  -- of all its messages, whether they are read or not
+  all-ends : (d t : ℕ) → 0 < d → d ≤ period → best (messagesOf period r) d t ≡ cond (divides (r .period) d && eqb (r .task) t) (suc (releaseFor d r)) 0
+  unfolding messagesOf releaseFor
+  all-ends d t h w = which (eq-zero-or-pos (r .period)) (tested (divides (r .period) d))
     where
-      which : (r .period ≡ 0) ⊎ (0 < r .period) → (divides (r .period) d ≡ true) ⊎ (divides (r .period) d ≡ false) → best (tab (message r) 1 (period / r .period)) d t ≡ ends r d t
+      which : (r .period ≡ 0) ⊎ (0 < r .period) → (divides (r .period) d ≡ true) ⊎ (divides (r .period) d ≡ false) → best (tab (message r) 1 (period / r .period)) d t ≡ cond (divides (r .period) d && eqb (r .task) t) (suc (releaseFor d r)) 0
       which z (inr e) = rw (e, none-ends r 1 (period / r .period) d t (λ i v u. true-false (sym (divides-is (r .period) d (rw (← u) (dvd-mul-left (r .period) i))) ∙ e)))
       which (inl z) (inl e) =
           let none : d ≡ 0 = eq-zero-of-zero-dvd (rw z at (divides-true (r .period) d e)) in
@@ -299,22 +333,36 @@ module _ (period : ℕ) (r : Run) where
 abbrev pub below : ℕ → Run → Bool
 below n r = ltb (r .task) n
 
-module _ (period : ℕ) where
-  runs-best : (rs : List Run) (d t : ℕ) → 0 < d → d ≤ period → best (messages period rs) d t ≡ latest rs d t
-  unfolding messages
+module _ (readers : ℕ → List ℕ) (period : ℕ) where
+  run-ends : (r : Run) (d t : ℕ) → 0 < d → d ≤ period → best (readMessagesOf readers period r) d t ≡ ends readers r d t
+  unfolding readMessagesOf isReadMessage isDue isEnd
+  run-ends r d t h w =
+      best-keep (isReadBy (readers (r .task)) (r .period)) (messagesOf period r) d t
+      ∙ ap (λ (x : ℕ). cond (isReadBy (readers (r .task)) (r .period) d) x 0) (all-ends period r d t h w)
+      ∙ one-test (divides (r .period) d) (isReadBy (readers (r .task)) (r .period) d) (eqb (r .task) t) (suc (releaseFor d r))
+    where
+      one-test : (a b c : Bool) (x : ℕ) → cond b (cond (a && c) x 0) 0 ≡ cond ((a && b) && c) x 0
+      one-test true true c x = refl
+      one-test true false c x = refl
+      one-test false true c x = refl
+      one-test false false c x = refl
+
+  runs-best : (rs : List Run) (d t : ℕ) → 0 < d → d ≤ period → best (readMessages readers period rs) d t ≡ latest readers rs d t
+  unfolding readMessages
   runs-best [] d t h w = refl
   runs-best (r ∷ rs) d t h w =
-      best-append (messagesOf period r) (messages period rs) d t ∙ ap₂ max (run-ends period r d t h w) (runs-best rs d t h w)
+      best-append (readMessagesOf readers period r) (readMessages readers period rs) d t ∙ ap₂ max (run-ends r d t h w) (runs-best rs d t h w)
 
-  runs-within : (n : ℕ) (rs : List Run) → all (below n) rs ≡ true → Within n period (messages period rs)
-  unfolding messages
+  runs-within : (n : ℕ) (rs : List Run) → all (below n) rs ≡ true → Within n period (readMessages readers period rs)
+  unfolding readMessages readMessagesOf
   runs-within n [] h = nothing
   runs-within n (r ∷ rs) h =
-      within-append (run-within period r n (ltb-true (r .task) n (both-left (below n r) (all (below n) rs) h)))
+      within-append
+      (within-keep (isReadMessage (readers (r .task)) (r .period)) (run-within period r n (ltb-true (r .task) n (both-left (below n r) (all (below n) rs) h))))
       (runs-within n rs (both-right (below n r) (all (below n) rs) h))
 
   -- The pairs of runs of tasks below n, deadline by deadline, task by task.
-  pub pairs-grid : (n : ℕ) (rs : List Run) → all (below n) rs ≡ true → pairsOf (messages period rs) ≡ grid (latest rs) n 1 period
+  pub pairs-grid : (n : ℕ) (rs : List Run) → all (below n) rs ≡ true → pairsOf (readMessages readers period rs) ≡ grid (latest readers rs) n 1 period
   pairs-grid n rs h =
       pairs-best (runs-within n rs h)
-      ∙ grid-same (best (messages period rs)) (latest rs) n 1 period (λ d t a b c. runs-best rs d t a (omega arith))
+      ∙ grid-same (best (readMessages readers period rs)) (latest readers rs) n 1 period (λ d t a b c. runs-best rs d t a (omega arith))

@@ -1,8 +1,8 @@
 -- LaidOut: what refusals 6 to 11 leave of a plan, and how large its numbers can be: P is at most a mode period, the pairs' deadlines
 -- and the control rows lie within P, and tasks and nodes are those of the plan.
 use mathlib.Core.Path.{_≡_, refl, ap}
-use mathlib.Core.Bool.{true}
-use mathlib.Core.List.{List, [], _∷_}
+use mathlib.Core.Bool.{true, Bool, false, cond}
+use mathlib.Core.List.{List, [], _∷_, List·Memᴰ}
 use native.Mathlib.Nat.{le-refl, dvd-trans, dvd-sub, dvd-mul-left, le-of-dvd, pos-of-dvd-of-pos, div-mul-le-self, mul-le-mul-right, suc-mul}
 use native.Mathlib.Omega.{arith}
 use borrow.Author.Tests.{eqb-true, eq-eqb}
@@ -36,21 +36,21 @@ use Rattle.laws.proofs.Members.{
 }
 use Rattle.rules.specs.Limits.{mostFrames}
 use Rattle.rules.specs.Plan.{Plan, noMode, theMode, theTask}
-use Rattle.rules.specs.Traffic.{Run, runOf, ofBusTask, busRuns, invokes, isBusTask, busTasks, livesIn, isSending, isSendingNode, sendingNodes, ofSender, switchGrid, busPeriod, message, messagesOf, messages, basic, controlPayload}
+use Rattle.rules.specs.Traffic.{Run, runOf, ofBusTask, busRuns, invokes, isBusTask, busTasks, livesIn, isSending, isSendingNode, sendingNodes, ofSender, busPeriod, message, messagesOf, messages, traffic, controlPayload, thinned, thinnedPeriod, keptMessages, isKept, basic, Message, Traffic}
 use Rattle.rules.specs.Frames.{Pair, pairOf, pairs, sendingTime, ofBits, gapOnBus, gapTime, cycleEnd, ControlRow, noControlRow, controlFrom, controlRows, controlEnd, someBusTask, payloadsFit, Layout, layoutOf, layout}
-use Rattle.rules.proofs.Period.{switch-grid}
 use Rattle.rules.proofs.PairsOf.{plan-pairs}
 use Rattle.rules.proofs.PlanExact.{some-means, payloads-mean, layout-exact}
 use Rattle.rules.proofs.PlanKept.{Between, PlanKept}
+use Rattle.rules.proofs.Editions.{grid-divides}
 
 -- refusals 6 to 11 passed
 pub record LaidOut (p : Plan) (l : Layout) : Type 0 where
   pub someBus : someBusTask p ≡ true
-  pub divides : busPeriod p ∣ switchGrid p
-  pub onGrid : p .bus .resolution ∣ busPeriod p
+  pub divides : traffic p .period ∣ traffic p .grid
+  pub onGrid : p .bus .resolution ∣ traffic p .period
   pub few : length (pairs p) ≤ mostFrames
   pub payloads : payloadsFit p ≡ true
-  pub room : controlEnd p ≤ busPeriod p
+  pub room : controlEnd p ≤ traffic p .period
   pub is : layoutOf p ≡ l
 
 pub laid-out : (p : Plan) (l : Layout) → layout p ≡ ok l → LaidOut p l
@@ -97,10 +97,10 @@ module _ (p : Plan) (k : PlanKept p) where
   unfolding someBusTask
   sending-mode e = let f = any-upTo-true (isBusTask p) (length (p .tasks)) e in mode-of (f .0) (f .1) (f .2)
 
-  pub period-divides-mode : busPeriod p ∣ switchGrid p → (m : SendingMode p) → busPeriod p ∣ theMode p (m .mode) .period
-  period-divides-mode d m = dvd-trans (busPeriod p) d (switch-grid p .divisor .periods (m .mode) (m .within) (m .sending))
+  pub period-divides-mode : traffic p .period ∣ traffic p .grid → (m : SendingMode p) → traffic p .period ∣ theMode p (m .mode) .period
+  period-divides-mode d m = dvd-trans (traffic p .period) d (grid-divides p (m .mode) (m .within) (m .sending) .0)
 
-  pub period-kept : {l : Layout} → LaidOut p l → Between 1 1000000 (busPeriod p)
+  pub period-kept : {l : Layout} → LaidOut p l → Between 1 1000000 (traffic p .period)
   unfolding theMode
   period-kept h =
       let m = sending-mode (h .someBus) in
@@ -110,29 +110,44 @@ module _ (p : Plan) (k : PlanKept p) where
 
 -- ---- pairs
 
+-- in either edition what is sent are messages of runs of bus tasks
+abbrev sentIn : Plan → Bool → Traffic
+sentIn p consumers = cond consumers (thinned p) (basic p)
+
+module _ (p : Plan) {Q : Message → Type 0} where
+  by-edition : (consumers : Bool) → ((r : Run) → List·Memᴰ r (busRuns p) → All Q (messagesOf (sentIn p consumers .period) r))
+      → All Q (sentIn p consumers .messages)
+  unfolding thinned keptMessages basic messages
+  by-edition true h =
+      all-joined (all-map (keptMessages p (thinnedPeriod p)) (all-of-members (busRuns p) (λ r m. all-keep (isKept p (thinnedPeriod p) r) (h r m))))
+  by-edition false h = all-joined (all-map (messagesOf (busPeriod p)) (all-of-members (busRuns p) h))
+
+  pub all-sent : ((r : Run) → List·Memᴰ r (busRuns p) → All Q (messagesOf (traffic p .period) r)) → All Q (traffic p .messages)
+  unfolding traffic
+  all-sent = by-edition (p .consumers)
+
 -- a pair's task is one of the plan, and its deadline lies within P
 pub record PairKept (p : Plan) (f : Pair) : Type 0 where
   pub task : f .task < length (p .tasks)
-  pub deadline : f .deadline ≤ busPeriod p
+  pub deadline : f .deadline ≤ traffic p .period
 
 module _ (p : Plan) (k : PlanKept p) where
-  message-kept : (r : Run) → r .task < length (p .tasks) → (i : ℕ) → i ≤ busPeriod p / r .period → PairKept p (pairOf (message r i))
+  message-kept : (r : Run) → r .task < length (p .tasks) → (i : ℕ) → i ≤ traffic p .period / r .period → PairKept p (pairOf (message r i))
   unfolding message pairOf
   message-kept r t i h =
-      let within : i * r .period ≤ busPeriod p / r .period * r .period = mul-le-mul-right (r .period) h in
-      record { task = t; deadline = omega (arith, within, div-mul-le-self (busPeriod p) (r .period)) }
+      let within : i * r .period ≤ traffic p .period / r .period * r .period = mul-le-mul-right (r .period) h in
+      record { task = t; deadline = omega (arith, within, div-mul-le-self (traffic p .period) (r .period)) }
 
-  messagesOf-kept : (r : Run) → r .task < length (p .tasks) → All (λ m. PairKept p (pairOf m)) (messagesOf (busPeriod p) r)
+  messagesOf-kept : (r : Run) → r .task < length (p .tasks) → All (λ m. PairKept p (pairOf m)) (messagesOf (traffic p .period) r)
   unfolding messagesOf
-  messagesOf-kept r t = all-tab (message r) 1 (busPeriod p / r .period) (λ i a b. message-kept r t i (omega arith))
+  messagesOf-kept r t = all-tab (message r) 1 (traffic p .period / r .period) (λ i a b. message-kept r t i (omega arith))
 
   runs-kept : All (λ r. r .task < length (p .tasks)) (busRuns p)
   unfolding busRuns runOf
   runs-kept = all-map (runOf p) (all-weaker (λ i h. h .task) (all-keep (ofBusTask p) (k .invocations)))
 
-  messages-kept : All (λ m. PairKept p (pairOf m)) (basic p .messages)
-  unfolding basic messages
-  messages-kept = all-joined (all-map (messagesOf (busPeriod p)) (all-weaker messagesOf-kept runs-kept))
+  messages-kept : All (λ m. PairKept p (pairOf m)) (traffic p .messages)
+  messages-kept = all-sent p (λ r m. messagesOf-kept r (all-member runs-kept m))
 
   pub pairs-kept : All (PairKept p) (pairs p)
   pairs-kept = all-of-members (pairs p) (λ f m. all-member {P = PairKept p} (all-map pairOf messages-kept) (plan-pairs p .comes f m))
@@ -150,12 +165,10 @@ module _ (p : Plan) (k : PlanKept p) where
   unfolding busRuns runOf
   runs-short = all-map (runOf p) (all-weaker (λ i h. h .worst) (all-keep (ofBusTask p) (k .invocations)))
 
-  messages-released : All (λ m. pairOf m .release ≤ pairOf m .deadline) (basic p .messages)
-  unfolding basic messages messagesOf pairOf
+  messages-released : All (λ m. pairOf m .release ≤ pairOf m .deadline) (traffic p .messages)
+  unfolding messagesOf pairOf
   messages-released =
-      all-joined
-      (all-map (messagesOf (busPeriod p))
-      (all-weaker (λ r w. all-tab (message r) 1 (busPeriod p / r .period) (λ i a b. released-first r w i a)) runs-short))
+      all-sent p (λ r m. all-tab (message r) 1 (traffic p .period / r .period) (λ i a b. released-first r (all-member runs-short m) i a))
 
   pub pairs-released : All (λ f. f .release ≤ f .deadline) (pairs p)
   pairs-released =
@@ -235,11 +248,11 @@ module _ (p : Plan) where
 
 module _ (p : Plan) {l : Layout} (h : LaidOut p l) where
   -- nothing is cut off: the gap fits into P
-  pub end-whole : cycleEnd (p .bus) (busPeriod p) + gapTime (p .bus) ≡ busPeriod p
+  pub end-whole : cycleEnd (p .bus) (traffic p .period) + gapTime (p .bus) ≡ traffic p .period
   unfolding cycleEnd
   end-whole = omega (arith, gap-within p, h .room)
 
-  pub end-on-grid : p .bus .resolution ∣ cycleEnd (p .bus) (busPeriod p)
+  pub end-on-grid : p .bus .resolution ∣ cycleEnd (p .bus) (traffic p .period)
   unfolding cycleEnd gapTime gapOnBus ofBits up
   end-on-grid =
       let ticks = ceil (p .bus .gap * 1000) (p .bus .rate) in

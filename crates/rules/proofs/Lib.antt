@@ -1,11 +1,14 @@
+pub mod AllRead
 pub mod AllowedExact
 pub mod BodyNumbers
 pub mod CheckerExact
 pub mod Direct
 pub mod Doubtful
+pub mod Editions
 pub mod FollowsTold
 pub mod Gaps
 pub mod Grid
+pub mod Heads
 pub mod Jobs
 pub mod LaidOut
 pub mod Located
@@ -14,11 +17,13 @@ pub mod NamedAlike
 pub mod PairRows
 pub mod PairsOf
 pub mod Payload
+pub mod Needed
 pub mod Period
 pub mod PlacedAlone
 pub mod Placing
 pub mod PlanExact
 pub mod PlanKept
+pub mod ReadersGo
 pub mod RecordsExact
 pub mod RefusalNumbers
 pub mod Room
@@ -42,6 +47,7 @@ pub mod TransparentModes
 pub mod TransparentOwn
 pub mod TransparentPlan
 pub mod TransparentPlays
+pub mod TransparentReads
 pub mod TransparentTick
 pub mod TransparentTold
 pub mod Twin

@@ -17,46 +17,23 @@ use Rattle.laws.proofs.Members.{all-getD}
 use Rattle.laws.proofs.Res.{ok-injective, bind-case, then-case, bind-refused, bind-ok, bind-refuse, at-ok}
 use Rattle.laws.proofs.Refusals.{Gives, gives-ok, gives-then, gives-bind, gives-within, PlacesTo, places-unless, places-at, places-then}
 use Rattle.rules.specs.Records.{Rec, records, tableFollows}
-use Rattle.rules.specs.Plan.{Plan, readPlan}
-use Rattle.rules.specs.Traffic.{basic}
+use Rattle.rules.specs.Plan.{Plan}
+use Rattle.rules.specs.Traffic.{traffic, readIn}
 use Rattle.rules.specs.Limits.{mostNodes, mostFrames}
 use Rattle.rules.specs.Frames.{Pair, pairs, controlRows, Layout, layoutOf, layout}
-use Rattle.rules.specs.Checker.{
-  TableRead,
-  tableOf,
-  headerRight,
-  controlKept,
-  noRow,
-  rowAt,
-  isPairOf,
-  namedIn,
-  namesNew,
-  timeKept,
-  releaseKept,
-  deadlineKept,
-  gapKept,
-  lastKept,
-  firstRow,
-  lastRow,
-  rowsKeep,
-  shaped,
-  timed,
-  judged,
-  Passed,
-  checkFiles,
-  located,
-}
+use Rattle.rules.specs.Checker.{TableRead, tableOf, headerRight, controlKept, noRow, rowAt, isPairOf, namedIn, namesNew, timeKept, releaseKept, deadlineKept, gapKept, lastKept, firstRow, lastRow, rowsKeep, shaped, timed, judged, Passed, checkFiles, located, isForConsumers}
 use Rattle.rules.specs.Obeys.{HeaderIsRight, IsFixed}
-use Rattle.rules.proofs.PlanKept.{PlanKept, readable-kept}
+use Rattle.rules.proofs.PlanKept.{PlanKept}
 use Rattle.rules.proofs.LaidOut.{LaidOut, laid-out, control-count}
 use Rattle.rules.proofs.CheckerExact.{NamedFound, named-found, shapeRules, shaped-exact, sorted-pairs}
 use Rattle.rules.proofs.SingleRows.{Single, table-single, singleNew, new-single}
-use Rattle.rules.proofs.RefusalNumbers.{plan-gives, layout-gives, records-give, shaped-gives, timed-gives}
+use Rattle.rules.proofs.RefusalNumbers.{layout-gives, records-give, shaped-gives, timed-gives, read-gives}
+use Rattle.rules.proofs.Editions.{readable-kept-in}
 
 -- ---- the checker goes on from there
 
 abbrev passedOf : Plan → Layout → TableRead → Passed
-passedOf p l t = record { plan = p; traffic = basic p; layout = l; table = t }
+passedOf p l t = record { plan = p; traffic = traffic p; layout = l; table = t }
 
 -- 25 to 28 of a table that is located
 abbrev pub thenTimed : Passed → Res Passed
@@ -82,7 +59,7 @@ by-layout p table (refuse n q) = refl
 
 pub located-then : (plan table : List ℕ) → checkFiles plan table ≡ _>>=_ (located plan table) thenTimed
 unfolding checkFiles located
-located-then plan table = by-plan (readPlan plan)
+located-then plan table = by-plan (readIn (isForConsumers table) plan)
   where
     by-plan : (m : Res Plan)
         → _>>=_ m (λ p. _>>=_ (layout p)
@@ -104,7 +81,7 @@ passed-located plan table c e =
 pub located-gives : (plan table : List ℕ) → Gives 1 24 (located plan table)
 unfolding located
 located-gives plan table =
-    gives-bind (gives-within (lit≤ tt) (lit≤ tt) (plan-gives plan)) λ p.
+    gives-bind (gives-within (lit≤ tt) (lit≤ tt) (read-gives (isForConsumers table) plan)) λ p.
     gives-bind (gives-within (lit≤ tt) (lit≤ tt) (layout-gives p)) λ l.
     gives-bind (gives-within (lit≤ tt) (lit≤ tt) (records-give tableFollows 20 table)) λ rs.
     gives-then (gives-within (lit≤ tt) (lit≤ tt) (shaped-gives l (tableOf rs))) (gives-ok _)
@@ -167,9 +144,9 @@ timed-places l t =
 -- ---- what is located
 
 pub record LocatedAs (plan table : List ℕ) (c : Passed) : Type 0 where
-  pub isRead : readPlan plan ≡ ok (c .plan)
+  pub isRead : readIn (isForConsumers table) plan ≡ ok (c .plan)
   pub isLaid : layout (c .plan) ≡ ok (c .layout)
-  pub traffic : basic (c .plan) ≡ c .traffic
+  pub traffic : traffic (c .plan) ≡ c .traffic
   pub rs : List Rec
   pub areRecords : records tableFollows 20 table ≡ ok rs
   pub isTable : tableOf rs ≡ c .table
@@ -178,7 +155,7 @@ pub record LocatedAs (plan table : List ℕ) (c : Passed) : Type 0 where
 pub located-as : (plan table : List ℕ) (c : Passed) → located plan table ≡ ok c → LocatedAs plan table c
 unfolding located
 located-as plan table c e =
-    bind-case (readPlan plan) _ e λ p isRead e₁.
+    bind-case (readIn (isForConsumers table) plan) _ e λ p isRead e₁.
     bind-case (layout p) _ e₁ λ l isLaid e₂.
     bind-case (records tableFollows 20 table) _ e₂ λ rs areRecords e₃.
     then-case (shaped l (tableOf rs)) _ e₃ λ u isShaped e₄.
@@ -211,7 +188,7 @@ rows-kept l t e =
 
 module _ {plan table : List ℕ} {c : Passed} (h : LocatedAs plan table c) where
   pub plan-kept : PlanKept (c .plan)
-  plan-kept = readable-kept plan (c .plan) (h .isRead)
+  plan-kept = readable-kept-in (isForConsumers table) plan (c .plan) (h .isRead)
 
   pub plan-laid : LaidOut (c .plan) (c .layout)
   plan-laid = laid-out (c .plan) (c .layout) (h .isLaid)

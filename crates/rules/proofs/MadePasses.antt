@@ -1,7 +1,7 @@
 -- MadePasses: a table whose rows are placed well passes the checker, and both have the same frame rows (`well-passes`). The latest-release
 -- rule places well, so whatever `make` makes, `check` passes.
 use mathlib.Core.Path.{_≡_, refl, sym, ap, _∙_, subst}
-use mathlib.Core.Bool.{true}
+use mathlib.Core.Bool.{Bool, true}
 use mathlib.Core.List.{List, [], _∷_, map, List·Memᴰ, List·Memᴰ·head, List·Memᴰ·tail}
 use mathlib.Core.Logic.{_⊎_, inl, inr}
 use native.Mathlib.Omega.{arith}
@@ -17,31 +17,16 @@ use Rattle.laws.proofs.Orders.{le-or-lt}
 use Rattle.laws.proofs.Members.{All, Pairs, all-weaker, all-of-members, all-getD, all-map}
 use Rattle.rules.specs.Limits.{mostFrames}
 use Rattle.rules.specs.Records.{Rec, tableFollows}
-use Rattle.rules.specs.Plan.{Plan, readPlan}
-use Rattle.rules.specs.Traffic.{basic}
+use Rattle.rules.specs.Plan.{Plan}
+use Rattle.rules.specs.Traffic.{readIn, traffic}
 use Rattle.rules.specs.Frames.{isOne, Layout, layout, layoutOf, pairs, controlEnd}
 use Rattle.rules.specs.LatestRelease.{Numbered, Placed, noPair, latestRelease}
-use Rattle.rules.specs.Table.{
-  PlacedRow,
-  pairOfNumbered,
-  heldIn,
-  pairsIn,
-  alone,
-  dataRow,
-  tableBytes,
-  longestTable,
-  FrameRow,
-  rowsFrom,
-  rowsThenZero,
-  MadeTable,
-  madeTable,
-  tableFor,
-  outcome,
-  make,
-}
-use Rattle.rules.specs.Checker.{nameOf, rowOf, tableOf, Passed, checkFiles, checkedRow, check}
+use Rattle.rules.specs.Table.{PlacedRow, pairOfNumbered, heldIn, pairsIn, alone, dataRow, tableBytes, longestTable, FrameRow, rowsFrom, rowsThenZero, MadeTable, madeTable, tableFor, outcome, make, recordBytes, headerBytes}
+use Rattle.rules.specs.Checker.{nameOf, rowOf, tableOf, isForConsumers, Passed, checkFiles, checkedRow, check}
 use Rattle.rules.specs.Obeys.{AreRecords, pairAt, ObeysTable, MayPass, stopOf, RowPlacedWell, numbersIn, PlacedWell}
-use Rattle.rules.proofs.PlanKept.{PlanKept, readable-kept}
+use Rattle.rules.proofs.PlanKept.{PlanKept}
+use Rattle.rules.proofs.Heads.{IsHead, head-of, edition-of}
+use Rattle.rules.proofs.Editions.{readable-kept-in, edition-in}
 use Rattle.rules.proofs.LaidOut.{LaidOut, laid-out, period-kept, PairKept, pairs-kept, control-kept, control-count, gap-within, end-whole}
 use Rattle.rules.proofs.PairsOf.{Before, plan-pairs}
 use Rattle.rules.proofs.Placing.{placed-well}
@@ -126,11 +111,16 @@ module _ (p : Plan) (k : PlanKept p) (h : LaidOut p (layoutOf p)) (rows : List P
         stop = omega (arith, stop, pair .deadline, period .most);
       }
 
+  its-head : IsHead (l .head)
+  unfolding layoutOf
+  its-head = head-of (p .consumers)
+
   pub table-fits : TableFits l rows
-  unfolding layoutOf basic pairs
+  unfolding layoutOf pairs
   table-fits =
       let period = period-kept p k h in
       record {
+        isHead = its-head;
         period = omega (arith, period .most);
         controls = omega (arith, control-count p, k .nodeCount .most);
         datas = omega (arith, count, h .few);
@@ -139,9 +129,9 @@ module _ (p : Plan) (k : PlanKept p) (h : LaidOut p (layoutOf p)) (rows : List P
       }
 
   pub table-short : length (tableBytes l rows) ≤ longestTable
-  unfolding layoutOf basic pairs
+  unfolding layoutOf pairs
   table-short =
-      rw (table-length l rows)
+      rw (table-length l its-head rows)
       (length-most (length (l .control)) (length rows) (omega (arith, control-count p, k .nodeCount .most)) (omega (arith, count, h .few)))
 
   sorted : Pairs Before (l .pairs)
@@ -149,12 +139,12 @@ module _ (p : Plan) (k : PlanKept p) (h : LaidOut p (layoutOf p)) (rows : List P
   sorted = plan-pairs p .sorted
 
   passes : Passes l rows
-  unfolding layoutOf controlEnd basic
+  unfolding layoutOf controlEnd
   passes =
       record {
         read = tableRecords l rows;
         areRows = table-written l rows table-fits;
-        is = table-read l rows ∙ read-placed;
+        is = table-read l rows its-head ∙ read-placed;
         obeys = well-obeys l sorted rows well (omega arith) (h .room) (omega (arith, end-whole p h)) count;
         sameRows = well-rows l sorted rows well;
       }
@@ -164,14 +154,20 @@ pub well-passes : (p : Plan) → PlanKept p → LaidOut p (layoutOf p) → (rows
     → Passes (layoutOf p) rows
 well-passes p k h rows well = passes p k h rows well
 
+-- a table that is made of a plan says its edition
+table-edition : (p : Plan) (rows : List PlacedRow) → isForConsumers (tableBytes (layoutOf p) rows) ≡ p .consumers
+unfolding tableBytes headerBytes recordBytes layoutOf
+table-edition p rows = edition-of (p .consumers) _
+
 -- The same of a plan file, in the words of the checker.
-module _ (plan : List ℕ) {p : Plan} {l : Layout} (isRead : readPlan plan ≡ ok p) (isLaid : layout p ≡ ok l) {rows : List PlacedRow} (well : PlacedWell l rows) where
+module _ (consumers : Bool) (plan : List ℕ) {p : Plan} {l : Layout} (isRead : readIn consumers plan ≡ ok p) (isLaid : layout p ≡ ok l)
+    {rows : List PlacedRow} (well : PlacedWell l rows) where
   passes-laid : Passes l rows
   passes-laid =
       let h = laid-out p l isLaid in
       let well₀ = subst (λ (l : Layout). PlacedWell l rows) (sym (h .is)) well in
       subst (λ (l : Layout). Passes l rows) (h .is)
-      (well-passes p (readable-kept plan p isRead) (subst (LaidOut p) (sym (h .is)) h) rows well₀)
+      (well-passes p (readable-kept-in consumers plan p isRead) (subst (LaidOut p) (sym (h .is)) h) rows well₀)
 
   -- it is no longer than the longest
   pub well-short : length (tableBytes l rows) ≤ longestTable
@@ -179,13 +175,19 @@ module _ (plan : List ℕ) {p : Plan} {l : Layout} (isRead : readPlan plan ≡ o
       let h = laid-out p l isLaid in
       let well₀ = subst (λ (l : Layout). PlacedWell l rows) (sym (h .is)) well in
       subst (λ (l : Layout). length (tableBytes l rows) ≤ longestTable) (h .is)
-      (table-short p (readable-kept plan p isRead) (subst (LaidOut p) (sym (h .is)) h) rows well₀)
+      (table-short p (readable-kept-in consumers plan p isRead) (subst (LaidOut p) (sym (h .is)) h) rows well₀)
+
+  -- the table says the edition of the plan
+  its-edition : isForConsumers (tableBytes l rows) ≡ consumers
+  its-edition =
+      subst (λ (l : Layout). isForConsumers (tableBytes l rows) ≡ consumers) (laid-out p l isLaid .is)
+      (table-edition p rows ∙ edition-in consumers plan p isRead)
 
   may-pass : MayPass plan (tableBytes l rows)
   may-pass =
       record {
         read = p;
-        isRead = isRead;
+        isRead = rw its-edition isRead;
         laid = l;
         isLaid = isLaid;
         rows = passes-laid .read;
@@ -194,7 +196,7 @@ module _ (plan : List ℕ) {p : Plan} {l : Layout} (isRead : readPlan plan ≡ o
       }
 
   -- what the checker hands on is what was laid out and placed
-  pub well-checked : checkFiles plan (tableBytes l rows) ≡ ok (record { plan = p; traffic = basic p; layout = l; table = tablePlaced l rows })
+  pub well-checked : checkFiles plan (tableBytes l rows) ≡ ok (record { plan = p; traffic = traffic p; layout = l; table = tablePlaced l rows })
   unfolding may-pass
   well-checked = passed-passes plan (tableBytes l rows) may-pass ∙ rw (passes-laid .is)
 
@@ -205,9 +207,9 @@ module _ (plan : List ℕ) {p : Plan} {l : Layout} (isRead : readPlan plan ≡ o
 
 -- ---- what was made
 
-pub record TableMade (plan : List ℕ) (room : ℕ) (t : MadeTable) : Type 0 where
+pub record TableMade (consumers : Bool) (plan : List ℕ) (room : ℕ) (t : MadeTable) : Type 0 where
   pub read : Plan
-  pub isRead : readPlan plan ≡ ok read
+  pub isRead : readIn consumers plan ≡ ok read
   pub laid : Layout
   pub isLaid : layout read ≡ ok laid
   pub placed : List Placed
@@ -215,10 +217,11 @@ pub record TableMade (plan : List ℕ) (room : ℕ) (t : MadeTable) : Type 0 whe
   pub fits : length (tableBytes laid (map alone placed)) ≤ room
   pub is : madeTable laid (map alone placed) ≡ t
 
-pub table-made : (plan : List ℕ) (room : ℕ) (t : MadeTable) → tableFor plan room ≡ ok t → TableMade plan room t
+pub table-made : (consumers : Bool) (plan : List ℕ) (room : ℕ) (t : MadeTable) → tableFor consumers plan room ≡ ok t
+    → TableMade consumers plan room t
 unfolding tableFor madeTable
-table-made plan room t e =
-    bind-case (readPlan plan) _ e λ p isRead e₁.
+table-made consumers plan room t e =
+    bind-case (readIn consumers plan) _ e λ p isRead e₁.
     bind-case (layout p) _ e₁ λ l isLaid e₂.
     bind-case (latestRelease l) _ e₂ λ placed rule e₃.
     let n = length (tableBytes l (map alone placed)) in
@@ -242,7 +245,7 @@ rule-well p l isLaid placed rule =
     let rule₀ : latestRelease (layoutOf p) ≡ ok placed = rw is rule in
     subst (λ (l : Layout). PlacedWell l (map alone placed)) is (placed-well (layoutOf p) (gap-within p) (λ f. refl) placed rule₀)
 
-module _ {plan : List ℕ} {room : ℕ} {t : MadeTable} (m : TableMade plan room t) where
+module _ {consumers : Bool} {plan : List ℕ} {room : ℕ} {t : MadeTable} (m : TableMade consumers plan room t) where
   abbrev rowsOf : List PlacedRow
   rowsOf = map alone (m .placed)
 
@@ -254,18 +257,19 @@ module _ {plan : List ℕ} {room : ℕ} {t : MadeTable} (m : TableMade plan room
   bytes-are = ap (λ (t : MadeTable). t .table) (m .is)
 
   pub made-passed : checkFiles plan (t .table)
-      ≡ ok (record { plan = m .read; traffic = basic (m .read); layout = m .laid; table = tablePlaced (m .laid) rowsOf })
-  made-passed = ap (checkFiles plan) (sym bytes-are) ∙ well-checked plan (m .isRead) (m .isLaid) wellOf
+      ≡ ok (record { plan = m .read; traffic = traffic (m .read); layout = m .laid; table = tablePlaced (m .laid) rowsOf })
+  made-passed = ap (checkFiles plan) (sym bytes-are) ∙ well-checked consumers plan (m .isRead) (m .isLaid) wellOf
 
   pub made-checked : (lent : List FrameRow) → mostFrames ≤ length lent
       → check plan (t .table) lent ≡ record { answer = ok tt; rows = rowsThenZero (t .rows) (length lent) }
   made-checked lent w =
-      ap (λ (table : List ℕ). check plan table lent) (sym bytes-are) ∙ well-checks plan (m .isRead) (m .isLaid) wellOf lent w
+      ap (λ (table : List ℕ). check plan table lent) (sym bytes-are) ∙ well-checks consumers plan (m .isRead) (m .isLaid) wellOf lent w
       ∙ rw (m .is)
 
 -- Whatever the maker makes passes the checker.
-pub made-passes : (plan : List ℕ) (room : ℕ) (t : MadeTable) → tableFor plan room ≡ ok t → (c : Passed) × (checkFiles plan (t .table) ≡ ok c)
-made-passes plan room t e = (_, made-passed (table-made plan room t e))
+pub made-passes : (consumers : Bool) (plan : List ℕ) (room : ℕ) (t : MadeTable) → tableFor consumers plan room ≡ ok t
+    → (c : Passed) × (checkFiles plan (t .table) ≡ ok c)
+made-passes consumers plan room t e = (_, made-passed (table-made consumers plan room t e))
 
 -- ---- make and check
 
@@ -274,12 +278,12 @@ outcome-case : {C : Type 0} (r : Res MadeTable) (rows : List FrameRow) (buffer :
 outcome-case (ok t) rows buffer n e f = f t refl (ok-injective e)
 outcome-case (refuse m p) rows buffer n e f = refuse≢ok e
 
-module _ (plan : List ℕ) (rows : List FrameRow) (buffer : List ℕ) where
-  pub make-enough : mostFrames ≤ length rows → make plan rows buffer ≡ outcome (tableFor plan (length buffer)) rows buffer
+module _ (consumers : Bool) (plan : List ℕ) (rows : List FrameRow) (buffer : List ℕ) where
+  pub make-enough : mostFrames ≤ length rows → make consumers plan rows buffer ≡ outcome (tableFor consumers plan (length buffer)) rows buffer
   unfolding make
   make-enough h = rw (le-leb mostFrames (length rows) h, make)
 
-  pub make-short : length rows < mostFrames → make plan rows buffer ≡ record { answer = refuse 19 mostFrames; rows = rows; buffer = buffer }
+  pub make-short : length rows < mostFrames → make consumers plan rows buffer ≡ record { answer = refuse 19 mostFrames; rows = rows; buffer = buffer }
   unfolding make
   make-short h = rw (lt-leb mostFrames (length rows) h, make)
 
@@ -287,14 +291,14 @@ module _ (plan : List ℕ) (rows : List FrameRow) (buffer : List ℕ) where
   pub record MakeGave (n : ℕ) : Type 0 where
     pub lent : mostFrames ≤ length rows
     pub table : MadeTable
-    pub made : tableFor plan (length buffer) ≡ ok table
+    pub made : tableFor consumers plan (length buffer) ≡ ok table
     pub long : length (table .table) ≡ n
-    pub front : take n (make plan rows buffer .buffer) ≡ table .table
-    pub rowsAre : make plan rows buffer .rows ≡ rowsThenZero (table .rows) (length rows)
+    pub front : take n (make consumers plan rows buffer .buffer) ≡ table .table
+    pub rowsAre : make consumers plan rows buffer .rows ≡ rowsThenZero (table .rows) (length rows)
 
-  gave : (n : ℕ) → mostFrames ≤ length rows → make plan rows buffer .answer ≡ ok n → MakeGave n
+  gave : (n : ℕ) → mostFrames ≤ length rows → make consumers plan rows buffer .answer ≡ ok n → MakeGave n
   gave n h e =
-      outcome-case (tableFor plan (length buffer)) rows buffer n (rw (make-enough h) at e) λ t made long.
+      outcome-case (tableFor consumers plan (length buffer)) rows buffer n (rw (make-enough h) at e) λ t made long.
       record {
         lent = h;
         table = t;
@@ -304,24 +308,24 @@ module _ (plan : List ℕ) (rows : List FrameRow) (buffer : List ℕ) where
         rowsAre = rw (make-enough h, made);
       }
 
-  gave-any : (mostFrames ≤ length rows) ⊎ (length rows < mostFrames) → (n : ℕ) → make plan rows buffer .answer ≡ ok n → MakeGave n
+  gave-any : (mostFrames ≤ length rows) ⊎ (length rows < mostFrames) → (n : ℕ) → make consumers plan rows buffer .answer ≡ ok n → MakeGave n
   gave-any (inl h) n e = gave n h e
   gave-any (inr h) n e = let f : refuse 19 mostFrames ≡ ok n = rw (make-short h) at e in refuse≢ok f
 
-  pub make-gave : (n : ℕ) → make plan rows buffer .answer ≡ ok n → MakeGave n
+  pub make-gave : (n : ℕ) → make consumers plan rows buffer .answer ≡ ok n → MakeGave n
   make-gave n e = gave-any (le-or-lt mostFrames (length rows)) n e
 
   -- Whatever `make` makes passes `check`, with enough rows lent.
-  pub made-checks : (n : ℕ) → make plan rows buffer .answer ≡ ok n → (lent : List FrameRow) → mostFrames ≤ length lent
-      → check plan (take n (make plan rows buffer .buffer)) lent .answer ≡ ok tt
+  pub made-checks : (n : ℕ) → make consumers plan rows buffer .answer ≡ ok n → (lent : List FrameRow) → mostFrames ≤ length lent
+      → check plan (take n (make consumers plan rows buffer .buffer)) lent .answer ≡ ok tt
   made-checks n e lent w =
       let g = make-gave n e in
-      rw (g .front, made-checked (table-made plan (length buffer) (g .table) (g .made)) lent w)
+      rw (g .front, made-checked (table-made consumers plan (length buffer) (g .table) (g .made)) lent w)
 
   -- Both leave the same frame rows.
-  pub made-rows-agree : (n : ℕ) → make plan rows buffer .answer ≡ ok n → (lent : List FrameRow) → length lent ≡ length rows
-      → check plan (take n (make plan rows buffer .buffer)) lent .rows ≡ make plan rows buffer .rows
+  pub made-rows-agree : (n : ℕ) → make consumers plan rows buffer .answer ≡ ok n → (lent : List FrameRow) → length lent ≡ length rows
+      → check plan (take n (make consumers plan rows buffer .buffer)) lent .rows ≡ make consumers plan rows buffer .rows
   made-rows-agree n e lent q =
       let g = make-gave n e in
       let w : mostFrames ≤ length lent = omega (arith, g .lent) in
-      rw (g .front, made-checked (table-made plan (length buffer) (g .table) (g .made)) lent w, g .rowsAre, q)
+      rw (g .front, made-checked (table-made consumers plan (length buffer) (g .table) (g .made)) lent w, g .rowsAre, q)

@@ -23,18 +23,18 @@ wellNamed (ranges w low high ∷ fs) = wellNamed fs
 wellNamed (free w ∷ fs) = wellNamed fs
 
 -- a kind of which the table says nothing has no numbers
-pub unlisted : (kind : ℕ) → 19 ≤ kind → fields kind ≡ []
+pub unlisted : (kind : ℕ) → 21 ≤ kind → fields kind ≡ []
 unfolding fields kinds
 unlisted kind h = ap orNone (List·getD-eq-default kinds none h)
 
-well-named : (k : ℕ) → k < 19 → wellNamed (fields k) ≡ true
+well-named : (k : ℕ) → k < 21 → wellNamed (fields k) ≡ true
 unfolding wellNamed isNamed fields kinds
-well-named = below (λ k. wellNamed (fields k)) 19 refl
+well-named = below (λ k. wellNamed (fields k)) 21 refl
 
-well-named-if : (k : ℕ) (c : Bool) → ltb k 19 ≡ c → wellNamed (fields k) ≡ true
+well-named-if : (k : ℕ) (c : Bool) → ltb k 21 ≡ c → wellNamed (fields k) ≡ true
 unfolding wellNamed
-well-named-if k true e = well-named k (ltb-true k 19 e)
-well-named-if k false e = rw (unlisted k (ltb-false k 19 e))
+well-named-if k true e = well-named k (ltb-true k 21 e)
+well-named-if k false e = rw (unlisted k (ltb-false k 21 e))
 
 module _ (f g : ℕ → ℕ) (nodes : f 2 ≡ g 2) (modules : f 3 ≡ g 3) (modes : f 4 ≡ g 4) (tasks : f 5 ≡ g 5) where
   same-if : (k : ℕ) (a b c d : Bool) → eqb k 2 ≡ a → eqb k 3 ≡ b → eqb k 4 ≡ c → eqb k 5 ≡ d → (a || (b || (c || d))) ≡ true → f k ≡ g k
@@ -59,4 +59,4 @@ module _ (f g : ℕ → ℕ) (nodes : f 2 ≡ g 2) (modules : f 3 ≡ g 3) (mode
 
   pub named-alike : (r : Rec) → namesAreThere f r ≡ namesAreThere g r
   unfolding namesAreThere
-  named-alike r = passes-alike (fields (r .kind)) (r .numbers) (well-named-if (r .kind) (ltb (r .kind) 19) refl)
+  named-alike r = passes-alike (fields (r .kind)) (r .numbers) (well-named-if (r .kind) (ltb (r .kind) 21) refl)

@@ -9,7 +9,7 @@ use Prim.Native.Nat.{_≤_, _<_, Ordering, Ordering·lt, Ordering·eq, Ordering�
 use Rattle.laws.proofs.Members.{All, empty, also, Pairs, alone, before, all-member, all-weaker}
 use Rattle.laws.proofs.Orders.{lt≢eq, lt≢gt, eq≢gt, compare-less, compare-same, compare-case, less-of, same-of, more-of, sorted-unique, le-or-lt}
 use Rattle.rules.specs.Plan.{Plan}
-use Rattle.rules.specs.Traffic.{Message, basic}
+use Rattle.rules.specs.Traffic.{Message, traffic}
 use Rattle.rules.specs.Frames.{Pair, pairOf, pairOrder, merged, byOrder, withPair, pairsOf, pairs}
 
 -- ---- what the pairs of messages are; a message is here the pair that it would be alone
@@ -215,9 +215,9 @@ unfolding pairsOf
 pairs-of [] = record { sorted = alone; comes = λ f i. i; covered = λ m i. absurd (List·Memᴰ·not-nil i) }
 pairs-of (m ∷ ms) = insert-pair (pairOf m) (map pairOf ms) (pairsOf ms) (pairs-of ms)
 
-pub plan-pairs : (p : Plan) → IsPairsOf (map pairOf (basic p .messages)) (pairs p)
+pub plan-pairs : (p : Plan) → IsPairsOf (map pairOf (traffic p .messages)) (pairs p)
 unfolding pairs
-plan-pairs p = pairs-of (basic p .messages)
+plan-pairs p = pairs-of (traffic p .messages)
 
 -- a pair stands once
 pub one-of-a-pair : {fs : List Pair} → Pairs Before fs → (a b : Pair) → List·Memᴰ a fs → List·Memᴰ b fs → a .task ≡ b .task

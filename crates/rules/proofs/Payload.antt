@@ -15,7 +15,7 @@ use Rattle.laws.proofs.Faults.{by-fails}
 use Rattle.laws.proofs.Members.{All, empty, also, Pairs, alone, before, all-weaker, all-member, all-getD, all-of-members, all-map, keep-passes, keep-nothing, keep-member, member-map, member-tab, pairs-weaker}
 use Rattle.laws.proofs.Sums.{greatest-least, greatest-above, sum-one, kept-above, kept-one}
 use Rattle.rules.specs.Plan.{Plan, noTask, theMode, theTask}
-use Rattle.rules.specs.Traffic.{Message, basic}
+use Rattle.rules.specs.Traffic.{Message, traffic}
 use Rattle.rules.specs.Frames.{Pair, pairs, pairSize, hasOf, bytesIn, isModeIn, block, payload, sendingTime, rowTime, layoutOf}
 use Rattle.rules.specs.LatestRelease.{timeAlone}
 use Rattle.rules.proofs.PlanKept.{PlanKept}
@@ -33,7 +33,7 @@ pub record IsOf (p : Plan) (m : ℕ) (f : Pair) : Type 0 where
 
 module _ (p : Plan) (kept : PlanKept p) where
   abbrev sent : List Message
-  sent = basic p .messages
+  sent = traffic p .messages
 
   -- in a mode of another module there is nothing of them
   nothing-in : {m : ℕ} {fs : List Pair} → All (IsOf p m) fs → (μ : ℕ) → (theMode p μ .home ≡ m → ⊥) → bytesIn p sent fs μ ≡ 0
@@ -82,13 +82,13 @@ module _ (p : Plan) (kept : PlanKept p) where
       (greatest-least (all-map (pairSize p) (all-of-members fs (λ f a. some-in fs f (all-member own a) a))))
 
   -- pairs of one module, no two with a mode in common
-  pub payload-modes : (m : ℕ) (fs : List Pair) → m < length (p .modules) → All (IsOf p m) fs → Pairs (Apart (basic p .messages)) fs
-      → payload p (basic p .messages) fs ≡ greatest (map (pairSize p) fs)
+  pub payload-modes : (m : ℕ) (fs : List Pair) → m < length (p .modules) → All (IsOf p m) fs → Pairs (Apart (traffic p .messages)) fs
+      → payload p (traffic p .messages) fs ≡ greatest (map (pairSize p) fs)
   unfolding payload
   payload-modes m fs w own apart = sum-one (block p sent fs) m (length (p .modules)) w (other-block own) ∙ own-block own apart
 
   -- one pair
-  pub payload-one : (f : Pair) → List·Memᴰ f (pairs p) → payload p (basic p .messages) (f ∷ []) ≡ theTask p (f .task) .size
+  pub payload-one : (f : Pair) → List·Memᴰ f (pairs p) → payload p (traffic p .messages) (f ∷ []) ≡ theTask p (f .task) .size
   unfolding pairSize theTask
   payload-one f a =
       let home = all-getD noTask (kept .tasks) (f .task) (all-member (pairs-kept p kept) a .task) .home in

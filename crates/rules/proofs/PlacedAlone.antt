@@ -10,7 +10,7 @@ use Rattle.laws.specs.Res.{ok}
 use Rattle.laws.specs.Lists.{joined}
 use Rattle.laws.proofs.Members.{All, empty, also, all-weaker, all-of-members, all-unmap, member-getD}
 use Rattle.rules.specs.Plan.{Plan, theTask}
-use Rattle.rules.specs.Traffic.{basic, busPeriod}
+use Rattle.rules.specs.Traffic.{traffic, busPeriod}
 use Rattle.rules.specs.Frames.{Pair, pairs, sendingTime, gapTime, cycleEnd, controlEnd, Layout, layoutOf}
 use Rattle.rules.specs.LatestRelease.{numberedFrom, Placed, noPair, place, timeAlone, latestRelease}
 use Rattle.rules.specs.Table.{
@@ -46,7 +46,7 @@ rowAlone time x =
 
 unfoldable pub bytesAlone : Layout → (Pair → ℕ) → List Placed → List ℕ
 bytesAlone l time placed =
-    headerBytes (l .period) (length (l .control)) (length placed)
+    headerBytes (l .head) (l .period) (length (l .control)) (length placed)
     ++ (joined (map controlBytes (l .control)) ++ (joined (map dataBytes (map (rowAlone time) placed)) ++ (0 ∷ [])))
 
 -- the start of the pair with this number
@@ -103,13 +103,13 @@ numbered-all k (also q r) = also q (numbered-all (suc k) r)
 module _ (p : Plan) (kept : PlanKept p) where
   -- the rule with these times
   pub rule-alone : latestRelease (layoutOf p)
-      ≡ place (p .bus .resolution) (gapTime (p .bus)) (controlEnd p) (pairTime p) (length (pairs p)) (cycleEnd (p .bus) (busPeriod p))
+      ≡ place (p .bus .resolution) (gapTime (p .bus)) (controlEnd p) (pairTime p) (length (pairs p)) (cycleEnd (p .bus) (traffic p .period))
       (numberedFrom 0 (pairs p)) []
-  unfolding latestRelease layoutOf basic pairs
+  unfolding latestRelease layoutOf traffic pairs
   rule-alone =
       let left = numberedFrom 0 (pairs p) in
       rw (← length-numbered 0 (pairs p))
-      (place-same (p .bus .resolution) (gapTime (p .bus)) (controlEnd p) (timeAlone (layoutOf p)) (pairTime p) (cycleEnd (p .bus) (busPeriod p)) left
+      (place-same (p .bus .resolution) (gapTime (p .bus)) (controlEnd p) (timeAlone (layoutOf p)) (pairTime p) (cycleEnd (p .bus) (traffic p .period)) left
       (numbered-distinct 0 (pairs p))
       (numbered-all 0 (all-of-members (pairs p) (time-alone p kept))))
 

@@ -58,7 +58,7 @@ use Rattle.rules.specs.Plan.{
   rule5,
   readPlan,
 }
-use Rattle.rules.specs.Traffic.{taskNode, invokes, leaves, isBusTask, busTasks, busPeriod, switchGrid, controlPayload, isSendingNode, sendingNodes, basic}
+use Rattle.rules.specs.Traffic.{taskNode, invokes, leaves, isBusTask, busTasks, busPeriod, switchGrid, controlPayload, isSendingNode, sendingNodes, traffic}
 use Rattle.rules.specs.Frames.{Layout, pairs, controlEnd, someBusTask, messageFits, controlFits, payloadsFit, layoutOf, layout}
 use Rattle.rules.specs.Obeys.{AreRecords, theEnd, oneMore}
 use Rattle.rules.specs.ObeysPlan.{
@@ -335,7 +335,7 @@ module _ (p : Plan) where
 
   -- the tests alone, and what follows the first of them
   abbrev from11 : Res (Unit {0})
-  from11 = unless 11 0 (leb (controlEnd p) (busPeriod p))
+  from11 = unless 11 0 (leb (controlEnd p) (traffic p .period))
 
   abbrev from10 : Res (Unit {0})
   from10 = _>>_ (unless 10 0 (payloadsFit p)) from11
@@ -344,10 +344,10 @@ module _ (p : Plan) where
   from9 = _>>_ (unless 9 0 (leb (length (pairs p)) mostFrames)) from10
 
   abbrev from8 : Res (Unit {0})
-  from8 = _>>_ (unless 8 0 (divides (p .bus .resolution) (busPeriod p))) from9
+  from8 = _>>_ (unless 8 0 (divides (p .bus .resolution) (traffic p .period))) from9
 
   abbrev from7 : Res (Unit {0})
-  from7 = _>>_ (unless 7 0 (divides (busPeriod p) (switchGrid p))) from8
+  from7 = _>>_ (unless 7 0 (divides (traffic p .period) (traffic p .grid))) from8
 
   abbrev from6 : Res (Unit {0})
   from6 = _>>_ (unless 6 0 (someBusTask p)) from7
@@ -355,19 +355,19 @@ module _ (p : Plan) where
   layout-judged : Exact from6 (layoutRules p)
   layout-judged =
       exact-then (exact-once 6 0 some-means) λ h₆.
-      exact-then (exact-once 7 0 (by-divides (busPeriod p) (switchGrid p))) λ h₇.
-      exact-then (exact-once 8 0 (by-divides (p .bus .resolution) (busPeriod p))) λ h₈.
+      exact-then (exact-once 7 0 (by-divides (traffic p .period) (traffic p .grid))) λ h₇.
+      exact-then (exact-once 8 0 (by-divides (p .bus .resolution) (traffic p .period))) λ h₈.
       exact-then (exact-once 9 0 (by-le (length (pairs p)) mostFrames)) λ h₉.
       exact-then (exact-once 10 0 payloads-mean) λ h₁₀.
-      exact-once 11 0 (by-le (controlEnd p) (busPeriod p))
+      exact-once 11 0 (by-le (controlEnd p) (traffic p .period))
 
   layout-grouped : _>>_ from6 (ok (layoutOf p)) ≡ layout p
-  unfolding layout basic
+  unfolding layout traffic
   layout-grouped =
       rw (
         then-assoc (unless 6 0 (someBusTask p)) from7 (ok (layoutOf p)),
-        then-assoc (unless 7 0 (divides (busPeriod p) (switchGrid p))) from8 (ok (layoutOf p)),
-        then-assoc (unless 8 0 (divides (p .bus .resolution) (busPeriod p))) from9 (ok (layoutOf p)),
+        then-assoc (unless 7 0 (divides (traffic p .period) (traffic p .grid))) from8 (ok (layoutOf p)),
+        then-assoc (unless 8 0 (divides (p .bus .resolution) (traffic p .period))) from9 (ok (layoutOf p)),
         then-assoc (unless 9 0 (leb (length (pairs p)) mostFrames)) from10 (ok (layoutOf p)),
         then-assoc (unless 10 0 (payloadsFit p)) from11 (ok (layoutOf p)),
       )

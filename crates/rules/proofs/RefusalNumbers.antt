@@ -30,29 +30,10 @@ use Rattle.rules.specs.Plan.{
   readPlan,
 }
 use Rattle.rules.specs.Limits.{mostFrames}
-use Rattle.rules.specs.Traffic.{basic}
+use Rattle.rules.specs.Traffic.{traffic, planIn, readIn}
 use Rattle.rules.specs.Frames.{someBusTask, pairs, payloadsFit, controlEnd, Layout, layout, layoutOf}
 use Rattle.rules.specs.LatestRelease.{latestRelease}
-use Rattle.rules.specs.Checker.{
-  TableRead,
-  headerRight,
-  controlKept,
-  namesNew,
-  timeKept,
-  releaseKept,
-  deadlineKept,
-  gapKept,
-  lastKept,
-  firstRow,
-  lastRow,
-  shaped,
-  timed,
-  judged,
-  tableOf,
-  Passed,
-  checkFiles,
-  rowsKeep,
-}
+use Rattle.rules.specs.Checker.{TableRead, headerRight, controlKept, namesNew, timeKept, releaseKept, deadlineKept, gapKept, lastKept, firstRow, lastRow, shaped, timed, judged, tableOf, Passed, checkFiles, rowsKeep, isForConsumers}
 use Rattle.rules.proofs.RecordsExact.{records-refused}
 use Rattle.rules.proofs.RuleSteps.{rule-twelve}
 
@@ -81,15 +62,19 @@ plan-gives file =
     gives-bind (gives-within (lit≤ tt) (lit≤ tt) (records-give planFollows 1 file)) λ rs.
     gives-within (lit≤ tt) (lit≤ tt) (from-gives rs)
 
+pub read-gives : (consumers : Bool) (file : List ℕ) → Gives 1 5 (readIn consumers file)
+unfolding readIn
+read-gives consumers file = gives-bind (plan-gives file) λ p. gives-ok (planIn consumers p)
+
 pub layout-gives : (p : Plan) → Gives 6 11 (layout p)
 unfolding layout
 layout-gives p =
     gives-then (gives-unless 6 0 (someBusTask p) (lit≤ tt) (lit≤ tt))
-    (gives-then (gives-unless 7 0 (divides (basic p .period) (basic p .grid)) (lit≤ tt) (lit≤ tt))
-    (gives-then (gives-unless 8 0 (divides (p .bus .resolution) (basic p .period)) (lit≤ tt) (lit≤ tt))
+    (gives-then (gives-unless 7 0 (divides (traffic p .period) (traffic p .grid)) (lit≤ tt) (lit≤ tt))
+    (gives-then (gives-unless 8 0 (divides (p .bus .resolution) (traffic p .period)) (lit≤ tt) (lit≤ tt))
     (gives-then (gives-unless 9 0 (leb (length (pairs p)) mostFrames) (lit≤ tt) (lit≤ tt))
     (gives-then (gives-unless 10 0 (payloadsFit p) (lit≤ tt) (lit≤ tt))
-    (gives-then (gives-unless 11 0 (leb (controlEnd p) (basic p .period)) (lit≤ tt) (lit≤ tt)) (gives-ok (layoutOf p)))))))
+    (gives-then (gives-unless 11 0 (leb (controlEnd p) (traffic p .period)) (lit≤ tt) (lit≤ tt)) (gives-ok (layoutOf p)))))))
 
 pub rule-gives : (l : Layout) → Gives 12 12 (latestRelease l)
 rule-gives l = record { number = λ n p e. let same = rule-twelve l n p e in (omega (arith, same), omega (arith, same)) }
@@ -119,7 +104,7 @@ judged-gives l t =
 
 -- behind a plan that is read
 abbrev passing : Plan → Layout → TableRead → Res Passed
-passing p l t = _>>_ (judged l t) (ok (record { plan = p; traffic = basic p; layout = l; table = t }))
+passing p l t = _>>_ (judged l t) (ok (record { plan = p; traffic = traffic p; layout = l; table = t }))
 
 pub check-gives : (p : Plan) (table : List ℕ)
     → Gives 6 28 (_>>=_ (layout p) (λ l. _>>=_ (records tableFollows 20 table) (λ rs. passing p l (tableOf rs))))
@@ -131,5 +116,5 @@ check-gives p table =
 pub passed-gives : (plan table : List ℕ) → Gives 1 28 (checkFiles plan table)
 unfolding checkFiles
 passed-gives plan table =
-    gives-bind (gives-within (lit≤ tt) (lit≤ tt) (plan-gives plan)) λ p.
+    gives-bind (gives-within (lit≤ tt) (lit≤ tt) (read-gives (isForConsumers table) plan)) λ p.
     gives-within (lit≤ tt) (lit≤ tt) (check-gives p table)

@@ -1,5 +1,5 @@
 -- Sent: which messages a kept plan has. A mode has a message of a task with a deadline exactly when the task is a bus task, its period in
--- the mode is above 0 and divides the deadline, and the deadline lies within 1 to P. Every pair has a mode, and all its modes are of its
+-- the mode is above 0 and divides the deadline, the deadline lies within 1 to P, and the message is read. Every pair has a mode, and all its modes are of its
 -- task's module, so that pairs of two modules have no mode in common.
 use mathlib.Core.Path.{_≡_, refl, sym, ap, _∙_, subst}
 use mathlib.Core.Bool.{true, false, _&&_}
@@ -15,34 +15,18 @@ use Rattle.laws.specs.Lists.{keep}
 use Rattle.laws.specs.Numbers.{divides}
 use Rattle.laws.proofs.Lists.{true-false, both, both-left, both-right, tested}
 use Rattle.laws.proofs.Tests.{Tests, by-iff, by-itself, by-same, by-and, by-eq, by-lt, by-divides}
-use Rattle.laws.proofs.Members.{
-  All,
-  empty,
-  also,
-  all-member,
-  all-getD,
-  all-of-members,
-  all-map,
-  all-tab,
-  all-joined,
-  keep-passes,
-  keep-member,
-  keep-from,
-  any-member,
-  any-among,
-  member-map,
-  member-tab,
-  source,
-}
+use Rattle.laws.proofs.Members.{All, empty, also, all-member, all-of-members, all-map, all-tab, all-both, all-keep, all-weaker, all-joined, keep-passes, keep-member, keep-from, any-member, any-among, member-map, member-tab, source}
 use Rattle.laws.proofs.Orders.{compare-case}
 use Rattle.laws.proofs.Places.{member-place, member-joined}
-use Rattle.rules.specs.Plan.{Invocation, Plan, noTask, noInvocation, theMode, theTask, theInvocation, periodOf}
-use Rattle.rules.specs.Traffic.{isBusTask, runOf, ofBusTask, busRuns, busPeriod, Message, message, messagesOf, messages, basic, isMessage, has}
+use Rattle.rules.specs.Plan.{Invocation, Plan, noInvocation, theMode, theTask, theInvocation, periodOf}
+use Rattle.rules.specs.Traffic.{isBusTask, Run, runOf, ofBusTask, busRuns, Message, message, messagesOf, traffic, isMessage, has}
+use Rattle.rules.specs.Readers.{isReadBy, readersOf, isReadMessage, readMessagesOf, readMessages}
 use Rattle.rules.specs.Frames.{Pair, pairOf, pairs, isIn, modeOfMessage, modesOf, hasOf}
 use Rattle.rules.specs.Playing.{isRun, periodAmong, periodIn}
 use Rattle.rules.proofs.PairsOf.{release-greatest, plan-pairs}
 use Rattle.rules.proofs.PlanKept.{PlanKept}
 use Rattle.rules.proofs.Grid.{message-number}
+use Rattle.rules.proofs.Needed.{period-pos, needed-exact}
 
 -- ---- the invocation behind a run
 
@@ -110,52 +94,69 @@ module _ (p : Plan) (kept : PlanKept p) where
       which (inr n) =
           true-false (sym (both (eq-eqb (i .mode) (i .mode) refl) (eq-eqb (i .task) (i .task) refl)) ∙ all-member (n .none) m)
 
-  pub period-pos : (i : Invocation) → List·Memᴰ i (p .invocations) → 0 < periodOf p i
-  unfolding theTask
-  period-pos i m =
-      let h = all-member (kept .invocations) m in
-      let t = all-getD noTask (kept .tasks) (i .task) (h .task) in
-      omega (arith, h .worst, t .worst .least)
-
 -- ---- the messages of a plan
 
--- a message of a plan: the invocation that it is of, and its number among that one's
+-- a message of a plan: the invocation that it is of, its number among that one's, and that it is read
 pub record MessageOf (p : Plan) (m : Message) : Type 0 where
   pub one : Invocation
   pub among : List·Memᴰ one (p .invocations)
   pub bus : isBusTask p (one .task) ≡ true
   pub number : ℕ
   pub first : 0 < number
-  pub last : number ≤ busPeriod p / periodOf p one
+  pub last : number ≤ traffic p .period / periodOf p one
+  pub read : isReadBy (readersOf p (one .task)) (periodOf p one) (number * periodOf p one) ≡ true
   pub is : message (runOf p one) number ≡ m
 
-module _ (p : Plan) where
-  pub messages-of : All (MessageOf p) (basic p .messages)
-  unfolding basic messages messagesOf busRuns ofBusTask runOf
-  messages-of =
-      all-joined
-      (all-map (messagesOf (busPeriod p))
-      (all-map (runOf p)
-      (all-of-members (keep (ofBusTask p) (p .invocations)) λ i m.
-      all-tab (message (runOf p i)) 1 (busPeriod p / periodOf p i) λ k a b.
+-- a message of a run, by its number
+abbrev Numbered : ℕ → Run → Message → Type 0
+Numbered cycle r m = (k : ℕ) × (0 < k) × (k ≤ cycle / r .period) × (message r k ≡ m)
+
+numbered : (cycle : ℕ) (r : Run) → All (Numbered cycle r) (messagesOf cycle r)
+unfolding messagesOf
+numbered cycle r = all-tab (message r) 1 (cycle / r .period) (λ k a b. (k, a, omega arith, refl))
+
+module _ (p : Plan) (kept : PlanKept p) where
+  read-of : (i : Invocation) → List·Memᴰ i (p .invocations) → isBusTask p (i .task) ≡ true
+      → All (MessageOf p) (readMessagesOf (readersOf p) (traffic p .period) (runOf p i))
+  unfolding readMessagesOf isReadMessage message runOf
+  read-of i m bus =
+      let T = periodOf p i in
+      let us = readersOf p (i .task) in
+      let sent = messagesOf (traffic p .period) (runOf p i) in
+      all-weaker
+      (λ one h.
       record {
         one = i;
-        among = keep-from (ofBusTask p) (p .invocations) m;
-        bus = all-member (keep-passes (ofBusTask p) (p .invocations)) m;
-        number = k;
-        first = a;
-        last = omega arith;
-        is = refl;
-      })))
+        among = m;
+        bus = bus;
+        number = h .1 .0;
+        first = h .1 .1;
+        last = h .1 .2;
+        read = subst (λ (m : Message). isReadBy us T (m .deadline) ≡ true) (sym (h .1 .3)) (h .0);
+        is = h .1 .3;
+      })
+      (all-both (keep-passes (isReadMessage us T) sent) (all-keep (isReadMessage us T) (numbered (traffic p .period) (runOf p i))))
 
-  -- message k of an invocation of a bus task
+  pub messages-of : All (MessageOf p) (traffic p .messages)
+  unfolding readMessages busRuns ofBusTask
+  messages-of =
+      rw (needed-exact p kept)
+      (all-joined
+      (all-map (readMessagesOf (readersOf p) (traffic p .period))
+      (all-map (runOf p)
+      (all-of-members (keep (ofBusTask p) (p .invocations)) λ i m.
+      read-of i (keep-from (ofBusTask p) (p .invocations) m) (all-member (keep-passes (ofBusTask p) (p .invocations)) m)))))
+
+  -- message k of an invocation of a bus task, if it is read
   pub message-among : (i : Invocation) (k : ℕ) → List·Memᴰ i (p .invocations) → isBusTask p (i .task) ≡ true → 0 < k
-      → k ≤ busPeriod p / periodOf p i → List·Memᴰ (message (runOf p i) k) (basic p .messages)
-  unfolding basic messages messagesOf busRuns ofBusTask runOf
-  message-among i k m bus low high =
-      member-joined (map (messagesOf (busPeriod p)) (busRuns p))
-      (member-tab (message (runOf p i)) 1 (busPeriod p / periodOf p i) k low (omega arith))
-      (member-map (messagesOf (busPeriod p)) (member-map (runOf p) (keep-member (ofBusTask p) bus m)))
+      → k ≤ traffic p .period / periodOf p i → isReadBy (readersOf p (i .task)) (periodOf p i) (k * periodOf p i) ≡ true
+      → List·Memᴰ (message (runOf p i) k) (traffic p .messages)
+  unfolding readMessages readMessagesOf isReadMessage messagesOf message busRuns ofBusTask runOf
+  message-among i k m bus low high read =
+      rw (needed-exact p kept)
+      (member-joined (map (readMessagesOf (readersOf p) (traffic p .period)) (busRuns p))
+      (keep-member (isReadMessage (readersOf p (i .task)) (periodOf p i)) read (member-tab (message (runOf p i)) 1 (traffic p .period / periodOf p i) k low (omega arith)))
+      (member-map (readMessagesOf (readersOf p) (traffic p .period)) (member-map (runOf p) (keep-member (ofBusTask p) bus m))))
 
 -- ---- which messages there are
 
@@ -189,26 +190,28 @@ pub record IsSent (p : Plan) (μ t deadline : ℕ) : Type 0 where
   pub runs : 0 < periodIn p μ t
   pub due : periodIn p μ t ∣ deadline
   pub low : 0 < deadline
-  pub high : deadline ≤ busPeriod p
+  pub high : deadline ≤ traffic p .period
+  pub read : isReadBy (readersOf p t) (periodIn p μ t) deadline ≡ true
 
-module _ (p : Plan) where
-  pub such-sent : {μ t d : ℕ} → IsSent p μ t d → Such (basic p .messages) μ t d
+module _ (p : Plan) (kept : PlanKept p) where
+  pub such-sent : {μ t d : ℕ} → IsSent p μ t d → Such (traffic p .messages) μ t d
   unfolding periodIn runOf message
   such-sent {μ} {t} {d} s =
       let r = run-in p μ t (s .runs) in
       let T = periodOf p (r .one) in
       let pos : 0 < T = rw (r .period) (s .runs) in
       let e : d / T * T ≡ d = div-mul-cancel T (rw (r .period) (s .due)) in
-      let last : d / T ≤ busPeriod p / T = le-div-iff-mul-le pos .1 (rw e (s .high)) in
+      let last : d / T ≤ traffic p .period / T = le-div-iff-mul-le pos .1 (rw e (s .high)) in
       record {
         one = message (runOf p (r .one)) (d / T);
-        among = message-among p (r .one) (d / T) (r .among) (rw (r .task) (s .bus)) (message-number (d / T) T d e (s .low) .0) last;
+        among =
+            message-among p kept (r .one) (d / T) (r .among) (rw (r .task) (s .bus)) (message-number (d / T) T d e (s .low) .0) last
+            (rw (e, r .task, r .period) (s .read));
         mode = r .mode;
         task = r .task;
         due = e;
       }
 
-module _ (p : Plan) (kept : PlanKept p) where
   sent-of : {m : Message} → MessageOf p m → IsSent p (m .mode) (m .task) (m .deadline)
   unfolding message runOf
   sent-of h =
@@ -221,15 +224,16 @@ module _ (p : Plan) (kept : PlanKept p) where
         due = rw (period-is p kept (h .one) (h .among)) (dvd-mul-left T (h .number));
         low = mul-pos (h .first) pos;
         high = le-div-iff-mul-le pos .0 (h .last);
+        read = rw (period-is p kept (h .one) (h .among)) (h .read);
       } in
       subst (λ (m : Message). IsSent p (m .mode) (m .task) (m .deadline)) (h .is) sent
 
   -- a message is released its task's worst time behind the begin of its run
-  pub message-release : {m : Message} → List·Memᴰ m (basic p .messages)
+  pub message-release : {m : Message} → List·Memᴰ m (traffic p .messages)
       → m .deadline + theTask p (m .task) .worst ≡ m .release + periodIn p (m .mode) (m .task)
   unfolding message runOf
   message-release {m} a =
-      let h = all-member (messages-of p) a in
+      let h = all-member (messages-of p kept) a in
       let T = periodOf p (h .one) in
       let w = theTask p (h .one .task) .worst in
       let d = h .number * T in
@@ -239,21 +243,24 @@ module _ (p : Plan) (kept : PlanKept p) where
       omega (arith, le-of-dvd low (dvd-mul-left T (h .number)), period-is p kept (h .one) (h .among)) in
       subst (λ (m : Message). m .deadline + theTask p (m .task) .worst ≡ m .release + periodIn p (m .mode) (m .task)) (h .is) released
 
-  such-is : {μ t d : ℕ} → Such (basic p .messages) μ t d → IsSent p μ t d
-  such-is s = rw (s .mode, s .task, s .due) at (sent-of (all-member (messages-of p) (s .among)))
+  such-is : {μ t d : ℕ} → Such (traffic p .messages) μ t d → IsSent p μ t d
+  such-is s = rw (s .mode, s .task, s .due) at (sent-of (all-member (messages-of p kept) (s .among)))
 
   -- exactly these messages there are
-  pub has-means : (μ t d : ℕ) → Tests (has (basic p .messages) μ t d) (IsSent p μ t d)
-  has-means μ t d = by-iff (has-such μ t d (basic p .messages)) such-is (such-sent p)
+  pub has-means : (μ t d : ℕ) → Tests (has (traffic p .messages) μ t d) (IsSent p μ t d)
+  has-means μ t d = by-iff (has-such μ t d (traffic p .messages)) such-is such-sent
 
-  -- by division
-  pub has-is : (μ t d : ℕ) → 0 < d → d ≤ busPeriod p
-      → has (basic p .messages) μ t d ≡ (isBusTask p t && (ltb 0 (periodIn p μ t) && divides (periodIn p μ t) d))
+  -- by division, and by who reads
+  pub has-is : (μ t d : ℕ) → 0 < d → d ≤ traffic p .period
+      → has (traffic p .messages) μ t d
+      ≡ (isBusTask p t && (ltb 0 (periodIn p μ t) && (divides (periodIn p μ t) d && isReadBy (readersOf p t) (periodIn p μ t) d)))
   has-is μ t d low high =
       by-same (has-means μ t d)
-      (by-and (by-itself (isBusTask p t)) (by-and (by-lt 0 (periodIn p μ t)) (by-divides (periodIn p μ t) d)))
-      (λ s. (s .bus, (s .runs, s .due)))
-      (λ h. record { bus = h .0; runs = h .1 .0; due = h .1 .1; low = low; high = high })
+      (by-and (by-itself (isBusTask p t))
+      (by-and (by-lt 0 (periodIn p μ t))
+      (by-and (by-divides (periodIn p μ t) d) (by-itself (isReadBy (readersOf p t) (periodIn p μ t) d)))))
+      (λ s. (s .bus, (s .runs, (s .due, s .read))))
+      (λ h. record { bus = h .0; runs = h .1 .0; due = h .1 .1 .0; low = low; high = high; read = h .1 .1 .1 })
 
 -- ---- the modes of pairs
 
@@ -282,18 +289,18 @@ pub record OwnMode (p : Plan) (t μ : ℕ) : Type 0 where
 
 module _ (p : Plan) (kept : PlanKept p) where
   -- only such modes have messages of the task
-  pub own-mode : (μ t d : ℕ) → has (basic p .messages) μ t d ≡ true → OwnMode p t μ
+  pub own-mode : (μ t d : ℕ) → has (traffic p .messages) μ t d ≡ true → OwnMode p t μ
   own-mode μ t d e =
       let r = run-in p μ t (has-means p kept μ t d .says e .runs) in
       let i = all-member (kept .invocations) (r .among) in
       record { there = rw (r .mode) at (i .mode); own = rw (r .mode, r .task) at (sym (i .home)) }
 
   -- every pair has a mode
-  pub some-mode : (f : Pair) → List·Memᴰ f (pairs p) → (μ : ℕ) × (hasOf (basic p .messages) μ f ≡ true)
+  pub some-mode : (f : Pair) → List·Memᴰ f (pairs p) → (μ : ℕ) × (hasOf (traffic p .messages) μ f ≡ true)
   unfolding hasOf pairOf
   some-mode f m =
-      let s = source pairOf (basic p .messages) (plan-pairs p .comes f m) in
-      let such : Such (basic p .messages) (s .one .mode) (f .task) (f .deadline) =
+      let s = source pairOf (traffic p .messages) (plan-pairs p .comes f m) in
+      let such : Such (traffic p .messages) (s .one .mode) (f .task) (f .deadline) =
       record {
         one = s .one;
         among = s .among;
@@ -301,28 +308,28 @@ module _ (p : Plan) (kept : PlanKept p) where
         task = ap (λ (g : Pair). g .task) (s .gives);
         due = ap (λ (g : Pair). g .deadline) (s .gives);
       } in
-      (s .one .mode, has-such (s .one .mode) (f .task) (f .deadline) (basic p .messages) .passes such)
+      (s .one .mode, has-such (s .one .mode) (f .task) (f .deadline) (traffic p .messages) .passes such)
 
   -- a mode has messages of one module alone
-  pub one-module : (μ : ℕ) (f g : Pair) → hasOf (basic p .messages) μ f ≡ true → hasOf (basic p .messages) μ g ≡ true
+  pub one-module : (μ : ℕ) (f g : Pair) → hasOf (traffic p .messages) μ f ≡ true → hasOf (traffic p .messages) μ g ≡ true
       → theTask p (f .task) .home ≡ theTask p (g .task) .home
   unfolding hasOf
   one-module μ f g a b = sym (own-mode μ (f .task) (f .deadline) a .own) ∙ own-mode μ (g .task) (g .deadline) b .own
 
   -- a message is in a pair
-  pub sent-pair : (μ t d : ℕ) → has (basic p .messages) μ t d ≡ true → (f : Pair) × List·Memᴰ f (pairs p) × (f .task ≡ t) × (f .deadline ≡ d)
+  pub sent-pair : (μ t d : ℕ) → has (traffic p .messages) μ t d ≡ true → (f : Pair) × List·Memᴰ f (pairs p) × (f .task ≡ t) × (f .deadline ≡ d)
   unfolding pairOf
   sent-pair μ t d e =
-      let s = has-such μ t d (basic p .messages) .says e in
+      let s = has-such μ t d (traffic p .messages) .says e in
       let c = plan-pairs p .covered (pairOf (s .one)) (member-map pairOf (s .among)) in
       (c .one, c .among, c .covers .task ∙ s .task, c .covers .deadline ∙ s .due)
 
   -- a pair is not released before the message that a mode has of it
-  pub pair-release : (μ : ℕ) (f : Pair) → List·Memᴰ f (pairs p) → hasOf (basic p .messages) μ f ≡ true
+  pub pair-release : (μ : ℕ) (f : Pair) → List·Memᴰ f (pairs p) → hasOf (traffic p .messages) μ f ≡ true
       → f .deadline + theTask p (f .task) .worst ≤ f .release + periodIn p μ (f .task)
   unfolding hasOf pairOf
   pair-release μ f m e =
-      let s = has-such μ (f .task) (f .deadline) (basic p .messages) .says e in
+      let s = has-such μ (f .task) (f .deadline) (traffic p .messages) .says e in
       let own = message-release p kept (s .among) in
       let later : s .one .release ≤ f .release =
       release-greatest (plan-pairs p) f (pairOf (s .one)) m (member-map pairOf (s .among)) (sym (s .task)) (sym (s .due)) in

@@ -1,5 +1,5 @@
 -- Job K, scaled from 60,000 ticks to 60 so that it is computed, and entries that job K lets through: a table whose rows stop early,
--- a mode change while a node holds the old mode byte, each of refusals 40 to 44.
+-- a mode change while a node holds the old mode byte, a message that is not read, each of refusals 40 to 44.
 use mathlib.Core.Bool.{Bool, true, false, cond, _&&_}
 use mathlib.Core.List.{List, [], _∷_}
 use mathlib.Core.Option.{Option, none, some}
@@ -24,9 +24,9 @@ use Rattle.rules.specs.OneBoard.{modeNow, sinceMode, periodNow, runEnds,
 use Rattle.rules.proofs.Jobs.{everything}
 
 -- Job A with a period of 60, run periods of 30 and 20 and a worst time of 3, and a mode c that invokes nothing, on a bus where a
--- message takes 4 ticks, a control frame 1, eight bits of gap 1. Task 1, on node 1, consumes task 0.
-planWith : ℕ → List ℕ
-planWith gap =
+-- message takes 4 ticks, a control frame 1, eight bits of gap 1. Task 1, on node 1, consumes task 0 with this rate.
+planOf : ℕ → ℕ → List ℕ
+planOf rate gap =
     file
     (rec 1 (8000 ∷ 0 ∷ 0 ∷ 254 ∷ gap ∷ 1 ∷ [])
     ∷ rec 2 (2 ∷ [])
@@ -40,9 +40,12 @@ planWith gap =
     ∷ rec 5 (1 ∷ 4 ∷ 3 ∷ [])
     ∷ rec 6 (0 ∷ 0 ∷ 2 ∷ [])
     ∷ rec 6 (1 ∷ 0 ∷ 3 ∷ [])
-    ∷ rec 6 (2 ∷ 1 ∷ 1 ∷ [])
+    ∷ rec 6 (2 ∷ 1 ∷ rate ∷ [])
     ∷ rec 7 (0 ∷ 1 ∷ [])
     ∷ [])
+
+planWith : ℕ → List ℕ
+planWith gap = planOf 1 gap
 
 plan : List ℕ
 plan = planWith 8
@@ -340,6 +343,45 @@ lateJob =
     ∷ shows 1 0 7
     ∷ []
 
+-- Figure 5 of the paper, scaled like job K: task 1 reads with period 30, so that of mode b's runs of 20 the message at 40 is not read and
+-- has no row. Node 1 shows what one board has at the reads, 30 and 60, and at 20; from 40 on it does not, until 60.
+planRead : List ℕ
+planRead = planOf 2 8
+
+readRows : ℕ → List ℕ
+readRows head =
+    file (rec head (60 ∷ 1 ∷ 3 ∷ []) ∷ rec 17 (0 ∷ 0 ∷ 1 ∷ []) ∷ row 20 3 ∷ row 30 8 ∷ row 60 43 ∷ [])
+
+modeB : ℕ → Option ℕ
+modeB = givenAt (0 is 1 ∷ 1 is 2 ∷ [])
+
+readJob : List Act
+readJob =
+    quiet 1  -- time 0
+    ∷ given (0 is 5 ∷ 1 is 1 ∷ []) []  -- 1
+    ∷ quiet 19  -- 20
+    ∷ shows 0 0 5
+    ∷ shows 1 0 5
+    ∷ board 0 5
+    ∷ given (0 is 6 ∷ []) []  -- 21
+    ∷ quiet 9  -- 30
+    ∷ shows 1 0 5
+    ∷ board 0 5
+    ∷ given (1 is 1 ∷ []) []  -- 31
+    ∷ quiet 9  -- 40
+    ∷ shows 0 0 6
+    ∷ shows 1 0 5
+    ∷ board 0 6
+    ∷ given (0 is 7 ∷ []) []  -- 41
+    ∷ quiet 18  -- 59
+    ∷ shows 1 0 5
+    ∷ board 0 6
+    ∷ quiet 1  -- 60
+    ∷ shows 0 0 7
+    ∷ shows 1 0 7
+    ∷ board 0 7
+    ∷ []
+
 -- Refusal 40 of a beginning, and of a tick on a station that was not begun, or whose clock is above P; a begun one is in range.
 zeroKept : Kept
 zeroKept =
@@ -394,6 +436,8 @@ pub jobs : List Bool
 jobs =
     playedFrom (begin plan earlyTable modeA) jobK
     ∷ playedFrom (begin (planWith 0) lateTable modeA) lateJob
+    ∷ playedFrom (begin planRead (readRows 20) modeB) readJob
+    ∷ isRefused (begin planRead (readRows 16) modeB) 21 0
     ∷ isRefused (begin plan lateTable modeA) 28 5
     ∷ isRefused (begin plan (rows 2 8 23 43) modeA) 25 2
     ∷ isRefused (begin plan earlyTable (givenAt (0 is 2 ∷ 1 is 2 ∷ []))) 40 0
@@ -408,8 +452,8 @@ pub isTrue : Bool → Bool
 isTrue b = b
 
 opened : Unit {0}
-unfolding everything planWith plan row rows earlyTable numbers truths boards sheets at grid places listed laid frozen frozenKept
-    givenAt inputOf accepted sameRow answersRow ticks quietly act acts playedFrom modeA jobK lateTable lateJob zeroKept atTime
+unfolding everything planOf planWith plan row rows earlyTable numbers truths boards sheets at grid places listed laid frozen frozenKept
+    givenAt inputOf accepted sameRow answersRow ticks quietly act acts playedFrom modeA jobK lateTable lateJob planRead readRows modeB readJob zeroKept atTime
     tickAt jobs isTrue modeNow sinceMode periodNow runEnds resultWithin value isRun periodAmong periodIn passedPair passedRow
     keptOf stateAtStart homeNode runPeriod taskAge runAge isRunning isAwaited resultAwaited resultFits isLastChance
     resultInTime isModeOf maySwitch changeAllowed judgedTick outAfter hasTime rowWith isAt someAt isSentAt someSentAt landsOn

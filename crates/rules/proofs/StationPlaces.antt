@@ -1,7 +1,7 @@
 -- A tick looks at the station's own places alone: 8 nodes, 16 modules, 32 tasks. States that agree at these are judged alike, start the
 -- same row and agree after the tick; so a history of states that agree with the rules' is a history of the rules, and demand 3 holds of it.
 use mathlib.Core.Path.{_≡_, refl, sym, ap, _∙_, subst}
-use mathlib.Core.Bool.{true}
+use mathlib.Core.Bool.{true, false}
 use mathlib.Core.List.{List, [], _∷_}
 use mathlib.Core.Option.{Option, none, some}
 use native.Mathlib.Omega.{arith}
@@ -10,8 +10,8 @@ use Prim.Native.Nat.{ℕ, _<_}
 use Rattle.laws.specs.Res.{Res, ok, refuse, _>>_, unless}
 use Rattle.laws.proofs.Res.{refuse≢ok, ok-injective, then-case, unless-ok}
 use Rattle.laws.proofs.Turns.{same-bad}
-use Rattle.rules.specs.Plan.{Plan, theTask, readPlan}
-use Rattle.rules.specs.Traffic.{taskNode}
+use Rattle.rules.specs.Plan.{Plan, theTask}
+use Rattle.rules.specs.Traffic.{taskNode, readIn}
 use Rattle.rules.specs.Playing.{nodePlaces, modulePlaces, taskPlaces, Input}
 use Rattle.rules.specs.Station.{Kept, State, runPeriod, taskAge, runAge, isRunning, isAwaited, resultAwaited, resultFits}
 use Rattle.rules.specs.Station.{isLastChance, resultInTime, maySwitch, mayTake, changeAllowed, judgedTick, outAfter}
@@ -20,10 +20,13 @@ use Rattle.rules.specs.Station.{modeAfter, ageAfter, givenAfter, startin
 use Rattle.rules.specs.Station.{startsNow, isTaken, fullAfter, loadAfter, tick, started, Ticked, step, Begun, begin}
 use Rattle.rules.specs.StationRange.{inRange, ticked}
 use Rattle.rules.specs.History.{played, boardValue, consumes}
-use Rattle.rules.proofs.PlanKept.{PlanKept, readable-kept}
+use Rattle.rules.proofs.PlanKept.{PlanKept}
 use Rattle.rules.proofs.StationRanges.{KeptIn, range-tests}
 use Rattle.rules.proofs.StationStays.{node-begins}
 use Rattle.rules.proofs.Transparent.{consumed-on, consumed-there, transparent, transparent-own}
+use Rattle.rules.specs.Checker.{isForConsumers}
+use Rattle.rules.specs.Readers.{isThinned}
+use Rattle.rules.proofs.Editions.{readable-kept-in}
 
 -- Two states that agree at every place of a station.
 pub record Agree (s s′ : State) : Type 0 where
@@ -280,16 +283,16 @@ follows-played {k} {s₀ = s₀} a (next {before = before} {past = past} {t = t}
 
 -- ---- demand 3
 
-task-node : (p : Plan) → PlanKept p → (t : ℕ) → taskNode p t < nodePlaces
+pub task-node : (p : Plan) → PlanKept p → (t : ℕ) → taskNode p t < nodePlaces
 unfolding taskNode
 task-node p kept t = node-begins p kept (theTask p t .home)
 
 -- Of stations that follow one another from a beginning, the value shown is the one board's:
 module _ (plan table : List ℕ) (starting : ℕ → Option ℕ) (b : Begun) (begins : begin plan table starting ≡ ok b)
-    (p : Plan) (reads : readPlan plan ≡ ok p) (s : State) (same : Agree s (b .state)) (history : List Input) (after : State)
+    (p : Plan) (reads : readIn (isForConsumers table) plan ≡ ok p) (s : State) (same : Agree s (b .state)) (history : List Input) (after : State)
     (follows : Follows (b .kept) s history after) where
   kept-plan : PlanKept p
-  kept-plan = readable-kept plan p reads
+  kept-plan = readable-kept-in (isForConsumers table) plan p reads
 
   task-place : (t : ℕ) → t < length (p .tasks) → t < taskPlaces
   task-place t w = omega (arith, w, kept-plan .taskCount .most)
@@ -307,9 +310,10 @@ module _ (plan table : List ℕ) (starting : ℕ → Option ℕ) (b : Begun) (be
   pub shown-there-own : (t : ℕ) → t < length (p .tasks) → after .shown (taskNode p t) t ≡ now .0 .shown (taskNode p t) t
   shown-there-own t w = now .1 .1 .shown (taskNode p t) (task-node p kept-plan t) t (task-place t w)
 
-  -- on every node that consumes a task of another node
-  pub transparent-follows : (n t : ℕ) → consumes p n t ≡ true → after .shown n t ≡ boardValue p starting t history
-  transparent-follows n t c = shown-there n t c ∙ transparent plan table starting b begins p reads history (now .0) (now .1 .0) n t c
+  -- on every node that consumes a task of another node, if it is not thinned
+  pub transparent-follows : (n t : ℕ) → consumes p n t ≡ true → isThinned p t ≡ false → after .shown n t ≡ boardValue p starting t history
+  transparent-follows n t c whole =
+      shown-there n t c ∙ transparent plan table starting b begins p reads history (now .0) (now .1 .0) n t c whole
 
   -- on a task's own node
   pub transparent-follows-own : (t : ℕ) → t < length (p .tasks) → after .shown (taskNode p t) t ≡ boardValue p starting t history

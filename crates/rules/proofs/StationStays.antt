@@ -19,23 +19,10 @@ use Rattle.laws.proofs.Orders.{le-or-lt}
 use Rattle.laws.proofs.Members.{All, empty, also, all-weaker, all-getD, all-getD-or, all-of-places, any-member}
 use Rattle.laws.proofs.Faults.{by-failed, by-fails, unless-refused}
 use Rattle.rules.specs.Plan.{Mode, Task, Invocation, Plan, noMode, noTask, theMode, theTask, periodOf}
-use Rattle.rules.specs.Traffic.{moduleNode, busPeriod, basic}
+use Rattle.rules.specs.Traffic.{moduleNode, busPeriod, traffic}
 use Rattle.rules.specs.Frames.{Pair, pairs, ControlRow, noControlRow, controlRows, Layout, layoutOf}
 use Rattle.rules.specs.LatestRelease.{noPair}
-use Rattle.rules.specs.Checker.{
-  Named,
-  Row,
-  TableRead,
-  tableOf,
-  controlAt,
-  noRow,
-  rowAt,
-  isPairOf,
-  holdsPair,
-  rowHolding,
-  Passed,
-  checkFiles,
-}
+use Rattle.rules.specs.Checker.{Named, Row, TableRead, tableOf, controlAt, noRow, rowAt, isPairOf, holdsPair, rowHolding, Passed, checkFiles, isForConsumers}
 use Rattle.rules.specs.Playing.{nodePlaces, modulePlaces, taskPlaces, Input, isGiven, isRun, periodAmong, periodIn}
 use Rattle.rules.specs.Station.{
   Kept,
@@ -71,12 +58,13 @@ use Rattle.rules.specs.Station.{
 use Rattle.rules.specs.History.{played}
 use Rattle.rules.specs.StationRange.{inRange, ticked}
 use Rattle.rules.specs.Obeys.{ObeysTable, MayTick, StartsRight}
-use Rattle.rules.proofs.PlanKept.{PlanKept, readable-kept}
+use Rattle.rules.proofs.PlanKept.{PlanKept}
 use Rattle.rules.proofs.StationRanges.{IsValue}
 pub use Rattle.rules.proofs.StationRanges.{KeptIn, StateIn, range-tests}
 use Rattle.rules.proofs.LaidOut.{LaidOut, laid-out, period-kept, PairKept, pairs-kept, control-kept, control-count}
 use Rattle.rules.proofs.CheckerExact.{passed-says, passed-passes}
 use Rattle.rules.proofs.StationExact.{step-accepted, numbers-of-ticks, begin-exact}
+use Rattle.rules.proofs.Editions.{readable-kept-in}
 
 -- ---- an accepted tick stays within
 
@@ -242,8 +230,8 @@ run-begins p (i ∷ is) μ t = go (isRun μ t i) refl (run-begins p is μ t)
 -- a control row of a table that passes lies within P and names a node; behind the rows all is zero
 record ControlWithin (p : Plan) (r : ControlRow) : Type 0 where
   node : r .node < nodePlaces
-  start : r .start ≤ busPeriod p
-  stop : r .stop ≤ busPeriod p
+  start : r .start ≤ traffic p .period
+  stop : r .stop ≤ traffic p .period
 
 -- a data row of such a table starts before it stops, and stops by the deadline of each pair that it holds
 record RowWithin (r : Row) : Type 0 where
@@ -303,8 +291,8 @@ module _ (p : Plan) (kept : PlanKept p) {l : Layout} (laid : LaidOut p l) (t : T
   unfolding layoutOf pairs
   pair-begins = all-getD-or {P = PairKept p} noPair (pairs-kept p kept) (record { task = kept .taskCount .least; deadline = zero-le })
 
-  kept-of-plan : KeptIn (keptOf (record { plan = p; traffic = basic p; layout = layoutOf p; table = t }))
-  unfolding keptOf layoutOf basic pairs periodIn passedPair passedRow
+  kept-of-plan : KeptIn (keptOf (record { plan = p; traffic = traffic p; layout = layoutOf p; table = t }))
+  unfolding keptOf layoutOf traffic pairs periodIn passedPair passedRow
   kept-of-plan =
       record {
         moduleCount = kept .moduleCount;
@@ -337,8 +325,8 @@ kept-begins plan table c e =
     let laid = laid-out (h .read) (h .laid) (h .isLaid) in
     let t = tableOf (h .rows) in
     subst (λ (c : Passed). KeptIn (keptOf c)) same
-    (subst (λ (l : Layout). ObeysTable l t → KeptIn (keptOf (record { plan = h .read; traffic = basic (h .read); layout = l; table = t }))) (laid .is)
-    (kept-of-plan (h .read) (readable-kept plan (h .read) (h .isRead)) laid t)
+    (subst (λ (l : Layout). ObeysTable l t → KeptIn (keptOf (record { plan = h .read; traffic = traffic (h .read); layout = l; table = t }))) (laid .is)
+    (kept-of-plan (h .read) (readable-kept-in (isForConsumers table) plan (h .read) (h .isRead)) laid t)
     (h .obeys))
 
 module _ (k : Kept) (kept : KeptIn k) (starting : ℕ → Option ℕ) (starts : (m : ℕ) → m < modulePlaces → StartsRight k starting m) where

@@ -2,10 +2,10 @@
 -- written by `tableOfRows` is read as the header, the control rows and the data rows that it was written from, and so is one written by
 -- `tableBytes`, which is the same of the rows placed.
 use mathlib.Core.Path.{_≡_, refl, ap, _∙_, subst}
-use mathlib.Core.Bool.{Bool, true, false}
+use mathlib.Core.Bool.{Bool, true, false, _&&_, _||_}
 use mathlib.Core.List.{List, [], _∷_, _++_, map, append-assoc, append-nil}
 use native.Mathlib.Omega.{arith}
-use lib.Dec.{eqb}
+use lib.Dec.{eqb, leb}
 use lib.ListN.{length, length-append, length-map}
 use lib.Seq.{take-at, drop-at}
 use Prim.Native.Nat.{ℕ, _<_, _^_}
@@ -15,10 +15,11 @@ use Rattle.laws.specs.Numbers.{bytes}
 use Rattle.laws.proofs.Little.{length-bytes, number-bytes}
 use Rattle.laws.proofs.Members.{All, empty, also, all-weaker, keep-all, keep-nothing}
 use Rattle.laws.proofs.Lists.{keep-append}
-use Rattle.rules.specs.Records.{Field, width, fields, widths, bodyLength, kinds, known, Rec, decoded, recordOf, records, tableFollows}
-use Rattle.rules.specs.Plan.{isKind, numbersOf, things, only}
+use Rattle.rules.specs.Records.{Field, width, fields, widths, bodyLength, kinds, known, headKind, isHead, Rec, decoded, recordOf, records, tableFollows}
+use Rattle.rules.specs.Plan.{isKind, numbersOf, things}
 use Rattle.rules.specs.Frames.{ControlRow, Layout}
 use Rattle.rules.proofs.RecordsExact.{records-exact}
+use Rattle.rules.proofs.Heads.{IsHead, head-fields, head-first, not-the-end, behind-head, no-row, head-read}
 use Rattle.rules.specs.Obeys.{MayStand, AreRecords, theEnd, oneMore}
 use Rattle.rules.specs.Table.{encoded, recordBytes, DataRow, PlacedRow, dataRow, headerBytes, controlBytes, dataBytes, tableOfRows, tableBytes}
 use Rattle.rules.specs.Checker.{rowOf, TableRead, tableOf, controlRowOf, dataRowOf}
@@ -97,8 +98,9 @@ pub record DataFits (r : DataRow) : Type 0 where
   pub start : r .start < 4294967296
   pub stop : r .stop < 4294967296
 
--- every number of a table of these rows fits its field
-pub record RowsFit (period : ℕ) (control : List ControlRow) (rows : List DataRow) : Type 0 where
+-- the head is of a kind that there is, and every number of a table of these rows fits its field
+pub record RowsFit (head period : ℕ) (control : List ControlRow) (rows : List DataRow) : Type 0 where
+  pub isHead : IsHead head
   pub periodFits : period < 4294967296
   pub controls : length control < 256
   pub datas : length rows < 65536
@@ -144,61 +146,66 @@ data-fit r h = fit (h .task) (fit (h .deadline) (fit (h .start) (fit (h .stop) f
 stands : {previous kind : ℕ} → known kind ≡ true → tableFollows previous kind ≡ true → MayStand tableFollows previous kind
 stands k f = record { isKnown = k; isNext = f }
 
+behind : {head kind : ℕ} → IsHead head → known kind ≡ true → (eqb kind 0 || (leb 17 kind && leb kind 18)) ≡ true → MayStand tableFollows head kind
+behind {kind = kind} h k f = stands k (behind-head h kind ∙ f)
+
 -- a head that counts the rows, and the rows
-module _ (period : ℕ) (control : List ControlRow) (rows : List DataRow) where
+module _ (head period : ℕ) (control : List ControlRow) (rows : List DataRow) where
   abbrev headerNumbers : List ℕ
   headerNumbers = period ∷ length control ∷ length rows ∷ []
 
   -- the records of the table
   abbrev pub rowsRecords : List Rec
-  rowsRecords = record { kind = 16; numbers = headerNumbers } ∷ map controlRec control ++ (map dataRec rows ++ [])
+  rowsRecords = record { kind = head; numbers = headerNumbers } ∷ map controlRec control ++ (map dataRec rows ++ [])
 
-  header-fit : RowsFit period control rows → Fit (fields 16) headerNumbers
-  unfolding fields kinds
-  header-fit h = fit (h .periodFits) (fit (h .controls) (fit (h .datas) fit-none))
+  header-fit : RowsFit head period control rows → Fit (fields head) headerNumbers
+  header-fit h = rw (head-fields (h .isHead)) (fit (h .periodFits) (fit (h .controls) (fit (h .datas) fit-none)))
 
-  data-written : {previous : ℕ} → MayStand tableFollows previous 18 → MayStand tableFollows previous 0 → RowsFit period control rows
+  data-written : {previous : ℕ} → MayStand tableFollows previous 18 → MayStand tableFollows previous 0 → RowsFit head period control rows
       → AreRecords tableFollows previous (joined (map (bytesOf 18 dataNumbers) rows) ++ (0 ∷ [])) (map dataRec rows ++ [])
-  unfolding known kinds tableFollows
+  unfolding known kinds tableFollows isHead headKind
   data-written s e t =
       rows-written tableFollows 18 dataNumbers (omega arith) (stands refl refl) s (all-weaker data-fit (t .rowsFit)) (theEnd e refl)
       (theEnd (stands refl refl) refl)
 
   -- the table's bytes are its records
-  pub rows-table-written : RowsFit period control rows → AreRecords tableFollows 0 (tableOfRows period control rows) rowsRecords
-  unfolding tableOfRows headerBytes controlBytes dataBytes known kinds tableFollows
+  pub rows-table-written : RowsFit head period control rows → AreRecords tableFollows 0 (tableOfRows head period control rows) rowsRecords
+  unfolding tableOfRows headerBytes controlBytes dataBytes known kinds tableFollows isHead headKind
   rows-table-written t =
-      written tableFollows (stands refl refl) (omega arith) (header-fit t)
+      let h = t .isHead in
+      written tableFollows (head-first h) (not-the-end h) (header-fit t)
       (rows-written tableFollows 17 controlNumbers (omega arith) (stands refl refl)
-      (stands refl refl)
+      (behind h refl refl)
       (all-weaker control-fit (t .controlFits))
-      (data-written (stands refl refl) (stands refl refl) t)
+      (data-written (behind h refl refl) (behind h refl refl) t)
       (data-written (stands refl refl) (stands refl refl) t))
 
-  pub rows-table-reads : RowsFit period control rows → records tableFollows 20 (tableOfRows period control rows) ≡ ok rowsRecords
-  rows-table-reads t = records-exact tableFollows 20 (tableOfRows period control rows) rowsRecords .1 (rows-table-written t)
+  pub rows-table-reads : RowsFit head period control rows → records tableFollows 20 (tableOfRows head period control rows) ≡ ok rowsRecords
+  rows-table-reads t = records-exact tableFollows 20 (tableOfRows head period control rows) rowsRecords .1 (rows-table-written t)
 
   -- the table as it is read back
   abbrev pub rowsRead : TableRead
   rowsRead =
       record { period = period; controls = length control; datas = length rows; control = control; rows = map rowOf rows }
 
-  control-back : map controlRowOf (things 17 rowsRecords) ≡ control
+  control-back : IsHead head → map controlRowOf (things 17 rowsRecords) ≡ control
   unfolding things isKind
-  control-back = rw (kept-17 control rows) (controls-back control)
+  control-back h = rw (no-row h .0, kept-17 control rows) (controls-back control)
 
-  rows-back : map dataRowOf (things 18 rowsRecords) ≡ rows
+  rows-back : IsHead head → map dataRowOf (things 18 rowsRecords) ≡ rows
   unfolding things isKind
-  rows-back = rw (kept-18 control rows) (datas-back rows)
+  rows-back h = rw (no-row h .1, kept-18 control rows) (datas-back rows)
 
-  pub rows-table-read : tableOf rowsRecords ≡ rowsRead
-  unfolding tableOf only things isKind
-  rows-table-read = rw (control-back, rows-back)
+  pub rows-table-read : IsHead head → tableOf rowsRecords ≡ rowsRead
+  unfolding tableOf
+  rows-table-read h =
+      rw (head-read h headerNumbers (map controlRec control ++ (map dataRec rows ++ [])), control-back h, rows-back h)
 
 -- ---- a table of placed rows, whose number is that of the rows placed
 
--- every number of the table fits its field
+-- the same of such a table
 pub record TableFits (l : Layout) (placed : List PlacedRow) : Type 0 where
+  pub isHead : IsHead (l .head)
   pub period : l .period < 4294967296
   pub controls : length (l .control) < 256
   pub datas : length placed < 65536
@@ -212,23 +219,23 @@ module _ (l : Layout) (rows : List PlacedRow) where
   counted : length datas ≡ length rows
   counted = length-map rows (dataRow l)
 
-  fits-rows : TableFits l rows → RowsFit (l .period) (l .control) datas
+  fits-rows : TableFits l rows → RowsFit (l .head) (l .period) (l .control) datas
   fits-rows t =
-      record { periodFits = t .period; controls = t .controls; datas = rw counted (t .datas); controlFits = t .control; rowsFit = t .rows }
+      record { isHead = t .isHead; periodFits = t .period; controls = t .controls; datas = rw counted (t .datas); controlFits = t .control; rowsFit = t .rows }
 
-  bytes-rows : tableOfRows (l .period) (l .control) datas ≡ tableBytes l rows
+  bytes-rows : tableOfRows (l .head) (l .period) (l .control) datas ≡ tableBytes l rows
   unfolding tableOfRows tableBytes
   bytes-rows = rw counted
 
   -- the records of the table
   abbrev pub tableRecords : List Rec
-  tableRecords = rowsRecords (l .period) (l .control) datas
+  tableRecords = rowsRecords (l .head) (l .period) (l .control) datas
 
   -- the table's bytes are its records
   pub table-written : TableFits l rows → AreRecords tableFollows 0 (tableBytes l rows) tableRecords
   table-written t =
       subst (λ (file : List ℕ). AreRecords tableFollows 0 file tableRecords) bytes-rows
-      (rows-table-written (l .period) (l .control) datas (fits-rows t))
+      (rows-table-written (l .head) (l .period) (l .control) datas (fits-rows t))
 
   pub table-reads : TableFits l rows → records tableFollows 20 (tableBytes l rows) ≡ ok tableRecords
   table-reads t = records-exact tableFollows 20 (tableBytes l rows) tableRecords .1 (table-written t)
@@ -244,5 +251,5 @@ module _ (l : Layout) (rows : List PlacedRow) where
         rows = map rowOf datas;
       }
 
-  pub table-read : tableOf tableRecords ≡ tableRead
-  table-read = rows-table-read (l .period) (l .control) datas ∙ rw counted
+  pub table-read : IsHead (l .head) → tableOf tableRecords ≡ tableRead
+  table-read h = rows-table-read (l .head) (l .period) (l .control) datas h ∙ rw counted

@@ -1,14 +1,13 @@
 -- TableFile: the bytes of a table that was read. A file that reads as records is these records written again, and every number read fits its
 -- field; by induction on the records. So where the head counts the rows, the file is the table of its rows.
 use mathlib.Core.Path.{_≡_, refl, sym, ap, ap₂, _∙_, subst}
-use mathlib.Core.Bool.{true, false}
+use mathlib.Core.Bool.{true}
 use mathlib.Core.List.{List, [], _∷_, _++_, map, append-assoc}
 use mathlib.Core.Logic.{_⊎_, inl, inr}
 use native.Mathlib.Nat.{eq-or-lt-of-le}
 use native.Mathlib.Omega.{arith}
-use borrow.Author.Tests.{eqb-true, ne-eqb}
-use lib.Dec.{eqb}
-use lib.ListN.{length, take, drop, take-append-drop, length-drop}
+use borrow.Author.Tests.{ne-eqb}
+use lib.ListN.{length, getD, take, drop, take-append-drop, length-drop}
 use lib.Seq.{length-take-le}
 use Prim.Native.Nat.{ℕ, suc, _^_, _≤_, _<_}
 use Rattle.laws.specs.Res.{ok}
@@ -18,13 +17,14 @@ use Rattle.laws.proofs.Lists.{true-false}
 use Rattle.laws.proofs.Tests.{by-or, by-and, by-eq, by-le}
 use Rattle.laws.proofs.Little.{Bytes, bytes-left, bytes-right, bytes-take, bytes-drop, bytes-number, number-bound}
 use Rattle.laws.proofs.Members.{All, empty, also}
-use Rattle.rules.specs.Records.{Field, width, fields, widths, bodyLength, kinds, Rec, decoded, recordOf, records, tableFollows}
-use Rattle.rules.specs.Plan.{nth, isKind, things, only}
+use Rattle.rules.specs.Records.{Field, width, fields, widths, bodyLength, kinds, headFields, headKind, isHead, Rec, decoded, recordOf, records, tableFollows}
+use Rattle.rules.specs.Plan.{nth, isKind, zeroRecord, things}
 use Rattle.rules.specs.Frames.{ControlRow}
 use Rattle.rules.specs.Obeys.{AreRecords, theEnd, oneMore}
 use Rattle.rules.specs.Table.{encoded, recordBytes, DataRow, headerBytes, controlBytes, dataBytes, tableOfRows}
-use Rattle.rules.specs.Checker.{controlRowOf, dataRowOf}
+use Rattle.rules.specs.Checker.{controlRowOf, dataRowOf, headOf, isForConsumers}
 use Rattle.rules.proofs.RecordsExact.{records-exact}
+use Rattle.rules.proofs.Heads.{IsHead, basicHead, consumersHead, head-means, head-fields, no-row, head-read, head-edition}
 use Rattle.rules.proofs.TableBytes.{Fit, fit-none, fit, ControlFits, DataFits}
 
 -- ---- one body
@@ -75,8 +75,7 @@ data-numbers : {a b c d : ℕ} → Fit (fields 18) (a ∷ b ∷ c ∷ d ∷ []) 
 unfolding fields kinds
 data-numbers (fit x (fit y (fit z (fit w fit-none)))) = (x, y, z, w)
 
-head-numbers : {a b c : ℕ} → Fit (fields 16) (a ∷ b ∷ c ∷ []) → (a < 4294967296) × (b < 256) × (c < 65536)
-unfolding fields kinds
+head-numbers : {a b c : ℕ} → Fit headFields (a ∷ b ∷ c ∷ []) → (a < 4294967296) × (b < 256) × (c < 65536)
 head-numbers (fit x (fit y (fit z fit-none))) = (x, y, z)
 
 module _ (body : List ℕ) (h : Bytes body) where
@@ -115,20 +114,37 @@ data IsRow : ℕ → Type 0 where
   aControl : IsRow 17
   aData : IsRow 18
 
--- behind the head or a row stands a row of no lower kind
-row-kind : (previous kind : ℕ) → 16 ≤ previous → tableFollows previous kind ≡ true → (kind ≡ 0 → ⊥) → (previous ≤ kind) × IsRow kind
+-- behind the head or a row stands a row, behind a row none of a lower kind
+abbrev Follows : ℕ → ℕ → Type 0
+Follows previous kind = (IsHead previous ⊎ (previous ≤ kind)) × IsRow kind
+
+row-kind : (previous kind : ℕ) → (previous ≡ 0 → ⊥) → tableFollows previous kind ≡ true → (kind ≡ 0 → ⊥) → Follows previous kind
 unfolding tableFollows
 row-kind previous kind h e z =
-    let back : eqb previous 0 ≡ false = ne-eqb previous 0 (λ q. omega arith) in
-    by-kind (by-or (by-eq kind 0) (by-and (by-le 17 kind) (by-and (by-le previous kind) (by-le kind 18))) .says (rw back at e))
+    let rising = by-or (head-means previous) (by-le previous kind) in
+    by-kind (by-or (by-eq kind 0) (by-and (by-le 17 kind) (by-and rising (by-le kind 18))) .says (rw (ne-eqb previous 0 h) at e))
   where
     of-two : kind ≤ 18 → (17 ≡ kind) ⊎ (17 < kind) → IsRow kind
     of-two b (inl q) = subst IsRow q aControl
     of-two b (inr q) = let e : 18 ≡ kind = omega arith in subst IsRow e aData
 
-    by-kind : (kind ≡ 0) ⊎ ((17 ≤ kind) × ((previous ≤ kind) × (kind ≤ 18))) → (previous ≤ kind) × IsRow kind
+    by-kind : (kind ≡ 0) ⊎ ((17 ≤ kind) × ((IsHead previous ⊎ (previous ≤ kind)) × (kind ≤ 18))) → Follows previous kind
     by-kind (inl q) = absurd (z q)
     by-kind (inr q) = (q .1 .0, of-two (q .1 .1) (eq-or-lt-of-le (q .0)))
+
+-- behind a data row stand data rows alone
+data-kind : {previous kind : ℕ} → previous ≡ 18 → Follows previous kind → kind ≡ 18
+data-kind p (inl h, r) = absurd (no-data h p)
+  where
+    no-data : {head : ℕ} → IsHead head → head ≡ 18 → ⊥
+    no-data basicHead e = absurd (omega (arith, e))
+    no-data consumersHead e = absurd (omega (arith, e))
+data-kind p (inr w, aControl) = absurd (omega (arith, p, w))
+data-kind p (inr w, aData) = refl
+
+row-above : {kind : ℕ} → IsRow kind → kind ≡ 0 → ⊥
+row-above aControl e = absurd (omega (arith, e))
+row-above aData e = absurd (omega (arith, e))
 
 -- a record in front of others
 module _ (kind : ℕ) (body rest : List ℕ) {file : List ℕ} (e : file ≡ kind ∷ body ++ rest) (h : Bytes file) where
@@ -176,46 +192,51 @@ module _ (body rest : List ℕ) {file : List ℕ} (rs : List Rec) where
 data-first : {file : List ℕ} {rs : List Rec} → DatasAre file rs → RowsAre file rs
 data-first d = record { is = rw (d .none) (d .is); controlFits = rw (d .none) empty; fits = d .fits }
 
-datas-step : {kind : ℕ} → IsRow kind → 18 ≤ kind → (body rest : List ℕ) {file : List ℕ} (rs : List Rec) → length body ≡ bodyLength kind
+datas-step : {kind : ℕ} → IsRow kind → kind ≡ 18 → (body rest : List ℕ) {file : List ℕ} (rs : List Rec) → length body ≡ bodyLength kind
     → file ≡ kind ∷ body ++ rest → Bytes file → DatasAre rest rs → DatasAre file (recordOf kind body ∷ rs)
-datas-step aControl w body rest rs b e h r = absurd (omega arith)
+datas-step aControl w body rest rs b e h r = absurd (omega (arith, w))
 datas-step aData w body rest rs b e h r = data-step body rest rs b e h r
 
-datas-are : {previous : ℕ} {file : List ℕ} {rs : List Rec} → AreRecords tableFollows previous file rs → 18 ≤ previous → Bytes file → DatasAre file rs
+datas-are : {previous : ℕ} {file : List ℕ} {rs : List Rec} → AreRecords tableFollows previous file rs → previous ≡ 18 → Bytes file → DatasAre file rs
 unfolding things
 datas-are (theEnd s e) p h = record { none = refl; is = e; fits = empty }
 datas-are (oneMore {previous} {kind} {rest = rest} {rs = rs} body s z b e r) p h =
-    let k = row-kind previous kind (omega arith) (s .isNext) z in
-    let w : 18 ≤ kind = omega (arith, k .0) in
+    let k = row-kind previous kind (λ q. omega (arith, p, q)) (s .isNext) z in
+    let w = data-kind p k in
     datas-step (k .1) w body rest rs b e h (datas-are r w (rest-bytes kind body rest e h))
 
 rows-step : {kind : ℕ} → IsRow kind → (body rest : List ℕ) {file : List ℕ} (rs : List Rec) → length body ≡ bodyLength kind
-    → file ≡ kind ∷ body ++ rest → Bytes file → RowsAre rest rs → (18 ≤ kind → DatasAre rest rs) → RowsAre file (recordOf kind body ∷ rs)
+    → file ≡ kind ∷ body ++ rest → Bytes file → RowsAre rest rs → (kind ≡ 18 → DatasAre rest rs) → RowsAre file (recordOf kind body ∷ rs)
 rows-step aControl body rest rs b e h r d = control-step body rest rs b e h r
-rows-step aData body rest rs b e h r d = data-first (data-step body rest rs b e h (d (omega arith)))
+rows-step aData body rest rs b e h r d = data-first (data-step body rest rs b e h (d refl))
 
-rows-are : {previous : ℕ} {file : List ℕ} {rs : List Rec} → AreRecords tableFollows previous file rs → 16 ≤ previous → Bytes file → RowsAre file rs
+rows-are : {previous : ℕ} {file : List ℕ} {rs : List Rec} → AreRecords tableFollows previous file rs → (previous ≡ 0 → ⊥) → Bytes file → RowsAre file rs
 unfolding things
 rows-are (theEnd s e) p h = record { is = e; controlFits = empty; fits = empty }
 rows-are (oneMore {previous} {kind} {rest = rest} {rs = rs} body s z b e r) p h =
     let k = row-kind previous kind p (s .isNext) z in
     let behind : Bytes rest = rest-bytes kind body rest e h in
-    rows-step (k .1) body rest rs b e h (rows-are r (omega (arith, k .0)) behind) (λ w. datas-are r w behind)
+    rows-step (k .1) body rest rs b e h (rows-are r (row-above (k .1)) behind) (λ w. datas-are r w behind)
 
 -- ---- the whole file
 
+-- the kind of the record in front
+abbrev pub kindOfHead : List Rec → ℕ
+kindOfHead rs = getD rs 0 zeroRecord .kind
+
 abbrev pub periodOfHead : List Rec → ℕ
-periodOfHead rs = nth (only 16 rs) 0
+periodOfHead rs = nth (headOf rs) 0
 
 abbrev pub controlsOfHead : List Rec → ℕ
-controlsOfHead rs = nth (only 16 rs) 1
+controlsOfHead rs = nth (headOf rs) 1
 
 abbrev pub datasOfHead : List Rec → ℕ
-datasOfHead rs = nth (only 16 rs) 2
+datasOfHead rs = nth (headOf rs) 2
 
 pub record FileIs (file : List ℕ) (rs : List Rec) : Type 0 where
+  pub isHead : IsHead (kindOfHead rs)
   pub is :
-      file ≡ headerBytes (periodOfHead rs) (controlsOfHead rs) (datasOfHead rs)
+      file ≡ headerBytes (kindOfHead rs) (periodOfHead rs) (controlsOfHead rs) (datasOfHead rs)
       ++ (joined (map controlBytes (controlOf rs)) ++ (joined (map dataBytes (datasOf rs)) ++ (0 ∷ [])))
   pub period : periodOfHead rs < 4294967296
   pub controls : controlsOfHead rs < 256
@@ -223,33 +244,45 @@ pub record FileIs (file : List ℕ) (rs : List Rec) : Type 0 where
   pub controlFits : All ControlFits (controlOf rs)
   pub rowsFit : All DataFits (datasOf rs)
 
-data IsHead : ℕ → Type 0 where
-  aHead : IsHead 16
+-- a head in front of the rows is none of them
+module _ {kind : ℕ} (head : IsHead kind) (body : List ℕ) (rs : List Rec) where
+  same-control : controlOf (recordOf kind body ∷ rs) ≡ controlOf rs
+  unfolding things isKind recordOf
+  same-control = rw (no-row head .0)
 
-head-step : {kind : ℕ} → IsHead kind → (body rest : List ℕ) {file : List ℕ} (rs : List Rec) → length body ≡ bodyLength kind
-    → file ≡ kind ∷ body ++ rest → Bytes file → RowsAre rest rs → FileIs file (recordOf kind body ∷ rs)
-unfolding only things isKind recordOf fields kinds headerBytes
-head-step aHead body rest rs long e h r =
-    let own = body-bytes 16 body rest e h in
-    let n = head-numbers (body-fits 16 body own long) in
-    record {
-      is =
-          e ∙ ap (λ (l : List ℕ). 16 ∷ body ++ l) (r .is)
-          ∙ ap (λ (l : List ℕ). l ++ (joined (map controlBytes (controlOf rs)) ++ (joined (map dataBytes (datasOf rs)) ++ (0 ∷ []))))
-          (sym (body-written 16 body own long));
-      period = n .0;
-      controls = n .1;
-      datas = n .2;
-      controlFits = r .controlFits;
-      rowsFit = r .fits;
-    }
+  same-datas : datasOf (recordOf kind body ∷ rs) ≡ datasOf rs
+  unfolding things isKind recordOf
+  same-datas = rw (no-row head .1)
+
+  its-numbers : headOf (recordOf kind body ∷ rs) ≡ decoded headFields body
+  unfolding recordOf
+  its-numbers = head-read head (decoded (fields kind) body) rs ∙ rw (head-fields head)
+
+  head-step : (rest : List ℕ) {file : List ℕ} → length body ≡ bodyLength kind → file ≡ kind ∷ body ++ rest → Bytes file → RowsAre rest rs
+      → FileIs file (recordOf kind body ∷ rs)
+  unfolding recordOf headerBytes
+  head-step rest long e h r =
+      let own = body-bytes kind body rest e h in
+      let n = head-numbers (rw (head-fields head) at (body-fits kind body own long)) in
+      let again : recordBytes kind (decoded headFields body) ≡ kind ∷ body = rw (head-fields head) at (body-written kind body own long) in
+      record {
+        isHead = head;
+        is =
+            rw (same-control, same-datas, its-numbers)
+            (e ∙ ap (λ (l : List ℕ). kind ∷ body ++ l) (r .is)
+            ∙ ap (λ (l : List ℕ). l ++ (joined (map controlBytes (controlOf rs)) ++ (joined (map dataBytes (datasOf rs)) ++ (0 ∷ [])))) (sym again));
+        period = rw its-numbers (n .0);
+        controls = rw its-numbers (n .1);
+        datas = rw its-numbers (n .2);
+        controlFits = rw same-control (r .controlFits);
+        rowsFit = rw same-datas (r .fits);
+      }
 
 file-is : {file : List ℕ} {rs : List Rec} → AreRecords tableFollows 0 file rs → Bytes file → FileIs file rs
-unfolding tableFollows
+unfolding tableFollows isHead headKind
 file-is (theEnd s e) h = true-false (sym (s .isNext))
 file-is (oneMore {kind = kind} {rest = rest} {rs = rs} body s z b e r) h =
-    let first : kind ≡ 16 = eqb-true kind 16 (s .isNext) in
-    head-step (subst IsHead (sym first) aHead) body rest rs b e h (rows-are r (omega (arith, first)) (rest-bytes kind body rest e h))
+    head-step (head-means kind .says (s .isNext)) body rs rest b e h (rows-are r z (rest-bytes kind body rest e h))
 
 pub table-file : (file : List ℕ) (rs : List Rec) → records tableFollows 20 file ≡ ok rs → Bytes file → FileIs file rs
 table-file file rs e h = file-is (records-exact tableFollows 20 file rs .0 e) h
@@ -257,9 +290,14 @@ table-file file rs e h = file-is (records-exact tableFollows 20 file rs .0 e) h
 -- where the head counts the rows
 module _ {file : List ℕ} {rs : List Rec} (f : FileIs file rs) (controls : controlsOfHead rs ≡ length (controlOf rs))
     (datas : datasOfHead rs ≡ length (datasOf rs)) where
-  pub file-rows : file ≡ tableOfRows (periodOfHead rs) (controlOf rs) (datasOf rs)
+  pub file-rows : file ≡ tableOfRows (kindOfHead rs) (periodOfHead rs) (controlOf rs) (datasOf rs)
   unfolding tableOfRows
   file-rows =
       f .is
-      ∙ ap₂ (λ (n m : ℕ). headerBytes (periodOfHead rs) n m
+      ∙ ap₂ (λ (n m : ℕ). headerBytes (kindOfHead rs) (periodOfHead rs) n m
       ++ (joined (map controlBytes (controlOf rs)) ++ (joined (map dataBytes (datasOf rs)) ++ (0 ∷ [])))) controls datas
+
+-- the head is of the file's edition
+pub file-head : {file : List ℕ} {rs : List Rec} → FileIs file rs → headKind (isForConsumers file) ≡ kindOfHead rs
+unfolding headerBytes recordBytes
+file-head f = rw (f .is) (head-edition (f .isHead) _)

@@ -9,6 +9,7 @@ use Rattle.laws.specs.Lists.{joined}
 use Rattle.rules.specs.Limits.{mostNodes, mostFrames}
 use Rattle.rules.specs.Records.{kinds, fields, bodyLength}
 use Rattle.rules.specs.Frames.{ControlRow, Layout}
+use Rattle.rules.proofs.Heads.{IsHead, basicHead, consumersHead}
 use Rattle.rules.specs.Table.{
   recordBytes,
   DataRow,
@@ -38,25 +39,27 @@ pub length-datas : (rs : List DataRow) → length (joined (map dataBytes rs)) �
 unfolding dataBytes recordBytes recordLength bodyLength fields kinds
 length-datas = length-rows dataBytes (recordLength 18) (λ r. refl)
 
-pub length-header : (period controls datas : ℕ) → length (headerBytes period controls datas) ≡ recordLength 16
+-- heads of both kinds have one length
+pub length-header : {head : ℕ} → IsHead head → (period controls datas : ℕ) → length (headerBytes head period controls datas) ≡ recordLength 16
 unfolding headerBytes recordBytes recordLength bodyLength fields kinds
-length-header period controls datas = refl
+length-header basicHead period controls datas = refl
+length-header consumersHead period controls datas = refl
 
 length-end : 1 ≡ recordLength 0
 unfolding recordLength bodyLength fields kinds
 length-end = refl
 
-pub table-length : (l : Layout) (rows : List PlacedRow) → length (tableBytes l rows) ≡ tableLength (length (l .control)) (length rows)
+pub table-length : (l : Layout) → IsHead (l .head) → (rows : List PlacedRow) → length (tableBytes l rows) ≡ tableLength (length (l .control)) (length rows)
 unfolding tableBytes tableLength
-table-length l rows =
-    let H = headerBytes (l .period) (length (l .control)) (length rows) in
+table-length l head rows =
+    let H = headerBytes (l .head) (l .period) (length (l .control)) (length rows) in
     let C = joined (map controlBytes (l .control)) in
     let D = joined (map dataBytes (map (dataRow l) rows)) in
     let h : length (H ++ (C ++ (D ++ (0 ∷ [])))) ≡ length H + length (C ++ (D ++ (0 ∷ []))) = length-append H (C ++ (D ++ (0 ∷ []))) in
     let c : length (C ++ (D ++ (0 ∷ []))) ≡ length C + length (D ++ (0 ∷ [])) = length-append C (D ++ (0 ∷ [])) in
     let d : length (D ++ (0 ∷ [])) ≡ length D + recordLength 0 = length-append D (0 ∷ []) ∙ ap (λ (n : ℕ). length D + n) length-end in
     let e : length D ≡ recordLength 18 * length rows = length-datas (map (dataRow l) rows) ∙ ap (λ (n : ℕ). recordLength 18 * n) (length-map rows (dataRow l)) in
-    rw (h, c, d, e, length-header (l .period) (length (l .control)) (length rows), length-controls (l .control)) (omega arith)
+    rw (h, c, d, e, length-header head (l .period) (length (l .control)) (length rows), length-controls (l .control)) (omega arith)
 
 -- the number of document 02
 pub longest-is : longestTable ≡ 14425

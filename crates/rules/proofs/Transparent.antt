@@ -16,10 +16,10 @@ use Rattle.laws.proofs.Lists.{true-false, both, both-left, both-right, neither-
 use Rattle.laws.proofs.Loops.{firstBad-upTo-passes}
 use Rattle.laws.proofs.Members.{all-member, all-getD, any-member, any-among}
 use Rattle.laws.proofs.Res.{ok-injective, bind-case, then-case, at-ok}
-use Rattle.rules.specs.Plan.{Plan, Invocation, Connection, readPlan, noTask, theTask}
-use Rattle.rules.specs.Traffic.{taskNode, invokes, leaves, isBusTask, basic, has}
+use Rattle.rules.specs.Plan.{Plan, Invocation, Connection, noTask, theTask}
+use Rattle.rules.specs.Traffic.{taskNode, invokes, leaves, isBusTask, traffic, has, readIn}
 use Rattle.rules.specs.Frames.{Layout, layoutOf}
-use Rattle.rules.specs.Checker.{TableRead, Passed, checkFiles, tableOf}
+use Rattle.rules.specs.Checker.{TableRead, Passed, checkFiles, tableOf, isForConsumers}
 use Rattle.rules.specs.Playing.{modulePlaces, Input, isRun, periodAmong, periodIn}
 use Rattle.rules.specs.Station.{Kept, State, Begun, keptOf, stateAtStart, homeNode, runPeriod, endsNow, isModeOf}
 use Rattle.rules.specs.Station.{holdsModeOf, startsWell, step, tick, begin}
@@ -28,7 +28,7 @@ use Rattle.rules.specs.Obeys.{MayTick, ObeysTable, MayPass}
 use Rattle.rules.specs.History.{played, homeIn, firstIn, boardValue, brings, consumes}
 use Rattle.rules.specs.Heard.{busTime, isHeard, heard, heardValue}
 use Rattle.rules.proofs.CheckerExact.{passed-says, passed-passes}
-use Rattle.rules.proofs.PlanKept.{PlanKept, readable-kept}
+use Rattle.rules.proofs.PlanKept.{PlanKept}
 use Rattle.rules.proofs.LaidOut.{LaidOut, laid-out}
 use Rattle.rules.proofs.StationExact.{step-accepted}
 use Rattle.rules.proofs.TransparentTick.{ending-tests, shown-still, value-still}
@@ -36,12 +36,14 @@ use Rattle.rules.proofs.TransparentModes.{ModeOf, FairModule, Timed, ti
 use Rattle.rules.proofs.TransparentOwn.{FairTask, board, Own, ends-same, own-on, own-start}
 use Rattle.rules.proofs.TransparentBus.{FairBus, EveryRunIsSent, sentIn, heardIn, Carried, carried-on, carried-start, Landed, landed-on, landed-start, heard-on}
 use Rattle.rules.proofs.TransparentPlan.{keptFor, fair-module, fair-task, fair-bus, sent-is, every-run}
+use Rattle.rules.specs.Readers.{isThinned}
+use Rattle.rules.proofs.Editions.{readable-kept-in}
 
 -- ---- what a beginning tells
 
 pub record Beginning (plan table : List ℕ) (starting : ℕ → Option ℕ) (b : Begun) : Type 0 where
   pub read : Plan
-  pub isRead : readPlan plan ≡ ok read
+  pub isRead : readIn (isForConsumers table) plan ≡ ok read
   pub kept : PlanKept read
   pub laid : Layout
   pub isLaid : LaidOut read laid
@@ -52,9 +54,9 @@ pub record Beginning (plan table : List ℕ) (starting : ℕ → Option ℕ) (b 
 
 -- the checker's answer, with the plan's layout in its place
 passed-is : (plan table : List ℕ) (c : Passed) → checkFiles plan table ≡ ok c → (h : MayPass plan table)
-    → c ≡ record { plan = h .read; traffic = basic (h .read); layout = layoutOf (h .read); table = tableOf (h .rows) }
+    → c ≡ record { plan = h .read; traffic = traffic (h .read); layout = layoutOf (h .read); table = tableOf (h .rows) }
 passed-is plan table c e h =
-    let with : Layout → Passed = λ l. record { plan = h .read; traffic = basic (h .read); layout = l; table = tableOf (h .rows) } in
+    let with : Layout → Passed = λ l. record { plan = h .read; traffic = traffic (h .read); layout = l; table = tableOf (h .rows) } in
     sym (ok-injective (sym (passed-passes plan table h) ∙ e)) ∙ ap with (sym (laid-out (h .read) (h .laid) (h .isLaid) .is))
 
 pub begun : (plan table : List ℕ) (starting : ℕ → Option ℕ) (b : Begun) → begin plan table starting ≡ ok b → Beginning plan table starting b
@@ -70,7 +72,7 @@ begun plan table starting b e =
     record {
       read = h .read;
       isRead = h .isRead;
-      kept = readable-kept plan (h .read) (h .isRead);
+      kept = readable-kept-in (isForConsumers table) plan (h .read) (h .isRead);
       laid = h .laid;
       isLaid = laid;
       rows = tableOf (h .rows);
@@ -129,7 +131,7 @@ module _ (k : Kept) (starting : ℕ → Option ℕ) where
       pub beats : Beats k (k .taskHome t) s past
       pub carried : Carried k t (bus .control) s
 
-    sending-start : (bus : FairBus k t) → Sending bus (stateAtStart starting) []
+    pub sending-start : (bus : FairBus k t) → Sending bus (stateAtStart starting) []
     sending-start bus =
         record {
           own = own-start k starting t first;
@@ -137,7 +139,7 @@ module _ (k : Kept) (starting : ℕ → Option ℕ) where
           carried = carried-start k starting t (bus .control);
         }
 
-    sending-on : (bus : FairBus k t) (s : State) (i : Input) (past : List Input) → MayTick k s i → Sending bus s past
+    pub sending-on : (bus : FairBus k t) (s : State) (i : Input) (past : List Input) → MayTick k s i → Sending bus s past
         → Sending bus (tick k s i) (i ∷ past)
     sending-on bus s i past may h =
         record {
@@ -251,7 +253,7 @@ module _ (p : Plan) (n t : ℕ) (h : consumes p n t ≡ true) where
       any-among (leaves p t) (f .among) (rw (eq-eqb (f .one .producer) t (c .0), ne-eqb (taskNode p (f .one .consumer)) (taskNode p t) apart))
 
 -- a task without an invocation runs in no mode
-uninvoked : (p : Plan) (is : List Invocation) (μ t : ℕ) → any (invokes t) is ≡ false → periodAmong p is μ t ≡ 0
+pub uninvoked : (p : Plan) (is : List Invocation) (μ t : ℕ) → any (invokes t) is ≡ false → periodAmong p is μ t ≡ 0
 unfolding periodAmong isRun invokes
 uninvoked p [] μ t e = refl
 uninvoked p (i ∷ is) μ t e =
@@ -262,18 +264,18 @@ uninvoked p (i ∷ is) μ t e =
     neither true = refl
     neither false = refl
 
-is-bus : (p : Plan) (t : ℕ) → any (invokes t) (p .invocations) ≡ true → any (leaves p t) (p .connections) ≡ true → isBusTask p t ≡ true
+pub is-bus : (p : Plan) (t : ℕ) → any (invokes t) (p .invocations) ≡ true → any (leaves p t) (p .connections) ≡ true → isBusTask p t ≡ true
 unfolding isBusTask
 is-bus p t a b = both a b
 
-fair-home : (p : Plan) → PlanKept p → (t : ℕ) → t < length (p .tasks) → theTask p t .home < length (p .modules)
+pub fair-home : (p : Plan) → PlanKept p → (t : ℕ) → t < length (p .tasks) → theTask p t .home < length (p .modules)
 unfolding theTask
 fair-home p kept t w = all-getD noTask (kept .tasks) t w .home
 
 -- ---- demand 3
 
 module _ (plan table : List ℕ) (starting : ℕ → Option ℕ) (b : Begun) (begins : begin plan table starting ≡ ok b)
-    (p : Plan) (reads : readPlan plan ≡ ok p) (history : List Input) (s : State) (plays : played (b .kept) (b .state) history ≡ ok s) where
+    (p : Plan) (reads : readIn (isForConsumers table) plan ≡ ok p) (history : List Input) (s : State) (plays : played (b .kept) (b .state) history ≡ ok s) where
   pub facts : Beginning plan table starting b
   facts = begun plan table starting b begins
 
@@ -309,31 +311,31 @@ module _ (plan table : List ℕ) (starting : ℕ → Option ℕ) (b : Begun) (be
     shows-own = own-along (keptFor (facts .read) (facts .rows)) starting t fair first history s plays-on .shows
 
     module _ (bus : isBusTask (facts .read) t ≡ true) where
-      on-bus : FairBus (keptFor (facts .read) (facts .rows)) t
+      pub on-bus : FairBus (keptFor (facts .read) (facts .rows)) t
       on-bus = fair-bus (facts .read) (facts .kept) (facts .isLaid) (facts .rows) (facts .obeys) t w bus
 
-      heard-is : heardIn (keptFor (facts .read) (facts .rows)) (firstIn starting) t history
-          ≡ heardValue (facts .read) (basic (facts .read)) starting t history
+      pub heard-is : heardIn (keptFor (facts .read) (facts .rows)) (firstIn starting) t history
+          ≡ heardValue (facts .read) (traffic (facts .read)) starting t history
       unfolding keptOf layoutOf heardValue homeIn
       heard-is =
-          heard-same (homeIn (facts .read)) (periodIn (facts .read)) (firstIn starting) (basic (facts .read) .period)
-          (sentIn (keptFor (facts .read) (facts .rows))) (has (basic (facts .read) .messages)) t
+          heard-same (homeIn (facts .read)) (periodIn (facts .read)) (firstIn starting) (traffic (facts .read) .period)
+          (sentIn (keptFor (facts .read) (facts .rows))) (has (traffic (facts .read) .messages)) t
           (λ μ d. sent-is (facts .read) (facts .kept) (facts .rows) t μ d)
           history
 
-      shows-heard : (n : ℕ) → (taskNode (facts .read) t ≡ n → ⊥) → s .shown n t ≡ heardValue (facts .read) (basic (facts .read)) starting t history
+      pub shows-heard : (n : ℕ) → (taskNode (facts .read) t ≡ n → ⊥) → s .shown n t ≡ heardValue (facts .read) (traffic (facts .read)) starting t history
       unfolding keptOf homeNode taskNode
       shows-heard n away =
           landed-along (keptFor (facts .read) (facts .rows)) starting t fair first on-bus n away history s plays-on ∙ heard-is
 
-      hears-board : heardValue (facts .read) (basic (facts .read)) starting t history ≡ boardValue (facts .read) starting t history
+      hears-board : isThinned (facts .read) t ≡ false → heardValue (facts .read) (traffic (facts .read)) starting t history ≡ boardValue (facts .read) starting t history
       unfolding keptOf boardValue homeIn
-      hears-board =
+      hears-board whole =
           sym heard-is
           ∙ heard-along (keptFor (facts .read) (facts .rows)) starting t fair first on-bus
-          (every-run (facts .read) (facts .kept) (facts .rows) t bus) history s plays-on
+          (every-run (facts .read) (facts .kept) (facts .rows) t bus whole) history s plays-on
 
-    shows-idle : any (invokes t) (facts .read .invocations) ≡ false → (n : ℕ) → s .shown n t ≡ boardValue (facts .read) starting t history
+    pub shows-idle : any (invokes t) (facts .read .invocations) ≡ false → (n : ℕ) → s .shown n t ≡ boardValue (facts .read) starting t history
     unfolding keptOf layoutOf boardValue homeIn periodIn
     shows-idle quiet n =
         idle-along (keptFor (facts .read) (facts .rows)) starting t fair first n
@@ -346,38 +348,38 @@ module _ (plan table : List ℕ) (starting : ℕ → Option ℕ) (b : Begun) (be
 
   -- a bus task, on every other node: the result of the last ended run whose message is sent
   pub transparent-heard : (n t : ℕ) → t < length (p .tasks) → isBusTask p t ≡ true → (taskNode p t ≡ n → ⊥)
-      → s .shown n t ≡ heardValue p (basic p) starting t history
+      → s .shown n t ≡ heardValue p (traffic p) starting t history
   transparent-heard n t =
-      subst (λ (p : Plan). t < length (p .tasks) → isBusTask p t ≡ true → (taskNode p t ≡ n → ⊥) → s .shown n t ≡ heardValue p (basic p) starting t history)
+      subst (λ (p : Plan). t < length (p .tasks) → isBusTask p t ≡ true → (taskNode p t ≡ n → ⊥) → s .shown n t ≡ heardValue p (traffic p) starting t history)
       same-plan (λ w bus. shows-heard t w bus n)
 
-  -- every run of a bus task has its message, so this is the one board's value
-  pub heard-board : (t : ℕ) → t < length (p .tasks) → isBusTask p t ≡ true
-      → heardValue p (basic p) starting t history ≡ boardValue p starting t history
+  -- where it is not thinned every run has its message, so this is the one board's value
+  pub heard-board : (t : ℕ) → t < length (p .tasks) → isBusTask p t ≡ true → isThinned p t ≡ false
+      → heardValue p (traffic p) starting t history ≡ boardValue p starting t history
   heard-board t =
-      subst (λ (p : Plan). t < length (p .tasks) → isBusTask p t ≡ true → heardValue p (basic p) starting t history ≡ boardValue p starting t history)
+      subst (λ (p : Plan). t < length (p .tasks) → isBusTask p t ≡ true → isThinned p t ≡ false → heardValue p (traffic p) starting t history ≡ boardValue p starting t history)
       same-plan (hears-board t)
 
-  -- a bus task, on every node
-  pub transparent-bus : (n t : ℕ) → t < length (p .tasks) → isBusTask p t ≡ true → s .shown n t ≡ boardValue p starting t history
-  transparent-bus n t w bus = where-it-is (tested (eqb (taskNode p t) n))
+  -- a bus task that is not thinned, on every node
+  pub transparent-bus : (n t : ℕ) → t < length (p .tasks) → isBusTask p t ≡ true → isThinned p t ≡ false → s .shown n t ≡ boardValue p starting t history
+  transparent-bus n t w bus whole = where-it-is (tested (eqb (taskNode p t) n))
     where
       where-it-is : (eqb (taskNode p t) n ≡ true) ⊎ (eqb (taskNode p t) n ≡ false) → s .shown n t ≡ boardValue p starting t history
       where-it-is (inl e) =
           subst (λ (n : ℕ). s .shown n t ≡ boardValue p starting t history) (eqb-true (taskNode p t) n e) (transparent-own t w)
-      where-it-is (inr e) = transparent-heard n t w bus (eqb-false (taskNode p t) n e) ∙ heard-board t w bus
+      where-it-is (inr e) = transparent-heard n t w bus (eqb-false (taskNode p t) n e) ∙ heard-board t w bus whole
 
-  -- on every node that consumes a task of another node
-  pub transparent : (n t : ℕ) → consumes p n t ≡ true → s .shown n t ≡ boardValue p starting t history
+  -- on every node that consumes a task of another node, if it is not thinned
+  pub transparent : (n t : ℕ) → consumes p n t ≡ true → isThinned p t ≡ false → s .shown n t ≡ boardValue p starting t history
   transparent n t =
-      subst (λ (p : Plan). consumes p n t ≡ true → s .shown n t ≡ boardValue p starting t history) same-plan
-      (λ c. invoked-or-not c (tested (any (invokes t) (facts .read .invocations))))
+      subst (λ (p : Plan). consumes p n t ≡ true → isThinned p t ≡ false → s .shown n t ≡ boardValue p starting t history) same-plan
+      (λ c whole. invoked-or-not c whole (tested (any (invokes t) (facts .read .invocations))))
     where
-      invoked-or-not : consumes (facts .read) n t ≡ true
+      invoked-or-not : consumes (facts .read) n t ≡ true → isThinned (facts .read) t ≡ false
           → (any (invokes t) (facts .read .invocations) ≡ true) ⊎ (any (invokes t) (facts .read .invocations) ≡ false)
           → s .shown n t ≡ boardValue (facts .read) starting t history
-      invoked-or-not c (inl e) =
+      invoked-or-not c whole (inl e) =
           let there = consumed-there (facts .read) n t c (facts .kept) in
           let bus = is-bus (facts .read) t e (consumed-leaves (facts .read) n t c) in
-          shows-heard t there bus n (consumed-away (facts .read) n t c) ∙ hears-board t there bus
-      invoked-or-not c (inr e) = shows-idle t (consumed-there (facts .read) n t c (facts .kept)) e n
+          shows-heard t there bus n (consumed-away (facts .read) n t c) ∙ hears-board t there bus whole
+      invoked-or-not c whole (inr e) = shows-idle t (consumed-there (facts .read) n t c (facts .kept)) e n

@@ -178,16 +178,16 @@ module _ (k : Kept) (first : ℕ → ℕ) (t : ℕ) where
   -- ---- bus time and runs
 
   module _ (bus : FairBus k t) (s : State) (past : List Input) (own : Own k first t s past) (beats : Beats k (k .taskHome t) s past) where
-    run-aligned : 0 < runPeriod k s t → runPeriod k s t ∣ taskAge k s t - s .clock
+    pub run-aligned : 0 < runPeriod k s t → runPeriod k s t ∣ taskAge k s t - s .clock
     unfolding runPeriod taskAge
     run-aligned p = dvd-trans (runPeriod k s t) (bus .runs (s .mode (k .taskHome t)) (own .timed .known) p) (beats .aligned)
 
     -- a run that ends does so at a multiple of its period in bus time
-    ends-in-cycle : Ending k s t → runPeriod k s t ∣ s .clock
+    pub ends-in-cycle : Ending k s t → runPeriod k s t ∣ s .clock
     unfolding taskAge
     ends-in-cycle e = same-multiple (runPeriod k s t) (taskAge k s t) (s .clock) (beats .beat) (run-aligned (e .invoked)) (e .whole)
 
-    started-clock : 0 < taskAge k s t → 0 < s .clock
+    pub started-clock : 0 < taskAge k s t → 0 < s .clock
     unfolding taskAge
     started-clock a = begun (eq-zero-or-pos (s .clock))
       where

@@ -1,6 +1,6 @@
 -- Demand 3, the plan's part: what a plan and a passed table keep of each task is what the station's proof asks.
 use mathlib.Core.Path.{_≡_, refl, sym, ap, _∙_, subst}
-use mathlib.Core.Bool.{true}
+use mathlib.Core.Bool.{true, false}
 use mathlib.Core.List.{List, _∷_, List·Memᴰ, List·Memᴰ·head, List·Memᴰ·tail}
 use native.Mathlib.Nat.{dvd-trans, zero-mul, zero-lt-suc, le-max-left, mul-pos}
 use native.Mathlib.Omega.{arith}
@@ -13,13 +13,13 @@ use Rattle.laws.specs.Numbers.{ceil}
 use Rattle.laws.proofs.Lists.{both, true-false}
 use Rattle.laws.proofs.Divisors.{ceil-enough, up-enough}
 use Rattle.laws.proofs.Members.{All, empty, also, all-weaker, all-member, all-getD, all-of-places}
-use Rattle.laws.proofs.Members.{pairs-getD, chain-pairs, member-getD, member-tab, keep-member, keep-passes}
+use Rattle.laws.proofs.Members.{member-map, pairs-getD, chain-pairs, member-getD, member-tab, keep-member, keep-passes}
 use Rattle.laws.proofs.Orders.{compare-case}
 use Rattle.laws.proofs.Places.{member-place, member-some}
 use Rattle.laws.proofs.Tests.{by-same, by-itself}
 use Rattle.rules.specs.Plan.{Bus, Invocation, Plan, noMode, noTask, noInvocation, theMode, theTask, theInvocation, periodOf}
 use Rattle.rules.specs.Traffic.{moduleNode, isBusTask, isSending, standsOn, sendersOn, controlPayload, isSendingNode}
-use Rattle.rules.specs.Traffic.{sendingNodes, ofBusTask, busPeriod, ofSender, basic, has}
+use Rattle.rules.specs.Traffic.{sendingNodes, ofBusTask, runOf, busRuns, ofSender, traffic, has}
 use Rattle.rules.specs.Frames.{Pair, pairs, hasOf, ofBits, onBus, sendingTime, gapTime, ControlRow, noControlRow}
 use Rattle.rules.specs.Frames.{controlFrom, controlRows, controlEnd, isOne, Layout, layoutOf}
 use Rattle.rules.specs.LatestRelease.{noPair, timeAlone}
@@ -27,7 +27,6 @@ use Rattle.rules.specs.Checker.{Named, TableRead, controlAt, rowAt}
 use Rattle.rules.specs.Playing.{periodAmong, periodIn}
 use Rattle.rules.specs.Station.{Kept, keptOf, passedPair, passedRow, homeNode, hasMessage}
 use Rattle.rules.specs.Obeys.{pairAt, NamesAll, noName, oneName, ObeysTable}
-use Rattle.rules.proofs.Period.{period, switch-grid}
 use Rattle.rules.proofs.PlanKept.{PlanKept, BusKept, ModeKept, TaskKept}
 use Rattle.rules.proofs.LaidOut.{LaidOut, sender, period-kept, pairs-kept, control-kept, control-chain}
 use Rattle.rules.proofs.Sent.{RunAmong, run-in, has-means, sent-pair, pair-release}
@@ -37,11 +36,14 @@ use Rattle.rules.proofs.TransparentTick.{Messages, message-tests}
 use Rattle.rules.proofs.TransparentModes.{FairModule, FairCycle}
 use Rattle.rules.proofs.TransparentOwn.{FairTask}
 use Rattle.rules.proofs.TransparentBus.{NoOverlap, oneRow, before, behind, RunOfPair, FairBus, EveryRunIsSent}
+use Rattle.rules.specs.Readers.{isThinned}
+use Rattle.rules.proofs.Editions.{grid-divides, run-divides}
+use Rattle.rules.proofs.AllRead.{all-read}
 
 -- ---- what a plan keeps of each task
 
 abbrev pub keptFor : Plan → TableRead → Kept
-keptFor p tr = keptOf (record { plan = p; traffic = basic p; layout = layoutOf p; table = tr })
+keptFor p tr = keptOf (record { plan = p; traffic = traffic p; layout = layoutOf p; table = tr })
 
 module _ (p : Plan) (kept : PlanKept p) (tr : TableRead) where
   mode-of : (μ : ℕ) → μ < length (p .modes) → ModeKept p (theMode p μ)
@@ -178,16 +180,16 @@ module _ (p : Plan) (kept : PlanKept p) (tr : TableRead) (obeys : ObeysTable (la
 module _ (p : Plan) (kept : PlanKept p) {l : Layout} (laid : LaidOut p l) (tr : TableRead) (obeys : ObeysTable (layoutOf p) tr) where
   -- P divides both periods of a mode of a sending module
   mode-cycles : (t μ : ℕ) → t < length (p .tasks) → isBusTask p t ≡ true → μ < length (p .modes) → theMode p μ .home ≡ theTask p t .home
-      → (busPeriod p ∣ theMode p μ .switch) × (busPeriod p ∣ theMode p μ .period)
+      → (traffic p .period ∣ theMode p μ .switch) × (traffic p .period ∣ theMode p μ .period)
   unfolding ofSender
   mode-cycles t μ w bus v own =
       let sends : isSending p (theMode p μ .home) ≡ true = rw own (sender p kept t w bus) in (
-        dvd-trans (busPeriod p) (laid .divides) (switch-grid p .divisor .switches μ v sends),
-        dvd-trans (busPeriod p) (laid .divides) (switch-grid p .divisor .periods μ v sends),
+        dvd-trans (traffic p .period) (laid .divides) (grid-divides p μ v sends .1),
+        dvd-trans (traffic p .period) (laid .divides) (grid-divides p μ v sends .0),
       )
 
   pub fair-cycle : (t : ℕ) → t < length (p .tasks) → isBusTask p t ≡ true → FairCycle (keptFor p tr) (theTask p t .home)
-  unfolding keptOf layoutOf basic
+  unfolding keptOf layoutOf traffic
   fair-cycle t w bus =
       record {
         cycle = period-kept p kept laid .least;
@@ -195,12 +197,12 @@ module _ (p : Plan) (kept : PlanKept p) {l : Layout} (laid : LaidOut p l) (tr : 
         modes = λ μ h. mode-cycles t μ w bus (h .there) (h .own) .1;
       }
 
-  run-cycles : (t μ : ℕ) → isBusTask p t ≡ true → 0 < periodIn p μ t → periodIn p μ t ∣ busPeriod p
-  unfolding periodIn ofBusTask theInvocation
+  run-cycles : (t μ : ℕ) → isBusTask p t ≡ true → 0 < periodIn p μ t → periodIn p μ t ∣ traffic p .period
+  unfolding periodIn busRuns ofBusTask runOf
   run-cycles t μ bus pos =
       let r = run-in p μ t pos in
-      let multiples = all-of-places {P = λ (i : Invocation). ofBusTask p i ≡ true → periodOf p i ∣ busPeriod p} (p .invocations) noInvocation (period p .multiple) in
-      rw (← r .period) (all-member multiples (r .among) (rw (r .task) bus))
+      let bus-run = keep-member (ofBusTask p) (rw (r .task) bus) (r .among) in
+      rw (← r .period) (all-member (run-divides p) (member-map (runOf p) bus-run))
 
   -- ---- the control row of the task's node
 
@@ -286,7 +288,7 @@ module _ (p : Plan) (kept : PlanKept p) {l : Layout} (laid : LaidOut p l) (tr : 
       record { invoked = sent .runs; whole = sent .due; released = rw (r .1 .is) (omega arith) }
 
   pub fair-bus : (t : ℕ) → t < length (p .tasks) → isBusTask p t ≡ true → FairBus (keptFor p tr) t
-  unfolding keptOf layoutOf homeNode basic
+  unfolding keptOf layoutOf homeNode traffic
   fair-bus t w bus =
       let node = home-row t w bus in
       let rows = control-same p kept tr obeys in
@@ -311,14 +313,14 @@ module _ (p : Plan) (kept : PlanKept p) {l : Layout} (laid : LaidOut p l) (tr : 
 
 module _ (p : Plan) (kept : PlanKept p) (tr : TableRead) where
   -- those that the plan sends
-  pub sent-is : (t μ d : ℕ) → hasMessage (keptFor p tr) t μ d ≡ has (basic p .messages) μ t d
+  pub sent-is : (t μ d : ℕ) → hasMessage (keptFor p tr) t μ d ≡ has (traffic p .messages) μ t d
   unfolding keptOf passedPair layoutOf pairs
-  sent-is t μ d = by-same (message-tests (keptFor p tr) t μ d) (by-itself (has (basic p .messages) μ t d)) has-it in-pair
+  sent-is t μ d = by-same (message-tests (keptFor p tr) t μ d) (by-itself (has (traffic p .messages) μ t d)) has-it in-pair
     where
-      has-it : Messages (keptFor p tr) t μ d → has (basic p .messages) μ t d ≡ true
+      has-it : Messages (keptFor p tr) t μ d → has (traffic p .messages) μ t d ≡ true
       has-it x = rw (x .known .task, x .time) at (x .has)
 
-      in-pair : has (basic p .messages) μ t d ≡ true → Messages (keptFor p tr) t μ d
+      in-pair : has (traffic p .messages) μ t d ≡ true → Messages (keptFor p tr) t μ d
       in-pair e =
           let f = sent-pair p kept μ t d e in
           let q = member-place noPair (f .1) in
@@ -326,8 +328,10 @@ module _ (p : Plan) (kept : PlanKept p) (tr : TableRead) where
           let due : keptFor p tr .pairDeadline (q .at) ≡ d = rw (q .is) (f .3) in
           record { pair = q .at; known = record { there = q .within; task = task }; time = due; has = rw (task, due) e }
 
-  -- every run of a bus task has its message
-  pub every-run : (t : ℕ) → isBusTask p t ≡ true → EveryRunIsSent (keptFor p tr) t
-  unfolding keptOf layoutOf basic
-  every-run t bus μ d own runs due low high =
-      sent-is t μ d ∙ has-means p kept μ t d .passes (record { bus = bus; runs = runs; due = due; low = low; high = high })
+  -- every run of a bus task that is not thinned has its message
+  pub every-run : (t : ℕ) → isBusTask p t ≡ true → isThinned p t ≡ false → EveryRunIsSent (keptFor p tr) t
+  unfolding keptOf layoutOf
+  every-run t bus whole μ d own runs due low high =
+      sent-is t μ d
+      ∙ has-means p kept μ t d .passes
+      (record { bus = bus; runs = runs; due = due; read = all-read p t whole (periodIn p μ t) d runs; low = low; high = high })

@@ -13,8 +13,8 @@ use Rattle.laws.proofs.Runs.{withinRun, run-first, run-ends}
 use Rattle.laws.proofs.Tests.{Tests, by-iff, by-lt, by-divides, by-and}
 use Rattle.laws.specs.Res.{ok}
 use Rattle.rules.specs.Playing.{Input, isGiven}
-use Rattle.rules.specs.Plan.{Plan, readPlan}
-use Rattle.rules.specs.Traffic.{taskNode}
+use Rattle.rules.specs.Plan.{Plan}
+use Rattle.rules.specs.Traffic.{taskNode, readIn}
 use Rattle.rules.specs.Frames.{layoutOf}
 use Rattle.rules.specs.Station.{Kept, State, Begun, keptOf, stateAtStart, runPeriod, taskAge, runAge, endsNow, tick, begin}
 use Rattle.rules.specs.Obeys.{MayTick}
@@ -22,7 +22,6 @@ use Rattle.rules.specs.History.{played, homeIn, firstIn, boardValue, con
 use Rattle.rules.specs.OneBoard.{modeNow, sinceMode, periodNow, runEnds, resultWithin, value}
 use Rattle.rules.specs.Told.{At, newest, older, Enters, fromStart, byChange, InMode, EndedRun, OneResult, ValueIs, ofNone}
 use Rattle.rules.specs.Told.{ofLast, Tells, ShowsTold}
-use Rattle.rules.proofs.PlanKept.{readable-kept}
 use Rattle.rules.proofs.StationExact.{none-some, some-same, given-case}
 use Rattle.rules.proofs.TransparentTick.{
   Ending,
@@ -46,6 +45,10 @@ use Rattle.rules.proofs.TransparentOwn.{FairTask, Own, own-on, own-star
 use Rattle.rules.proofs.TransparentPlan.{keptFor}
 use Rattle.rules.proofs.Transparent.{Beginning, along, consumed-there, facts, same-plan, plays-on, fair, first}
 use Rattle.rules.proofs.Transparent.{transparent, transparent-own}
+use Rattle.rules.specs.Checker.{isForConsumers}
+use Rattle.rules.specs.Readers.{isThinned}
+use Rattle.rules.proofs.Editions.{readable-kept-in}
+use Rattle.rules.proofs.AllRead.{basic-whole}
 
 -- ---- ticks by number
 
@@ -506,7 +509,7 @@ words-start k starting t known =
 -- ---- demand 3 in plain words
 
 module _ (plan table : List ℕ) (starting : ℕ → Option ℕ) (b : Begun) (begins : begin plan table starting ≡ ok b)
-    (p : Plan) (reads : readPlan plan ≡ ok p) (history : List Input) (s : State) (plays : played (b .kept) (b .state) history ≡ ok s) where
+    (p : Plan) (reads : readIn (isForConsumers table) plan ≡ ok p) (history : List Input) (s : State) (plays : played (b .kept) (b .state) history ≡ ok s) where
   abbrev told : Beginning plan table starting b
   told = facts plan table starting b begins p reads history s plays
 
@@ -527,19 +530,20 @@ module _ (plan table : List ℕ) (starting : ℕ → Option ℕ) (b : Begun) (be
       subst (λ (p : Plan). t < length (p .tasks) → Tells p starting t history (boardValue p starting t history))
       (same-plan plan table starting b begins p reads history s plays) (board-told t)
 
-  -- on every node that consumes a task of another node
-  pub shown-told : (n t : ℕ) → consumes p n t ≡ true → Tells p starting t history (s .shown n t)
-  shown-told n t c =
-      subst (Tells p starting t history) (sym (transparent plan table starting b begins p reads history s plays n t c))
-      (value-told t (consumed-there p n t c (readable-kept plan p reads)))
+  -- on every node that consumes a task of another node, if it is not thinned
+  pub shown-told : (n t : ℕ) → consumes p n t ≡ true → isThinned p t ≡ false → Tells p starting t history (s .shown n t)
+  shown-told n t c whole =
+      subst (Tells p starting t history) (sym (transparent plan table starting b begins p reads history s plays n t c whole))
+      (value-told t (consumed-there p n t c (readable-kept-in (isForConsumers table) plan p reads)))
 
   -- and on a task's own
   pub shown-told-own : (t : ℕ) → t < length (p .tasks) → Tells p starting t history (s .shown (taskNode p t) t)
   shown-told-own t w =
       subst (Tells p starting t history) (sym (transparent-own plan table starting b begins p reads history s plays t w)) (value-told t w)
 
-  pub shows-told : ShowsTold p starting history (s .shown)
-  shows-told = record { consumed = shown-told; own = shown-told-own }
+  -- so in the basic edition at every tick
+  pub shows-told : p .consumers ≡ false → ShowsTold p starting history (s .shown)
+  shows-told basic = record { consumed = λ n t c. shown-told n t c (basic-whole p t basic); own = shown-told-own }
 
 -- ---- no second value is told
 

@@ -17,8 +17,9 @@ use Rattle.laws.proofs.Refusals.{Gives, gives-ok, gives-at, gives-unless, gives
 use Rattle.rules.specs.Limits.{mostFrames, plainByteBits}
 use Rattle.rules.specs.Records.{Field, width, widths, ranges, kinds, known, fields, bodyLength, busThen, isBus, planFollows, Rec, decoded, recordOf, before, ended, walk, records}
 use Rattle.rules.specs.Plan.{nth, busOf, isKind, isBusRecord, things, only, theBus, planOf, count, countFits, namesAreThere, payloadsOrdered, numbersAreWithin, planFrom, readPlan}
+use Rattle.rules.specs.Traffic.{planIn, readIn}
 use Rattle.rules.specs.Table.{FrameRow, MadeTable, alone, madeTable, tableFor, Made, outcome, make}
-use Rattle.rules.specs.Checker.{Passed, checkFiles, Checked, checkOutcome, check}
+use Rattle.rules.specs.Checker.{isForConsumers, Passed, checkFiles, Checked, checkOutcome, check}
 use Rattle.rules.specs.Playing.{modulePlaces}
 use Rattle.rules.specs.Station.{keptOf, startsWell, begin}
 use Rattle.rules.specs.Twin.{plainPlan, twinPlan, aByteLater}
@@ -180,32 +181,41 @@ module _ (body rest : List ℕ) (whole : length body ≡ 16) where
       ∙ walk-good planFollows 1 0 9 0 framed rest (record { isKnown = refl; isNext = refl }) (λ e. absurd (omega (arith, e))) long
       ∙ rw (long, behind-bus 18 rest, later-walk 1 0 17 rest, twin-numbers)
 
-  pub twin-read : readPlan twin ≡ aByteLater (readPlan plain)
+  twin-plan : readPlan twin ≡ aByteLater (readPlan plain)
   unfolding readPlan
-  twin-read = rw (twin-walked, plain-walked) (bus-later (its 0) (its 1) (its 2) (its 3) (its 4) (its 5) behind)
+  twin-plan = rw (twin-walked, plain-walked) (bus-later (its 0) (its 1) (its 2) (its 3) (its 4) (its 5) behind)
 
-  twin-table : (room : ℕ) → tableFor twin room ≡ aByteLater (tableFor plain room)
+  -- in either edition
+  pub twin-read : (consumers : Bool) → readIn consumers twin ≡ aByteLater (readIn consumers plain)
+  unfolding readIn
+  twin-read consumers = rw twin-plan (later-bind {high = 5} (readPlan plain) _ λ p. gives-ok (planIn consumers p))
+
+  twin-table : (consumers : Bool) (room : ℕ) → tableFor consumers twin room ≡ aByteLater (tableFor consumers plain room)
   unfolding tableFor
-  twin-table room =
-      rw twin-read
-      (later-bind (readPlan plain) _ λ p.
+  twin-table consumers room =
+      rw (twin-read consumers)
+      (later-bind (readIn consumers plain) _ λ p.
       gives-bind {high = 13} (gives-within (lit≤ tt) (lit≤ tt) (layout-gives p)) λ l.
       gives-bind (gives-within (lit≤ tt) (lit≤ tt) (rule-gives l)) λ placed.
       let t = madeTable l (map alone placed) in
       gives-then (gives-unless 13 (length (t .table)) (leb (length (t .table)) room) (lit≤ tt) (lit≤ tt)) (gives-ok t))
 
-  pub twin-made : (rows : List FrameRow) (buffer : List ℕ) → MadeAlike (make plain rows buffer) (make twin rows buffer)
+  pub twin-made : (consumers : Bool) (rows : List FrameRow) (buffer : List ℕ)
+      → MadeAlike (make consumers plain rows buffer) (make consumers twin rows buffer)
   unfolding make
-  twin-made rows buffer = by-rows (leb mostFrames (length rows)) refl
+  twin-made consumers rows buffer = by-rows (leb mostFrames (length rows)) refl
     where
-      by-rows : (b : Bool) → leb mostFrames (length rows) ≡ b → MadeAlike (make plain rows buffer) (make twin rows buffer)
-      by-rows true e = rw (e, make, twin-table (length buffer)) (made-alike (tableFor plain (length buffer)) rows buffer)
+      by-rows : (b : Bool) → leb mostFrames (length rows) ≡ b → MadeAlike (make consumers plain rows buffer) (make consumers twin rows buffer)
+      by-rows true e =
+          rw (e, make, twin-table consumers (length buffer)) (made-alike (tableFor consumers plain (length buffer)) rows buffer)
       by-rows false e = rw (e, make) (record { answer = refl; rows = refl; buffer = refl })
 
   module _ (table : List ℕ) where
     twin-files : checkFiles twin table ≡ aByteLater (checkFiles plain table)
     unfolding checkFiles
-    twin-files = rw twin-read (later-bind (readPlan plain) _ λ p. gives-within {high = 28} (lit≤ tt) (lit≤ tt) (check-gives p table))
+    twin-files =
+        rw (twin-read (isForConsumers table))
+        (later-bind (readIn (isForConsumers table) plain) _ λ p. gives-within {high = 28} (lit≤ tt) (lit≤ tt) (check-gives p table))
 
     pub twin-checked : (rows : List FrameRow) → CheckedAlike (check plain table rows) (check twin table rows)
     unfolding check

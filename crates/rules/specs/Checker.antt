@@ -5,12 +5,12 @@ use lib.Dec.{eqb, leb}
 use lib.ListN.{length, getD, take, replicate}
 use Prim.Native.Nat.{ℕ, zero, suc, _+_}
 use Rattle.laws.specs.Res.{Res, ok, refuse, _>>=_, _>>_, unless, at}
-use Rattle.laws.specs.Lists.{any, all, joined, firstBad, lastD, upTo}
+use Rattle.laws.specs.Lists.{keep, any, all, joined, firstBad, lastD, upTo}
 use Rattle.laws.specs.Numbers.{divides}
-use Rattle.rules.specs.Records.{Rec, records, tableFollows}
-use Rattle.rules.specs.Plan.{Plan, nth, things, only, readPlan}
+use Rattle.rules.specs.Records.{Rec, isHead, headKind, records, tableFollows}
+use Rattle.rules.specs.Plan.{Plan, nth, things, numbersOf, zeroRecord}
 use Rattle.rules.specs.Limits.{mostFrames}
-use Rattle.rules.specs.Traffic.{Traffic, basic}
+use Rattle.rules.specs.Traffic.{Traffic, readIn, traffic}
 use Rattle.rules.specs.Frames.{Pair, ControlRow, noControlRow, Layout, layout}
 use Rattle.rules.specs.LatestRelease.{noPair}
 use Rattle.rules.specs.Table.{DataRow, FrameRow, zeroRow, rowsThenZero}
@@ -48,12 +48,19 @@ controlRowOf b = record { node = nth b 0; start = nth b 1; stop = nth b 2 }
 unfoldable pub dataRowOf : List ℕ → DataRow
 dataRowOf b = record { task = nth b 0; deadline = nth b 1; start = nth b 2; stop = nth b 3 }
 
+-- the first head, of either kind
+unfoldable pub isHeadRecord : Rec → Bool
+isHeadRecord r = isHead (r .kind)
+
+unfoldable pub headOf : List Rec → List ℕ
+headOf rs = numbersOf (getD (keep isHeadRecord rs) 0 zeroRecord)
+
 unfoldable pub tableOf : List Rec → TableRead
 tableOf rs =
     record {
-      period = nth (only 16 rs) 0;
-      controls = nth (only 16 rs) 1;
-      datas = nth (only 16 rs) 2;
+      period = nth (headOf rs) 0;
+      controls = nth (headOf rs) 1;
+      datas = nth (headOf rs) 2;
       control = map controlRowOf (things 17 rs);
       rows = map rowOf (map dataRowOf (things 18 rs));
     }
@@ -174,30 +181,35 @@ judged l t = do
   shaped l t
   timed l t
 
--- A passed table: its plan, what the plan sends, what it asks of the bus, and the table as it was read.
+-- A passed table: its plan in the table's edition, what the plan sends, what it asks of the bus, and the table as it was read.
 pub record Passed : Type 0 where
   pub plan : Plan
   pub traffic : Traffic
   pub layout : Layout
   pub table : TableRead
 
--- Rules 7.1 to 7.3: 1 to 11 of the plan, then 20 to 28 of the table; otherwise it passes.
+-- Rule 21.1: a table is of the consumer edition where its first byte is that edition's kind of head, whatever follows; so an empty one is
+-- not.
+unfoldable pub isForConsumers : List ℕ → Bool
+isForConsumers table = eqb (getD table 0 0) (headKind true)
+
+-- Rules 7.1 to 7.3: 1 to 11 of the plan in the table's edition, then 20 to 28 of the table; otherwise it passes.
 unfoldable pub checkFiles : List ℕ → List ℕ → Res Passed
 checkFiles plan table = do
-  p ← readPlan plan
+  p ← readIn (isForConsumers table) plan
   l ← layout p
   rs ← records tableFollows 20 table
   judged l (tableOf rs)
-  ok (record { plan = p; traffic = basic p; layout = l; table = tableOf rs })
+  ok (record { plan = p; traffic = traffic p; layout = l; table = tableOf rs })
 
 -- The same up to 24 (rule 17.1): each row is one that the plan asks for, and takes as long as it has to; whether it stands where it may is not asked.
 unfoldable pub located : List ℕ → List ℕ → Res Passed
 located plan table = do
-  p ← readPlan plan
+  p ← readIn (isForConsumers table) plan
   l ← layout p
   rs ← records tableFollows 20 table
   shaped l (tableOf rs)
-  ok (record { plan = p; traffic = basic p; layout = l; table = tableOf rs })
+  ok (record { plan = p; traffic = traffic p; layout = l; table = tableOf rs })
 
 -- the row that holds a pair
 unfoldable pub holdsPair : Pair → Row → Bool

@@ -18,6 +18,7 @@ withConnections p connections =
       tasks = p .tasks;
       invocations = p .invocations;
       connections = connections;
+      consumers = p .consumers;
     }
 
 -- Rule 15.1: a plan without its doubtful connections.

@@ -10,7 +10,8 @@ use Rattle.laws.specs.Lists.{keep, any, all, lastD, upTo}
 use Rattle.laws.specs.Numbers.{divides, ceil, up, sum, greatest}
 use Rattle.rules.specs.Limits.{mostFrames}
 use Rattle.rules.specs.Plan.{Bus, Plan, theMode, theTask}
-use Rattle.rules.specs.Traffic.{isBusTask, busTasks, controlPayload, sendingNodes, Message, Traffic, basic, has}
+use Rattle.rules.specs.Records.{headKind}
+use Rattle.rules.specs.Traffic.{isBusTask, busTasks, controlPayload, sendingNodes, Message, Traffic, traffic, has}
 
 -- A pair of task and deadline with its release (rule 4.7): a frame, as long as no two share one.
 pub record Pair : Type 0 where
@@ -50,7 +51,7 @@ pairsOf ms = foldr withPair [] (map pairOf ms)
 
 -- the pairs of a plan
 unfoldable pub pairs : Plan → List Pair
-pairs p = pairsOf (basic p .messages)
+pairs p = pairsOf (traffic p .messages)
 
 -- the modes that have a message of the pair
 unfoldable pub isIn : Pair → Message → Bool
@@ -148,9 +149,11 @@ controlFits p n = leb (controlPayload p n) (p .bus .most)
 unfoldable pub payloadsFit : Plan → Bool
 payloadsFit p = all (messageFits p) (busTasks p) && all (controlFits p) (sendingNodes p)
 
--- What placing and checking need of a plan, and nothing else: P, the gap time, the grid of starts (the resolution), C, the end that no row
--- may pass, the control rows, the pairs by number; how long a row takes that holds some pairs, and which pairs may be in one row.
+-- What placing and checking need of a plan, and nothing else: the kind of the table's head, P, the gap time, the grid of starts (the
+-- resolution), C, the end that no row may pass, the control rows, the pairs by number; how long a row takes that holds some pairs, and
+-- which pairs may be in one row.
 pub record Layout : Type 0 where
+  pub head : ℕ
   pub period : ℕ
   pub gap : ℕ
   pub grid : ℕ
@@ -173,8 +176,9 @@ isOne (f ∷ g ∷ fs) = false
 
 unfoldable pub layoutOf : Plan → Layout
 layoutOf p =
-    let t = basic p in
+    let t = traffic p in
     record {
+      head = headKind (p .consumers);
       period = t .period;
       gap = gapTime (p .bus);
       grid = p .bus .resolution;
@@ -191,9 +195,9 @@ layoutOf p =
 unfoldable pub layout : Plan → Res Layout
 layout p = do
   unless 6 0 (someBusTask p)
-  unless 7 0 (divides (basic p .period) (basic p .grid))
-  unless 8 0 (divides (p .bus .resolution) (basic p .period))
+  unless 7 0 (divides (traffic p .period) (traffic p .grid))
+  unless 8 0 (divides (p .bus .resolution) (traffic p .period))
   unless 9 0 (leb (length (pairs p)) mostFrames)
   unless 10 0 (payloadsFit p)
-  unless 11 0 (leb (controlEnd p) (basic p .period))
+  unless 11 0 (leb (controlEnd p) (traffic p .period))
   ok (layoutOf p)

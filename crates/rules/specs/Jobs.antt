@@ -3,32 +3,38 @@
 use mathlib.Core.Bool.{Bool, true, false, not, _&&_}
 use mathlib.Core.List.{List, [], _∷_, _++_, map}
 use lib.Dec.{eqb}
-use lib.ListN.{length, getD, set, take, replicate}
-use Prim.Native.Nat.{ℕ, _+_, _-_, _/_, _%_}
+use lib.ListN.{length, getD, set, take, drop, replicate}
+use Prim.Native.Nat.{ℕ, suc, _+_, _-_, _/_, _%_}
 use Rattle.laws.specs.Res.{Res, ok, refuse}
-use Rattle.laws.specs.Lists.{joined, upTo}
+use Rattle.laws.specs.Lists.{keep, joined, upTo}
 use Rattle.rules.specs.Limits.{mostFrames}
 use Rattle.rules.specs.Records.{Rec}
-use Rattle.rules.specs.Plan.{Plan, busOf, numbersAreWithin, readPlan}
-use Rattle.rules.specs.Traffic.{busRuns, basic}
+use Rattle.rules.specs.Plan.{Plan, nth, busOf, numbersAreWithin, readPlan}
+use Rattle.rules.specs.Traffic.{busRuns, readIn, traffic}
 use Rattle.rules.specs.Frames.{Sending, onBus}
+use Rattle.rules.specs.Readers.{readersOf}
 use Rattle.rules.specs.Direct.{walkRuns}
 use Rattle.rules.specs.Table.{recordBytes, FrameRow, zeroRow, Made, make}
-use Rattle.rules.specs.Checker.{Checked, check}
+use Rattle.rules.specs.Checker.{Passed, checkFiles, Checked, check}
+use Rattle.rules.specs.Station.{keptOf}
 
--- An entry: how many bits and ticks a payload takes on a bus; how many messages a plan has; how many pairs the walk over its runs finds, and in how many steps; what 1 to 5 say of a plan; a
--- record that 4 refuses; what is made of a plan in a room, the table and the frame rows, or the refusal; a table that passes, with the frame
--- rows, or the refusal; how many rows are lent, the refusal, and the rows left.
+-- An entry: how many bits and ticks a payload takes on a bus; in an edition how many messages a plan has, how many pairs the walk over its
+-- runs finds, and in how many steps; what 1 to 5 say of a plan; a record that 4 refuses; what is made of a plan in a room, the table and the
+-- frame rows, or the refusal, and the same in the consumer edition; a table that passes, with the frame rows, or the refusal; in which modes a
+-- station that plays the table sends a message of the pair with this number; how many rows are lent, the refusal, and the rows left.
 pub data Entry : Type 0 where
   sends : (bus : Rec) (bytes bits ticks : ℕ) → Entry
-  hasMessages : (plan : List ℕ) (number : ℕ) → Entry
-  walks : (plan : List ℕ) (found steps : ℕ) → Entry
+  hasMessages : (consumers : Bool) (plan : List ℕ) (number : ℕ) → Entry
+  walks : (consumers : Bool) (plan : List ℕ) (found steps : ℕ) → Entry
   reads : (plan : List ℕ) (says : Res (Unit {0})) → Entry
   outside : (r : Rec) → Entry
   made : (plan : List ℕ) (room : ℕ) (table : List ℕ) (rows : List FrameRow) → Entry
   notMade : (plan : List ℕ) (room number place : ℕ) → Entry
+  madeThin : (plan : List ℕ) (room : ℕ) (table : List ℕ) (rows : List FrameRow) → Entry
+  notMadeThin : (plan : List ℕ) (room number place : ℕ) → Entry
   passes : (plan table : List ℕ) (rows : List FrameRow) → Entry
   fails : (plan table : List ℕ) (number place : ℕ) → Entry
+  carries : (plan table : List ℕ) (pair : ℕ) (modes : List ℕ) → Entry
   rowsLent : (rows number place : ℕ) (after : List FrameRow) → Entry
 
 -- the same element by element
@@ -80,30 +86,40 @@ abbrev pub takes : Sending → ℕ → ℕ → Bool
 takes s bits ticks = eqb (s .bits) bits && eqb (s .ticks) ticks
 
 abbrev pub countsMessages : Res Plan → ℕ → Bool
-countsMessages (ok p) n = eqb (length (basic p .messages)) n
+countsMessages (ok p) n = eqb (length (traffic p .messages)) n
 countsMessages (refuse m q) n = false
 
 abbrev pub walksTo : Res Plan → ℕ → ℕ → Bool
 walksTo (ok p) found steps =
-    let w = walkRuns (basic p .period) (busRuns p) in
+    let w = walkRuns (readersOf p) (traffic p .period) (busRuns p) in
     eqb (length (w .found)) found && eqb (w .steps) steps
 walksTo (refuse m q) found steps = false
 
+abbrev pub carriesIn : Res Passed → ℕ → List ℕ → Bool
+carriesIn (ok c) pair modes = sameLists eqb (keep (keptOf c .pairHas pair) (upTo (keptOf c .modes))) modes
+carriesIn (refuse m q) pair modes = false
+
 abbrev pub holds : Entry → Bool
 holds (sends bus bytes bits ticks) = takes (onBus (busOf bus) bytes) bits ticks
-holds (hasMessages plan number) = countsMessages (readPlan plan) number
-holds (walks plan found steps) = walksTo (readPlan plan) found steps
+holds (hasMessages consumers plan number) = countsMessages (readIn consumers plan) number
+holds (walks consumers plan found steps) = walksTo (readIn consumers plan) found steps
 holds (reads plan says) = sameAnswer anyValue (readPlan plan) says
 holds (outside r) = not (numbersAreWithin r)
 holds (made plan room table rows) =
-    comesTo (make plan (lentRows mostFrames) (lentBytes room)) (ok (length table)) (rows ++ zeroRows (mostFrames - length rows))
+    comesTo (make false plan (lentRows mostFrames) (lentBytes room)) (ok (length table)) (rows ++ zeroRows (mostFrames - length rows))
     (table ++ lentBytes (room - length table))
 holds (notMade plan room number place) =
-    comesTo (make plan (lentRows mostFrames) (lentBytes room)) (refuse number place) (zeroRows mostFrames) (lentBytes room)
+    comesTo (make false plan (lentRows mostFrames) (lentBytes room)) (refuse number place) (zeroRows mostFrames) (lentBytes room)
+holds (madeThin plan room table rows) =
+    comesTo (make true plan (lentRows mostFrames) (lentBytes room)) (ok (length table)) (rows ++ zeroRows (mostFrames - length rows))
+    (table ++ lentBytes (room - length table))
+holds (notMadeThin plan room number place) =
+    comesTo (make true plan (lentRows mostFrames) (lentBytes room)) (refuse number place) (zeroRows mostFrames) (lentBytes room)
 holds (passes plan table rows) = checksTo (check plan table (lentRows mostFrames)) (ok tt) (rows ++ zeroRows (mostFrames - length rows))
 holds (fails plan table number place) = checksTo (check plan table (lentRows mostFrames)) (refuse number place) (zeroRows mostFrames)
+holds (carries plan table pair modes) = carriesIn (checkFiles plan table) pair modes
 holds (rowsLent rows number place after) =
-    comesTo (make [] (lentRows rows) (lentBytes 9)) (refuse number place) after (lentBytes 9)
+    comesTo (make false [] (lentRows rows) (lentBytes 9)) (refuse number place) after (lentBytes 9)
     && checksTo (check [] [] (lentRows rows)) (refuse number place) after
 
 -- a record by its kind and its numbers, and a file of records with the end record
@@ -289,6 +305,30 @@ recordsMany n =
     ∷ rec 7 (1 ∷ 0 ∷ [])
     ∷ []
 
+-- Two nodes, and one tick for a byte: task 0 (node 0, `size` bytes) is read by task 1 (node 1). Of each task the modes, by period and rate.
+unfoldable pub modesIn : ℕ → List (List ℕ) → List Rec
+modesIn m modes = map (λ μ. rec 4 (m ∷ nth μ 0 ∷ nth μ 0 ∷ [])) modes
+
+unfoldable pub invokedFrom : ℕ → ℕ → List (List ℕ) → List Rec
+invokedFrom k t [] = []
+invokedFrom k t (μ ∷ modes) = rec 6 (k ∷ t ∷ nth μ 1 ∷ []) ∷ invokedFrom (suc k) t modes
+
+unfoldable pub planOfTwo : ℕ → List (List ℕ) → List (List ℕ) → List ℕ
+planOfTwo size sent read =
+    file
+    ((rec 1 (8000 ∷ 0 ∷ 0 ∷ 254 ∷ 0 ∷ 1 ∷ []) ∷ rec 2 (2 ∷ []) ∷ rec 3 (0 ∷ []) ∷ rec 3 (1 ∷ []) ∷ [])
+    ++ (modesIn 0 sent ++ (modesIn 1 read
+    ++ ((rec 5 (0 ∷ size ∷ 1 ∷ []) ∷ rec 5 (1 ∷ 1 ∷ 1 ∷ []) ∷ [])
+    ++ (invokedFrom 0 0 sent ++ (invokedFrom (length sent) 1 read ++ (rec 7 (0 ∷ 1 ∷ []) ∷ [])))))))
+
+-- a table with a control row and rows of task 0, where these take so long, by head, P, and of each row deadline and start
+unfoldable pub tableOfTwo : ℕ → ℕ → ℕ → ℕ → List (List ℕ) → List ℕ
+tableOfTwo head period control time rows =
+    file
+    (rec head (period ∷ 1 ∷ length rows ∷ [])
+    ∷ rec 17 (0 ∷ 0 ∷ control ∷ [])
+    ∷ map (λ r. rec 18 (0 ∷ nth r 0 ∷ nth r 1 ∷ (nth r 1 + time) ∷ [])) rows)
+
 -- different connections by number, from the first eight tasks to the next eight
 unfoldable pub joins : ℕ → Rec
 joins k = rec 7 ((k / 8) ∷ (8 + k % 8) ∷ [])
@@ -310,7 +350,7 @@ plenty = 120
 -- The jobs marked *.
 unfoldable pub documentJobs : List Entry
 documentJobs =
-    hasMessages planA 5  -- A
+    hasMessages false planA 5  -- A
     ∷ made planA 75 tableA (framesA 19904 29904 39904 59894)
     ∷ made (planAWith 7 2 19894) 75 tableA framesB  -- B
     ∷ notMade (planAWith 7 2 19895) 75 12 3
@@ -506,8 +546,8 @@ ownEntries =
     ∷ notMade (planAJoined ((0 ∷ 1 ∷ []) ∷ (0 ∷ 2 ∷ []) ∷ [])) plenty 3 14  -- 3 goes before 5
     ∷ notMade (planAWith 3 0 0) plenty 6 0  -- 6
     ∷ notMade (planAWith 5 2 20000) plenty 7 0  -- 7
-    ∷ walks planA 4 5  -- a step for each message
-    ∷ walks (file recordsJ) 4 4  -- three tasks at one deadline
+    ∷ walks false planA 4 5  -- a step for each message
+    ∷ walks false (file recordsJ) 4 4  -- three tasks at one deadline
     ∷ notMade (planAWith 0 3 3) plenty 10 0  -- 10: a message
     ∷ notMade (file (changed (recordsS 0 1 1 4) 0 3 1)) plenty 10 0  -- 10: a control payload, of two sending modules
     ∷ notMade (file (changed (recordsMany 5) 0 1 5)) plenty 11 0  -- 11
@@ -567,15 +607,115 @@ byteEntries =
     ∷ fails planTen (9 ∷ []) 20 0  -- no kind of a table
     ∷ []
 
+-- The consumer edition (section 21).
+
+-- Figure 5: job A, whose second task runs twice in its mode; its table, of 61 bytes.
+unfoldable pub planFive : List ℕ
+planFive = planAWith 11 2 2
+
+unfoldable pub tableFive : List ℕ
+tableFive =
+    0x14 ∷ 0x60 ∷ 0xEA ∷ 0x00 ∷ 0x00 ∷ 0x01 ∷ 0x03 ∷ 0x00
+    ∷ 0x11 ∷ 0x00 ∷ 0x00 ∷ 0x00 ∷ 0x00 ∷ 0x00 ∷ 0x48 ∷ 0x00 ∷ 0x00 ∷ 0x00
+    ∷ 0x12 ∷ 0x00 ∷ 0x20 ∷ 0x4E ∷ 0x00 ∷ 0x00 ∷ 0xC0 ∷ 0x4D ∷ 0x00 ∷ 0x00 ∷ 0x20 ∷ 0x4E ∷ 0x00 ∷ 0x00
+    ∷ 0x12 ∷ 0x00 ∷ 0x30 ∷ 0x75 ∷ 0x00 ∷ 0x00 ∷ 0xD0 ∷ 0x74 ∷ 0x00 ∷ 0x00 ∷ 0x30 ∷ 0x75 ∷ 0x00 ∷ 0x00
+    ∷ 0x12 ∷ 0x00 ∷ 0x60 ∷ 0xEA ∷ 0x00 ∷ 0x00 ∷ 0xF6 ∷ 0xE9 ∷ 0x00 ∷ 0x00 ∷ 0x56 ∷ 0xEA ∷ 0x00 ∷ 0x00
+    ∷ 0x00 ∷ []
+
+unfoldable pub framesFive : List FrameRow
+framesFive = frameRow 0 1000 20000 19904 ∷ frameRow 0 1000 30000 29904 ∷ frameRow 0 41000 60000 59894 ∷ []
+
+-- Frame 60 has a message in mode 0 alone: mode 1's is dropped there, and does not hold its release back.
+unfoldable pub planDropped : List ℕ
+planDropped = planOfTwo 2 ((120 ∷ 2 ∷ []) ∷ (120 ∷ 6 ∷ []) ∷ []) ((120 ∷ 3 ∷ []) ∷ [])
+
+unfoldable pub tableDropped : List ℕ
+tableDropped = tableOfTwo 20 120 1 2 ((40 ∷ 38 ∷ []) ∷ (60 ∷ 58 ∷ []) ∷ (80 ∷ 78 ∷ []) ∷ (120 ∷ 118 ∷ []) ∷ [])
+
+unfoldable pub framesDropped : List FrameRow
+framesDropped = frameRow 0 21 40 38 ∷ frameRow 0 1 60 58 ∷ frameRow 0 61 80 78 ∷ frameRow 0 101 120 118 ∷ []
+
+-- A run of 20 ticks whose reader has modes of 40 and 60; one of 4 read with 4 and 6, with 8 and 12; one of 12 that a mode of 40 reads with 10;
+-- runs of 4 and of 12, read with 8.
+unfoldable pub planTwoModes : List ℕ
+planTwoModes = planOfTwo 1 ((120 ∷ 6 ∷ []) ∷ []) ((40 ∷ 1 ∷ []) ∷ (60 ∷ 1 ∷ []) ∷ [])
+
+unfoldable pub planEqual : List ℕ
+planEqual = planOfTwo 1 ((12 ∷ 3 ∷ []) ∷ []) ((12 ∷ 3 ∷ []) ∷ (12 ∷ 2 ∷ []) ∷ [])
+
+unfoldable pub planBoth : List ℕ
+planBoth = planOfTwo 1 ((24 ∷ 6 ∷ []) ∷ []) ((24 ∷ 3 ∷ []) ∷ (24 ∷ 2 ∷ []) ∷ [])
+
+unfoldable pub planFaster : List ℕ
+planFaster = planOfTwo 1 ((12 ∷ 1 ∷ []) ∷ []) ((40 ∷ 4 ∷ []) ∷ [])
+
+unfoldable pub planSlower : List ℕ
+planSlower = planOfTwo 1 ((24 ∷ 6 ∷ []) ∷ (24 ∷ 2 ∷ []) ∷ []) ((24 ∷ 3 ∷ []) ∷ [])
+
+unfoldable pub tableBoth : List ℕ
+tableBoth = tableOfTwo 20 24 1 1 ((8 ∷ 7 ∷ []) ∷ (12 ∷ 11 ∷ []) ∷ (16 ∷ 15 ∷ []) ∷ (24 ∷ 23 ∷ []) ∷ [])
+
+-- Job A with a receiver whose mode has 40,000 ticks, and with one that no mode invokes.
+unfoldable pub planOften : List ℕ
+planOften = file (changed (changed recordsA 6 1 40000) 6 2 40000)
+
+unfoldable pub planUnread : List ℕ
+planUnread = file (take 11 recordsA ++ drop 12 recordsA)
+
+-- Two tasks of node 0, each read by node 1 once in four runs; task 1 reads all of task 0's on their node.
+unfoldable pub planWithin : List ℕ
+planWithin = file (changed (recordsS 0 1 1 4) 11 2 4 ++ (rec 7 (0 ∷ 1 ∷ []) ∷ []))
+
+unfoldable pub tableWithin : List ℕ
+tableWithin =
+    file
+    (rec 20 (60 ∷ 1 ∷ 2 ∷ [])
+    ∷ rec 17 (0 ∷ 0 ∷ 2 ∷ [])
+    ∷ rec 18 (0 ∷ 60 ∷ 58 ∷ 59 ∷ [])
+    ∷ rec 18 (1 ∷ 60 ∷ 59 ∷ 60 ∷ [])
+    ∷ [])
+
+unfoldable pub consumerJobs : List Entry
+consumerJobs =
+    madeThin planFive 61 tableFive framesFive  -- figure 5
+    ∷ notMadeThin planFive 60 13 61
+    ∷ hasMessages true planFive 4 ∷ walks true planFive 3 4
+    ∷ passes planFive tableFive framesFive
+    ∷ fails planFive (16 ∷ drop 1 tableFive) 21 0  -- with the other head it has a frame too few
+    ∷ passes planFive tableA (framesA 19904 29904 39904 59894)
+    ∷ fails planFive (20 ∷ drop 1 tableA) 21 0
+    ∷ fails planFive (take 8 tableFive ++ tableFive) 20 8  -- a head stands only at the front
+    ∷ fails planFive (take 8 tableFive ++ tableA) 20 8
+    ∷ fails planFive (19 ∷ drop 1 tableFive) 20 0
+    ∷ madeThin planA plenty (tableOfTwo 20 60000 72 96 ((60000 ∷ 59894 ∷ []) ∷ [])) (frameRow 0 41000 60000 59894 ∷ [])
+    ∷ madeThin planDropped plenty tableDropped framesDropped  -- dropped in one mode only
+    ∷ hasMessages true planDropped 5 ∷ walks true planDropped 4 5
+    ∷ carries planDropped tableDropped 0 (1 ∷ []) ∷ carries planDropped tableDropped 1 (0 ∷ [])
+    ∷ carries planDropped tableDropped 3 (0 ∷ 1 ∷ [])
+    ∷ made planTwoModes plenty (tableOfTwo 16 20 1 1 ((20 ∷ 19 ∷ []) ∷ [])) (frameRow 0 1 20 19 ∷ [])  -- two receivers
+    ∷ notMadeThin planTwoModes plenty 7 0
+    ∷ notMadeThin planFaster plenty 7 0  -- the grid takes in a receiver that needs every message
+    ∷ madeThin planEqual plenty (tableOfTwo 20 4 1 1 ((4 ∷ 3 ∷ []) ∷ [])) (frameRow 0 1 4 3 ∷ [])  -- equal least periods
+    ∷ madeThin planBoth plenty tableBoth (frameRow 0 5 8 7 ∷ frameRow 0 9 12 11 ∷ frameRow 0 13 16 15 ∷ frameRow 0 21 24 23 ∷ [])  -- a read at 12
+    ∷ madeThin planSlower plenty tableBoth (frameRow 0 5 8 7 ∷ frameRow 0 1 12 11 ∷ frameRow 0 13 16 15 ∷ frameRow 0 21 24 23 ∷ [])
+    ∷ carries planSlower tableBoth 1 (1 ∷ [])  -- the slower mode's message is needed
+    ∷ made planOften plenty tableA (framesA 19904 29904 39904 59894)  -- receiver of 40,000
+    ∷ notMadeThin planOften plenty 7 0
+    ∷ fails planOften (20 ∷ []) 7 0 ∷ fails planOften (16 ∷ []) 20 1  -- the first byte alone says which edition judges the plan
+    ∷ made planUnread plenty tableA (framesA 19904 29904 39904 59894)  -- a consumer never invoked
+    ∷ notMadeThin planUnread plenty 6 0
+    ∷ madeThin planWithin plenty tableWithin (frameRow 0 46 60 58 ∷ frameRow 1 46 60 59 ∷ [])  -- within a node nothing is needed
+    ∷ []
+
 -- The entries with more than a thousand frames, which take the longest to compute; `longjobs` has them, so that no edit of a rule waits for them.
 unfoldable pub longEntries : List Entry
 longEntries =
     notMade (file (recordsMany 1024)) plenty 9 0  -- 9
     ∷ notMade (file (recordsMany 1023)) plenty 12 1022  -- 1,024 pairs are allowed
-    ∷ walks (file (recordsMany 65535)) 1025 1025  -- one pair too many ends it, whatever P
-    ∷ walks (file (changed (changed (changed recordsA 7 2 1) 9 2 60000) 10 2 60000 ++ (rec 7 (1 ∷ 0 ∷ []) ∷ []))) 1025 2050  -- two runs end at each deadline
+    ∷ walks false (file (recordsMany 65535)) 1025 1025  -- one pair too many ends it, whatever P
+    ∷ walks false (file (changed (changed (changed recordsA 7 2 1) 9 2 60000) 10 2 60000 ++ (rec 7 (1 ∷ 0 ∷ []) ∷ []))) 1025 2050  -- two runs end at each deadline
     ∷ []
 
 -- All others.
 unfoldable pub entries : List Entry
-entries = documentJobs ++ (limits ++ (ownEntries ++ byteEntries))
+entries = documentJobs ++ (limits ++ (ownEntries ++ (byteEntries ++ consumerJobs)))

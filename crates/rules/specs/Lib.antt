@@ -3,6 +3,7 @@ pub mod Records
 pub mod Plan
 pub mod Traffic
 pub mod Frames
+pub mod Readers
 pub mod Direct
 pub mod LatestRelease
 pub mod RuleSteps

@@ -9,11 +9,12 @@ use Rattle.laws.specs.Res.{ok, refuse}
 use Rattle.laws.specs.Faults.{Rule, once, BreaksAt, AllKept, FirstFault}
 use Rattle.laws.specs.Lists.{joined}
 use Rattle.rules.specs.Records.{Rec, known, bodyLength, recordOf, tableFollows}
-use Rattle.rules.specs.Plan.{Plan, readPlan}
+use Rattle.rules.specs.Plan.{Plan}
+use Rattle.rules.specs.Traffic.{readIn}
 use Rattle.rules.specs.Frames.{Pair, Layout, layout}
 use Rattle.rules.specs.LatestRelease.{Numbered, Placed, noPair, latestRelease}
 use Rattle.rules.specs.Table.{PlacedRow, heldIn, pairsIn, alone, tableBytes}
-use Rattle.rules.specs.Checker.{Named, TableRead, tableOf, controlAt, rowAt, stopBefore, firstRow, lastRow, Passed, checkFiles}
+use Rattle.rules.specs.Checker.{Named, TableRead, tableOf, isForConsumers, controlAt, rowAt, stopBefore, firstRow, lastRow, Passed, checkFiles}
 use Rattle.rules.specs.Playing.{modulePlaces, taskPlaces, Input}
 use Rattle.rules.specs.Station.{Kept, keptOf, State, stateAtStart, runPeriod, taskAge, runAge, Begun}
 
@@ -144,7 +145,7 @@ tableRules l t =
 -- keeps 21 to 28.
 pub record MayPass (plan table : List ℕ) : Type 0 where
   pub read : Plan
-  pub isRead : readPlan plan ≡ ok read
+  pub isRead : readIn (isForConsumers table) plan ≡ ok read
   pub laid : Layout
   pub isLaid : layout read ≡ ok laid
   pub rows : List Rec
@@ -153,19 +154,19 @@ pub record MayPass (plan table : List ℕ) : Type 0 where
 
 -- Number n at p is the first fault of plan and table: 1 to 5, 6 to 11, 20, then the first of 21 to 28 at its lowest record.
 pub data CheckFault (plan table : List ℕ) (n p : ℕ) : Type 0 where
-  ofPlan : readPlan plan ≡ refuse n p → CheckFault plan table n p
-  ofLayout : {q : Plan} → readPlan plan ≡ ok q → layout q ≡ refuse n p → CheckFault plan table n p
+  ofPlan : readIn (isForConsumers table) plan ≡ refuse n p → CheckFault plan table n p
+  ofLayout : {q : Plan} → readIn (isForConsumers table) plan ≡ ok q → layout q ≡ refuse n p → CheckFault plan table n p
   ofRecords :
-      {q : Plan} {l : Layout} → readPlan plan ≡ ok q → layout q ≡ ok l → n ≡ 20 → BreakRecords tableFollows 0 0 table p →
+      {q : Plan} {l : Layout} → readIn (isForConsumers table) plan ≡ ok q → layout q ≡ ok l → n ≡ 20 → BreakRecords tableFollows 0 0 table p →
       CheckFault plan table n p
   ofTable :
-      {q : Plan} {l : Layout} {rs : List Rec} → readPlan plan ≡ ok q → layout q ≡ ok l → AreRecords tableFollows 0 table rs →
+      {q : Plan} {l : Layout} {rs : List Rec} → readIn (isForConsumers table) plan ≡ ok q → layout q ≡ ok l → AreRecords tableFollows 0 table rs →
       FirstFault (tableRules l (tableOf rs)) n p → CheckFault plan table n p
 
 -- The plan passes 1 to 11, and the table does not read as records, first at p.
 pub record UnreadAt (plan table : List ℕ) (p : ℕ) : Type 0 where
   pub read : Plan
-  pub isRead : readPlan plan ≡ ok read
+  pub isRead : readIn (isForConsumers table) plan ≡ ok read
   pub laid : Layout
   pub isLaid : layout read ≡ ok laid
   pub unread : BreakRecords tableFollows 0 0 table p
@@ -178,7 +179,7 @@ noRule = record { number = 0; first = 0; places = 0; asks = λ k. Unit {0} }
 -- at record p.
 pub record BrokenAt (plan table : List ℕ) (i p : ℕ) : Type 0 where
   pub read : Plan
-  pub isRead : readPlan plan ≡ ok read
+  pub isRead : readIn (isForConsumers table) plan ≡ ok read
   pub laid : Layout
   pub isLaid : layout read ≡ ok laid
   pub rows : List Rec
@@ -234,9 +235,9 @@ pub record PlacedWell (l : Layout) (rows : List PlacedRow) : Type 0 where
   pub once : length (numbersIn rows) ≡ length (l .pairs)
 
 -- What `make` needs to give a table of n bytes: the plan passes 1 to 11, the latest-release rule places every frame, and the table fits.
-pub record MakesTable (plan : List ℕ) (room n : ℕ) : Type 0 where
+pub record MakesTable (consumers : Bool) (plan : List ℕ) (room n : ℕ) : Type 0 where
   pub read : Plan
-  pub isRead : readPlan plan ≡ ok read
+  pub isRead : readIn consumers plan ≡ ok read
   pub laid : Layout
   pub isLaid : layout read ≡ ok laid
   pub placed : List Placed
@@ -245,19 +246,19 @@ pub record MakesTable (plan : List ℕ) (room n : ℕ) : Type 0 where
   pub long : length (tableBytes laid (map alone placed)) ≡ n
 
 -- Number n at p is the first fault: 1 to 5, 6 to 11, the rule's refusal (12), the room's (13).
-pub data MakeFault (plan : List ℕ) (room n p : ℕ) : Type 0 where
-  inPlan : readPlan plan ≡ refuse n p → MakeFault plan room n p
-  inLayout : {q : Plan} → readPlan plan ≡ ok q → layout q ≡ refuse n p → MakeFault plan room n p
+pub data MakeFault (consumers : Bool) (plan : List ℕ) (room n p : ℕ) : Type 0 where
+  inPlan : readIn consumers plan ≡ refuse n p → MakeFault consumers plan room n p
+  inLayout : {q : Plan} → readIn consumers plan ≡ ok q → layout q ≡ refuse n p → MakeFault consumers plan room n p
   inRule :
-      {q : Plan} {l : Layout} → readPlan plan ≡ ok q → layout q ≡ ok l → latestRelease l ≡ refuse n p → MakeFault plan room n p
+      {q : Plan} {l : Layout} → readIn consumers plan ≡ ok q → layout q ≡ ok l → latestRelease l ≡ refuse n p → MakeFault consumers plan room n p
   inRoom :
-      {q : Plan} {l : Layout} {placed : List Placed} → readPlan plan ≡ ok q → layout q ≡ ok l → latestRelease l ≡ ok placed →
-      room < length (tableBytes l (map alone placed)) → n ≡ 13 → p ≡ length (tableBytes l (map alone placed)) → MakeFault plan room n p
+      {q : Plan} {l : Layout} {placed : List Placed} → readIn consumers plan ≡ ok q → layout q ≡ ok l → latestRelease l ≡ ok placed →
+      room < length (tableBytes l (map alone placed)) → n ≡ 13 → p ≡ length (tableBytes l (map alone placed)) → MakeFault consumers plan room n p
 
 -- The plan passes 1 to 11, and the latest-release rule refuses at this frame.
-pub record RuleRefuses (plan : List ℕ) (pair : ℕ) : Type 0 where
+pub record RuleRefuses (consumers : Bool) (plan : List ℕ) (pair : ℕ) : Type 0 where
   pub read : Plan
-  pub isRead : readPlan plan ≡ ok read
+  pub isRead : readIn consumers plan ≡ ok read
   pub laid : Layout
   pub isLaid : layout read ≡ ok laid
   pub rule : latestRelease laid ≡ refuse 12 pair

@@ -25,7 +25,7 @@ use Rattle.rules.specs.Plan.{
   firstInvocation,
   firstConnection,
 }
-use Rattle.rules.specs.Traffic.{taskNode, busPeriod, switchGrid, controlPayload}
+use Rattle.rules.specs.Traffic.{taskNode, controlPayload, traffic}
 use Rattle.rules.specs.Frames.{pairs, controlEnd}
 use Rattle.rules.specs.Obeys.{AreRecords, BreakRecords}
 
@@ -150,9 +150,9 @@ pub record PayloadsFit (p : Plan) : Type 0 where
 abbrev pub layoutRules : Plan → List Rule
 layoutRules p =
     once 6 0 (SomeBusTask p)
-    ∷ once 7 0 (busPeriod p ∣ switchGrid p)
-    ∷ once 8 0 (p .bus .resolution ∣ busPeriod p)
+    ∷ once 7 0 (traffic p .period ∣ traffic p .grid)
+    ∷ once 8 0 (p .bus .resolution ∣ traffic p .period)
     ∷ once 9 0 (length (pairs p) ≤ mostFrames)
     ∷ once 10 0 (PayloadsFit p)
-    ∷ once 11 0 (controlEnd p ≤ busPeriod p)
+    ∷ once 11 0 (controlEnd p ≤ traffic p .period)
     ∷ []

@@ -1,5 +1,5 @@
 -- docs/RULES.md, sections 2 and 3 (a plan's things and their limits), and refusals 2 to 5 (rules 6.2 to 6.5).
-use mathlib.Core.Bool.{Bool, true, cond, not, _&&_}
+use mathlib.Core.Bool.{Bool, true, false, cond, not, _&&_}
 use mathlib.Core.List.{List, [], _∷_, map}
 use lib.Dec.{eqb, leb, ltb}
 use lib.ListN.{getD, length}
@@ -39,7 +39,8 @@ pub record Connection : Type 0 where
   pub consumer : ℕ
 
 -- A plan: the bus, the number of nodes, of each module its node, and the modes, tasks, invocations and connections. A thing's
--- number is its place in its list (rule 2.8).
+-- number is its place in its list (rule 2.8). Beside what the file says it has the edition in which it is sent (rule 21.1): whether only
+-- what is read is sent to the consumers.
 pub record Plan : Type 0 where
   pub bus : Bus
   pub nodes : ℕ
@@ -48,6 +49,7 @@ pub record Plan : Type 0 where
   pub tasks : List Task
   pub invocations : List Invocation
   pub connections : List Connection
+  pub consumers : Bool
 
 -- the k-th number of a body
 abbrev pub nth : List ℕ → ℕ → ℕ
@@ -116,6 +118,7 @@ planOf rs =
       tasks = map taskOf (things 5 rs);
       invocations = map invocationOf (things 6 rs);
       connections = map connectionOf (things 7 rs);
+      consumers = false;
     }
 
 -- how many things of a kind there are; of nodes (2) the record says it

@@ -27,7 +27,11 @@ busThen fs =
     ranges 4 1 fastestBus ∷ ranges 2 0 mostOverhead ∷ ranges 2 0 mostPayload ∷ ranges 2 1 mostPayload ∷ ranges 2 0 mostGap
     ∷ ranges 4 1 coarsest ∷ fs
 
--- Rule 2.4: for each kind 0 to 18 the numbers of its body, or that the kind is unknown. Ranges are those of rule 3.2; the number
+-- The numbers of a table's head, of either edition: P, and how many control rows and data rows there are.
+abbrev pub headFields : List Field
+headFields = free 4 ∷ free 1 ∷ free 2 ∷ []
+
+-- Rule 2.4: for each kind 0 to 20 the numbers of its body, or that the kind is unknown. Ranges are those of rule 3.2; the number
 -- of nodes has none here, since its range is refusal 2's (reading 7).
 unfoldable pub kinds : List (Option (List Field))
 kinds =
@@ -47,9 +51,11 @@ kinds =
     ∷ none
     ∷ none
     ∷ none
-    ∷ some (free 4 ∷ free 1 ∷ free 2 ∷ [])  -- 16 table
+    ∷ some headFields  -- 16 table
     ∷ some (free 1 ∷ free 4 ∷ free 4 ∷ [])  -- 17 control row
     ∷ some (free 1 ∷ free 4 ∷ free 4 ∷ free 4 ∷ [])  -- 18 data row
+    ∷ none
+    ∷ some headFields  -- 20 table of the consumer edition
     ∷ []
 
 -- a kind is known if the table has an entry for it
@@ -87,10 +93,18 @@ planFollows previous kind =
     cond (eqb previous 0) (isBus kind)
     (cond (isBus previous) (eqb kind 2) (eqb kind 0 || (leb 3 kind && (leb previous kind && leb kind 7))))
 
+-- Rule 21.1: the kinds of a table's head: 16, and 20 in the consumer edition.
+unfoldable pub headKind : Bool → ℕ
+headKind consumers = cond consumers 20 16
+
+unfoldable pub isHead : ℕ → Bool
+isHead kind = eqb kind (headKind false) || eqb kind (headKind true)
+
 -- Rule 2.6: the same in a table: its head, control rows, data rows, the end.
 unfoldable pub tableFollows : ℕ → ℕ → Bool
 tableFollows previous kind =
-    cond (eqb previous 0) (eqb kind 16) (eqb kind 0 || (leb 17 kind && (leb previous kind && leb kind 18)))
+    cond (eqb previous 0) (isHead kind)
+    (eqb kind 0 || (leb 17 kind && ((isHead previous || leb previous kind) && leb kind 18)))
 
 -- A record: its kind and the numbers of its body.
 pub record Rec : Type 0 where

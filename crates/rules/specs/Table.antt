@@ -8,8 +8,8 @@ use Rattle.laws.specs.Res.{Res, ok, refuse, _>>=_, _>>_, unless}
 use Rattle.laws.specs.Lists.{any, joined}
 use Rattle.laws.specs.Numbers.{bytes}
 use Rattle.rules.specs.Records.{Field, width, fields, bodyLength}
-use Rattle.rules.specs.Plan.{readPlan}
 use Rattle.rules.specs.Limits.{mostNodes, mostFrames}
+use Rattle.rules.specs.Traffic.{readIn}
 use Rattle.rules.specs.Frames.{Pair, ControlRow, Layout, layout}
 use Rattle.rules.specs.LatestRelease.{Numbered, Placed, latestRelease}
 
@@ -57,8 +57,8 @@ dataRow l r =
       stop = r .start + l .time (pairsIn r);
     }
 
-unfoldable pub headerBytes : ℕ → ℕ → ℕ → List ℕ
-headerBytes period controls datas = recordBytes 16 (period ∷ controls ∷ datas ∷ [])
+unfoldable pub headerBytes : ℕ → ℕ → ℕ → ℕ → List ℕ
+headerBytes head period controls datas = recordBytes head (period ∷ controls ∷ datas ∷ [])
 
 unfoldable pub controlBytes : ControlRow → List ℕ
 controlBytes r = recordBytes 17 (r .node ∷ r .start ∷ r .stop ∷ [])
@@ -66,16 +66,16 @@ controlBytes r = recordBytes 17 (r .node ∷ r .start ∷ r .stop ∷ [])
 unfoldable pub dataBytes : DataRow → List ℕ
 dataBytes r = recordBytes 18 (r .task ∷ r .deadline ∷ r .start ∷ r .stop ∷ [])
 
--- Rule 2.6: a head that counts the rows, the control rows, the data rows, the end.
-unfoldable pub tableOfRows : ℕ → List ControlRow → List DataRow → List ℕ
-tableOfRows period control rows =
-    headerBytes period (length control) (length rows)
+-- Rule 2.6: a head of this kind that counts the rows, the control rows, the data rows, the end.
+unfoldable pub tableOfRows : ℕ → ℕ → List ControlRow → List DataRow → List ℕ
+tableOfRows head period control rows =
+    headerBytes head period (length control) (length rows)
     ++ (joined (map controlBytes control) ++ (joined (map dataBytes rows) ++ (0 ∷ [])))
 
--- Rules 2.6 and 6.34: the head with P and the numbers of rows, the control rows, the data rows by start, the end.
+-- Rules 2.6, 6.34 and 21.1: the head, of the edition's kind, with P and the numbers of rows, the control rows, the data rows by start, the end.
 unfoldable pub tableBytes : Layout → List PlacedRow → List ℕ
 tableBytes l rows =
-    headerBytes (l .period) (length (l .control)) (length rows)
+    headerBytes (l .head) (l .period) (length (l .control)) (length rows)
     ++ (joined (map controlBytes (l .control)) ++ (joined (map dataBytes (map (dataRow l) rows)) ++ (0 ∷ [])))
 
 -- Rule 2.2: a record is the byte of its kind and its body. So a table is as long as its head, its control rows, its data rows and its end.
@@ -125,10 +125,10 @@ pub record MadeTable : Type 0 where
 unfoldable pub madeTable : Layout → List PlacedRow → MadeTable
 madeTable l rows = record { table = tableBytes l rows; rows = rowsFrom rows 0 (l .pairs) }
 
--- Refusals 1 to 13 in order; 13 where the table is longer than the room, at the table's length (rule 6.13).
-unfoldable pub tableFor : List ℕ → ℕ → Res MadeTable
-tableFor plan room = do
-  p ← readPlan plan
+-- Rule 21.1: the caller chooses the edition. Refusals 1 to 13 in order; 13 where the table is longer than the room, at the table's length (rule 6.13).
+unfoldable pub tableFor : Bool → List ℕ → ℕ → Res MadeTable
+tableFor consumers plan room = do
+  p ← readIn consumers plan
   l ← layout p
   placed ← latestRelease l
   let t = madeTable l (map alone placed)
@@ -154,9 +154,9 @@ outcome (refuse n p) rows buffer =
     record { answer = refuse n p; rows = replicate (length rows) zeroRow; buffer = buffer }
 
 -- Refusal 19 (rule 6.19) before all else: too few frame rows are lent. Rows and buffer stay as they were (rules 6.31 to 6.33).
-unfoldable pub make : List ℕ → List FrameRow → List ℕ → Made
-make plan rows buffer =
+unfoldable pub make : Bool → List ℕ → List FrameRow → List ℕ → Made
+make consumers plan rows buffer =
     elim (leb mostFrames (length rows)) [
-      | true ↦ outcome (tableFor plan (length buffer)) rows buffer
+      | true ↦ outcome (tableFor consumers plan (length buffer)) rows buffer
       | false ↦ record { answer = refuse 19 mostFrames; rows = rows; buffer = buffer }
     ]

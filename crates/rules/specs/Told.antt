@@ -2,11 +2,11 @@
 -- ended in it, the one result of a run, and the value of a task.
 use mathlib.Core.Path.{_≡_}
 use mathlib.Core.Bool.{true}
-use mathlib.Core.List.{List, _∷_}
+use mathlib.Core.List.{List, _∷_, List·Memᴰ}
 use mathlib.Core.Option.{Option, none, some}
 use lib.ListN.{length}
 use Prim.Native.Nat.{ℕ, _+_, _-_, _≤_, _<_, _∣_}
-use Rattle.rules.specs.Plan.{Plan}
+use Rattle.rules.specs.Plan.{Connection, Plan}
 use Rattle.rules.specs.Traffic.{taskNode}
 use Rattle.rules.specs.Playing.{Input, periodIn}
 use Rattle.rules.specs.History.{homeIn, firstIn, consumes}
@@ -62,6 +62,17 @@ module _ (home : ℕ → ℕ) (run : ℕ → ℕ → ℕ) (first : ℕ → ℕ) 
     ofNone : ((release T : ℕ) → EndedRun t history release T → ⊥) → v ≡ 0 → ValueIs t history v
     ofLast : (release T : ℕ) → LastRun t history release T → OneResult t history release (release + T) v → ValueIs t history v
 
+  -- The task is released at the newest tick of the history: behind that tick its module is in a mode that invokes it, and the mode began a
+  -- whole number of the invocation's periods before; a mode that begins at this tick releases it too.
+  pub record Released (t : ℕ) (history : List Input) : Type 0 where
+    pub tick : ℕ
+    pub newest : length history ≡ tick + 1
+    pub mode : ℕ
+    pub since : ℕ
+    pub inMode : InMode first (home t) history mode since (length history)
+    pub invoked : 0 < run mode t
+    pub whole : run mode t ∣ tick - since
+
 -- v is the one result of the last run of the plan's task that has ended in the history, or zero if none has
 abbrev pub Tells : Plan → (ℕ → Option ℕ) → ℕ → List Input → ℕ → Type 0
 Tells p starting t history v = ValueIs (homeIn p) (periodIn p) (firstIn starting) t history v
@@ -70,4 +81,16 @@ Tells p starting t history v = ValueIs (homeIn p) (periodIn p) (firstIn starting
 -- on a task's own.
 pub record ShowsTold (p : Plan) (starting : ℕ → Option ℕ) (history : List Input) (shown : ℕ → ℕ → ℕ) : Type 0 where
   pub consumed : (n t : ℕ) → consumes p n t ≡ true → Tells p starting t history (shown n t)
+  pub own : (t : ℕ) → t < length (p .tasks) → Tells p starting t history (shown (taskNode p t) t)
+
+-- the plan's task is released at the newest tick
+abbrev pub ReleasedIn : Plan → (ℕ → Option ℕ) → ℕ → List Input → Type 0
+ReleasedIn p starting t history = Released (homeIn p) (periodIn p) (firstIn starting) t history
+
+-- Demand 3 where only what is read is sent (docs/RULES.md, section 21): of every connection between two nodes, wherever the consumer is released at the newest
+-- tick its node shows what the history tells of the producer; a task's own node does at every tick.
+pub record ShowsRead (p : Plan) (starting : ℕ → Option ℕ) (history : List Input) (shown : ℕ → ℕ → ℕ) : Type 0 where
+  pub read : (c : Connection) → List·Memᴰ c (p .connections) → (taskNode p (c .producer) ≡ taskNode p (c .consumer) → ⊥)
+      → ReleasedIn p starting (c .consumer) history
+      → Tells p starting (c .producer) history (shown (taskNode p (c .consumer)) (c .producer))
   pub own : (t : ℕ) → t < length (p .tasks) → Tells p starting t history (shown (taskNode p t) t)

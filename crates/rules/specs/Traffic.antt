@@ -1,12 +1,13 @@
--- docs/RULES.md, rules 4.1 to 4.6: what a plan sends on the bus. Every message keeps the mode that sends it.
-use mathlib.Core.Bool.{Bool, not, _&&_}
+-- docs/RULES.md, rules 4.1 to 4.6, and section 21: what a plan sends on the bus, in either edition. Every message keeps the mode that sends it.
+use mathlib.Core.Bool.{Bool, true, false, cond, not, _&&_, _||_}
 use mathlib.Core.List.{List, map, foldr}
-use lib.Dec.{eqb, ltb}
+use lib.Dec.{eqb, leb, ltb}
 use lib.ListN.{getD, length}
 use Prim.Native.Nat.{ℕ, _+_, _*_, _-_, _/_}
+use Rattle.laws.specs.Res.{Res, ok, _>>=_}
 use Rattle.laws.specs.Lists.{keep, any, joined, tab, upTo}
-use Rattle.laws.specs.Numbers.{gcd, lcm}
-use Rattle.rules.specs.Plan.{Mode, Invocation, Connection, Plan, theTask, periodOf}
+use Rattle.laws.specs.Numbers.{gcd, lcm, greatest, least}
+use Rattle.rules.specs.Plan.{Mode, Invocation, Connection, Plan, theTask, periodOf, readPlan}
 
 -- the node of a module, and of a task
 unfoldable pub moduleNode : Plan → ℕ → ℕ
@@ -116,6 +117,118 @@ pub record Traffic : Type 0 where
 unfoldable pub basic : Plan → Traffic
 basic p =
     record { period = busPeriod p; grid = switchGrid p; messages = messages (busPeriod p) (busRuns p) }
+
+-- ---- the consumer edition (docs/RULES.md, section 21)
+
+-- Rule 21.2: a connection is left if its ends are on different nodes and each of them is invoked in some mode.
+unfoldable pub isInvoked : Plan → ℕ → Bool
+isInvoked p t = any (invokes t) (p .invocations)
+
+unfoldable pub isLeft : Plan → Connection → Bool
+isLeft p c =
+    not (eqb (taskNode p (c .consumer)) (taskNode p (c .producer)))
+    && (isInvoked p (c .producer) && isInvoked p (c .consumer))
+
+-- Rules 21.1 and 21.2: a plan in an edition. In the consumer edition only the connections left are in it; so bus tasks, senders and control
+-- rows, by the rules above, are those of the connections left.
+abbrev pub planIn : Bool → Plan → Plan
+planIn false p = p
+planIn true p =
+    record {
+      bus = p .bus;
+      nodes = p .nodes;
+      modules = p .modules;
+      modes = p .modes;
+      tasks = p .tasks;
+      invocations = p .invocations;
+      connections = keep (isLeft p) (p .connections);
+      consumers = true;
+    }
+
+-- the plan of a file, in an edition
+unfoldable pub readIn : Bool → List ℕ → Res Plan
+readIn consumers file = do
+  p ← readPlan file
+  ok (planIn consumers p)
+
+-- Rule 21.3: a connection can be thinned if the least period of its consumer, over all its invocations, is above that of its producer.
+unfoldable pub periodsOf : Plan → ℕ → List ℕ
+periodsOf p t = map (periodOf p) (keep (invokes t) (p .invocations))
+
+unfoldable pub canBeThinned : Plan → Connection → Bool
+canBeThinned p c = ltb (least (periodsOf p (c .producer))) (least (periodsOf p (c .consumer)))
+
+-- Rule 21.4: P takes in the periods of the consumers of connections that can be thinned, with those of bus tasks.
+unfoldable pub thinsFor : Plan → ℕ → Connection → Bool
+thinsFor p t c = eqb (c .consumer) t && canBeThinned p c
+
+unfoldable pub isCounted : Plan → Invocation → Bool
+isCounted p i = ofBusTask p i || any (thinsFor p (i .task)) (p .connections)
+
+unfoldable pub countedRuns : Plan → List Run
+countedRuns p = map (runOf p) (keep (isCounted p) (p .invocations))
+
+unfoldable pub thinnedPeriod : Plan → ℕ
+thinnedPeriod p = periodOfRuns (countedRuns p)
+
+-- Rule 21.5: G takes in all modes of the modules that hold an end of a connection, of one that can't be thinned too.
+unfoldable pub endsIn : Plan → ℕ → Connection → Bool
+endsIn p m c = livesIn p m (c .producer) || livesIn p m (c .consumer)
+
+unfoldable pub ofEnd : Plan → Mode → Bool
+ofEnd p μ = any (endsIn p (μ .home)) (p .connections)
+
+unfoldable pub thinnedGrid : Plan → ℕ
+thinnedGrid p = foldr withMode 0 (keep (ofEnd p) (p .modes))
+
+-- Rule 21.6: in a mode that invokes it with period U a consumer reads at k × U, k from 0 on to the last of the bus period.
+unfoldable pub readAt : ℕ → ℕ → ℕ
+readAt u k = k * u
+
+unfoldable pub readsWith : ℕ → ℕ → List ℕ
+readsWith period u = map (readAt u) (upTo (period / u))
+
+-- Rule 21.6: a read at x needs the message of the run with the latest deadline not after it; if there is none, the one with deadline P.
+abbrev pub deadlineOfMessage : Message → ℕ
+deadlineOfMessage m = m .deadline
+
+unfoldable pub isBy : ℕ → ℕ → Bool
+isBy x d = leb d x
+
+unfoldable pub latestBy : ℕ → Run → ℕ → ℕ
+latestBy period r x = greatest (keep (isBy x) (map deadlineOfMessage (messagesOf period r)))
+
+unfoldable pub neededAt : ℕ → Run → ℕ → ℕ
+neededAt period r x = cond (eqb (latestBy period r x) 0) period (latestBy period r x)
+
+unfoldable pub isNeededAt : ℕ → Run → ℕ → ℕ → Bool
+isNeededAt period r d x = eqb (neededAt period r x) d
+
+-- some read of the invocation needs the run's message with deadline d
+unfoldable pub isReadIn : Plan → ℕ → Run → ℕ → Invocation → Bool
+isReadIn p period r d i = any (isNeededAt period r d) (readsWith period (periodOf p i))
+
+-- Rule 21.7: a connection from the run's task needs all its messages if it can't be thinned; else those that its consumer reads in some
+-- mode. What some connection needs is kept.
+unfoldable pub needs : Plan → ℕ → Run → ℕ → Connection → Bool
+needs p period r d c =
+    eqb (c .producer) (r .task)
+    && (not (canBeThinned p c) || any (isReadIn p period r d) (keep (invokes (c .consumer)) (p .invocations)))
+
+unfoldable pub isKept : Plan → ℕ → Run → Message → Bool
+isKept p period r m = any (needs p period r (m .deadline)) (p .connections)
+
+unfoldable pub keptMessages : Plan → ℕ → Run → List Message
+keptMessages p period r = keep (isKept p period r) (messagesOf period r)
+
+unfoldable pub thinned : Plan → Traffic
+thinned p =
+    let period = thinnedPeriod p in
+    record { period = period; grid = thinnedGrid p; messages = joined (map (keptMessages p period) (busRuns p)) }
+
+-- What a plan sends, in its edition.
+unfoldable pub traffic : Plan → Traffic
+traffic p = cond (p .consumers) (thinned p) (basic p)
 
 -- Rule 8.17: the mode has a message of the task with this deadline (reading 30).
 unfoldable pub isMessage : ℕ → ℕ → ℕ → Message → Bool

@@ -40,6 +40,7 @@ use Rattle.sheet.specs.Back.{
   kindOf,
   formsOf,
   numberIn,
+  numberMissing,
   numbersIn,
   SoFar,
   mayStand,
@@ -164,11 +165,13 @@ pub data ReadAs : List Form → List (List ℕ) → List ℕ → Type 0 where
   no-word : ReadAs [] [] []
   one-word : {f : Form} {fs : List Form} {w : List ℕ} {ws : List (List ℕ)} {n : ℕ} {ns : List ℕ} → numberIn f w ≡ some n → ReadAs fs ws ns
       → ReadAs (f ∷ fs) (w ∷ ws) (n ∷ ns)
+  word-missing : {f : Form} {fs : List Form} {n : ℕ} {ns : List ℕ} → numberMissing f ≡ some n → ReadAs fs [] ns → ReadAs (f ∷ fs) [] (n ∷ ns)
 
 numbers-read : {fs : List Form} {ws : List (List ℕ)} {ns : List ℕ} → ReadAs fs ws ns → numbersIn fs ws ≡ some ns
 unfolding numbersIn
 numbers-read no-word = refl
 numbers-read (one-word e r) = rw (e, numbers-read r)
+numbers-read (word-missing e r) = rw (e, numbers-read r)
 
 -- ---- a line that is taken
 

@@ -1,14 +1,14 @@
--- Examples, by computation: the shortest sheet and its table; job A's sheet letter by letter, and with its early row; a task number that would
--- wrap, and a text without a line.
+-- Examples, by computation: the shortest sheet and its table; job A's sheet letter by letter, and with its early row; figure 5's, in the consumer
+-- edition; a task number that would wrap, and a text without a line.
 use mathlib.Core.Path.{_≡_, refl}
-use mathlib.Core.List.{List, [], _∷_}
+use mathlib.Core.List.{List, [], _∷_, _++_}
 use Prim.Native.Nat.{ℕ}
 use Rattle.laws.specs.Lists.{joined}
 use Rattle.rules.specs.Table.{tableOfRows}
 use Rattle.rules.specs.Checker.{located}
-use Rattle.rules.specs.Jobs.{rec, planA, tableA, tableAWith}
+use Rattle.rules.specs.Jobs.{rec, planA, tableA, tableAWith, planFive, tableFive}
 use Rattle.rules.proofs.Jobs.{everything}
-use Rattle.text.specs.Text.{decimal, digits, padLeft, padRight, readDecimal, refusedLine, texts}
+use Rattle.text.specs.Text.{ascii, decimal, digits, lineFeed, padLeft, padRight, readDecimal, refusedLine, texts}
 use Rattle.text.specs.Lines.{behindWord, isBlank, isWord, linesOf, uncommented, wholeNumber, words}
 use Rattle.sheet.specs.Sheet.{
   columnOf,
@@ -186,6 +186,37 @@ early-row = refl
 early-back : readBack sheetEarly ≡ TableBack.table tableEarlyA
 unfolding read tableEarlyA sheetEarly
 early-back = refl
+
+-- ---- the consumer edition: the word stands behind the cycle, and the head is of its kind
+
+unfoldable cycleFive : List ℕ
+cycleFive = ascii "cycle 60000 consumers  # ticks of one microsecond" ++ lineFeed
+
+unfoldable thirdFive : List ℕ
+thirdFive =
+    ascii "data        0     0    41000     60000       59894       59990    96       96         18894           10  # 4" ++ lineFeed
+
+-- figure 5: the frame that nobody reads has no line
+unfoldable sheetFive : List ℕ
+unfolding cycleFive headA controlA firstA secondA thirdFive
+sheetFive = joined (cycleFive ∷ headA ∷ controlA ∷ firstA ∷ secondA ∷ thirdFive ∷ [])
+
+figure-5 : sheetText planFive tableFive ≡ sheetFive
+unfolding shown sheetFive
+figure-5 = refl
+
+figure-5-back : readBack sheetFive ≡ TableBack.table tableFive
+unfolding read sheetFive
+figure-5-back = refl
+
+-- in the first line no word but this may stand, and nothing behind it
+one-letter-short : readBack (joined ((ascii "cycle 9 consumer" ++ lineFeed) ∷ shortControl ∷ shortData ∷ [])) ≡ TableBack.unreadableLine 1
+unfolding read shortControl shortData
+one-letter-short = refl
+
+said-twice : readBack (joined ((ascii "cycle 9 consumers consumers" ++ lineFeed) ∷ shortControl ∷ shortData ∷ [])) ≡ TableBack.unreadableLine 1
+unfolding read shortControl shortData
+said-twice = refl
 
 -- ---- what cannot be read
 

@@ -40,6 +40,7 @@ use Rattle.sheet.specs.Sheet.{
   wordAt,
   headLine,
   rowLine,
+  editionText,
   cycleLine,
   difference,
   controlSent,
@@ -163,14 +164,19 @@ row-few : (kind : List ℕ) (cells : List Cell) (k : ℕ) → length kind ≤ 7 
 unfolding rowLine
 row-few kind cells k a h w = line-few kind (wordAt cells) (decimal k) a (word-few cells h) (decimal-few 3 k w)
 
-cycle-few : (period : ℕ) → period < 4294967296 → length (cycleLine period) ≤ 245
+edition-few : (consumers : Bool) → length (editionText consumers) ≤ 10
+edition-few false = lit≤ tt
+edition-few true = lit≤ tt
+
+cycle-few : (consumers : Bool) (period : ℕ) → period < 4294967296 → length (cycleLine consumers period) ≤ 245
 unfolding cycleLine
-cycle-few period h =
-    let front : length ((cycleWord ++ (32 ∷ [])) ++ decimal period) ≡ length (cycleWord ++ (32 ∷ [])) + length (decimal period) =
-    length-append (cycleWord ++ (32 ∷ [])) (decimal period) in
-    let whole : length (((cycleWord ++ (32 ∷ [])) ++ decimal period) ++ cycleComment) ≡ length ((cycleWord ++ (32 ∷ [])) ++ decimal period) + length cycleComment =
-    length-append ((cycleWord ++ (32 ∷ [])) ++ decimal period) cycleComment in
-    omega (arith, decimal-most period (omega arith))
+cycle-few consumers period h =
+    let first = cycleWord ++ (32 ∷ []) in
+    let rest = editionText consumers ++ cycleComment in
+    let front : length (first ++ decimal period) ≡ length first + length (decimal period) = length-append first (decimal period) in
+    let whole : length ((first ++ decimal period) ++ rest) ≡ length (first ++ decimal period) + length rest = length-append (first ++ decimal period) rest in
+    let behind : length rest ≡ length (editionText consumers) + length cycleComment = length-append (editionText consumers) cycleComment in
+    omega (arith, decimal-most period (omega arith), edition-few consumers)
 
 head-few : length headLine ≤ 245
 unfolding headLine sheetLine padRight texts columnOf nameAt padLeft
@@ -204,7 +210,7 @@ module _ {plan table : List ℕ} {c : Passed} (h : LocatedAs plan table c) (byte
   all-few : All (λ l. length l ≤ 245) (sheetLines c)
   unfolding sheetLines
   all-few =
-      also (cycle-few (c .table .period) (period-fits h bytes))
+      also (cycle-few (c .plan .consumers) (c .table .period) (period-fits h bytes))
       (also head-few
       (all-append
       (all-tab (controlLine c) 0 (length (c .table .control)) (λ k a b. control-line-few k (omega arith)))

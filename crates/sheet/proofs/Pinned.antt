@@ -14,11 +14,12 @@ use Rattle.laws.proofs.Lists.{both-right, length-snoc}
 use Rattle.laws.proofs.Loops.{none-some, some-injective}
 use Rattle.laws.proofs.Members.{All, empty, also, all-append}
 use Rattle.rules.specs.Limits.{mostNodes, mostFrames}
-use Rattle.rules.specs.Records.{Rec, records, tableFollows}
+use Rattle.rules.specs.Records.{Rec, headKind, records, tableFollows}
 use Rattle.rules.specs.Plan.{nth}
 use Rattle.rules.specs.Frames.{ControlRow}
-use Rattle.rules.specs.Table.{DataRow}
-use Rattle.rules.specs.Checker.{tableOf, rowOf}
+use Rattle.rules.specs.Table.{DataRow, recordBytes, headerBytes, tableOfRows}
+use Rattle.rules.specs.Checker.{tableOf, rowOf, isForConsumers}
+use Rattle.rules.proofs.Heads.{head-of, edition-of}
 use Rattle.rules.proofs.TableBytes.{ControlFits, DataFits, RowsFit, rowsRecords, rows-table-reads, rows-table-read}
 use Rattle.text.specs.Lines.{linesOf, uncommented, words, wholeNumber}
 use Rattle.text.specs.declared.lines.Whole.{Whole}
@@ -32,6 +33,7 @@ use Rattle.sheet.specs.Back.{
   formsOf,
   upToMost,
   numberIn,
+  numberMissing,
   numberFirst,
   numbersIn,
   SoFar,
@@ -79,7 +81,11 @@ pub number-within : (fs : List Form) (ws : List (List ℕ)) (ns : List ℕ) → 
 unfolding numbersIn
 number-within [] [] ns e k most q = subst (λ (l : List ℕ). nth l k ≤ most) (some-injective e) zero-le
 number-within [] (w ∷ ws) ns e k most q = none-some e
-number-within (f ∷ fs) [] ns e k most q = none-some e
+number-within (f ∷ fs) [] ns e zero most q =
+    first-number (numberMissing f) (numbersIn fs []) ns e (λ n ms a b is. none-some (subst (λ (f : Form). numberMissing f ≡ some n) q a))
+number-within (f ∷ fs) [] ns e (suc k) most q =
+    first-number (numberMissing f) (numbersIn fs []) ns e
+    (λ n ms a b is. subst (λ (l : List ℕ). nth l (suc k) ≤ most) is (number-within fs [] ms b k most q))
 number-within (f ∷ fs) (w ∷ ws) ns e zero most q =
     first-number (numberIn f w) (numbersIn fs ws) ns e
     (λ n ms a b is. subst (λ (l : List ℕ). nth l zero ≤ most) is (within-form w n q a))
@@ -204,7 +210,8 @@ pub read-fits : (text : List ℕ) (s : SoFar) → readSheet text ≡ sheet s →
 unfolding readSheet
 read-fits text s e = lines-fit 1 (linesOf text) nothingYet nothing-fits e
 
--- the table that is written reads as records, and these are the cycle and the rows that were read, under a head that counts them
+-- the table that is written reads as records, and these are the cycle and the rows that were read, under a head that counts them; and it is of
+-- the edition that was read
 pub record Pinned (s : SoFar) : Type 0 where
   pub rs : List Rec
   pub reads : records tableFollows 20 (tableRead s) ≡ ok rs
@@ -216,15 +223,18 @@ pub record Pinned (s : SoFar) : Type 0 where
         control = s .control;
         rows = map rowOf (s .rows);
       }
+  pub edition : isForConsumers (tableRead s) ≡ s .consumers
   pub fewControls : length (s .control) ≤ mostNodes
   pub fewRows : length (s .rows) ≤ mostFrames
 
 pub pinned : (text : List ℕ) (s : SoFar) → readSheet text ≡ sheet s → Pinned s
-unfolding tableRead
+unfolding tableRead tableOfRows headerBytes recordBytes
 pinned text s e =
     let f = read-fits text s e in
-    let fits : RowsFit (s .period) (s .control) (s .rows) =
+    let head = headKind (s .consumers) in
+    let fits : RowsFit head (s .period) (s .control) (s .rows) =
     record {
+      isHead = head-of (s .consumers);
       periodFits = f .period;
       controls = omega (arith, f .controls);
       datas = omega (arith, f .datas);
@@ -232,9 +242,10 @@ pinned text s e =
       rowsFit = f .rowsFit;
     } in
     record {
-      rs = rowsRecords (s .period) (s .control) (s .rows);
-      reads = rows-table-reads (s .period) (s .control) (s .rows) fits;
-      is = rows-table-read (s .period) (s .control) (s .rows);
+      rs = rowsRecords head (s .period) (s .control) (s .rows);
+      reads = rows-table-reads head (s .period) (s .control) (s .rows) fits;
+      is = rows-table-read head (s .period) (s .control) (s .rows) (head-of (s .consumers));
+      edition = edition-of (s .consumers) _;
       fewControls = f .controls;
       fewRows = f .datas;
     }

@@ -1,7 +1,7 @@
 -- A sheet reads back to its table. The lines of the text are the sheet's lines; a reader takes them one by one, the rows so far being the first
 -- rows of the table; and the rows with the head that counts them are the table's bytes.
 use mathlib.Core.Path.{_≡_, refl, sym, ap, ap₂, _∙_, subst}
-use mathlib.Core.Bool.{true}
+use mathlib.Core.Bool.{true, false}
 use mathlib.Core.List.{List, [], _∷_, _++_, map, append-assoc}
 use mathlib.Core.Option.{some}
 use native.Mathlib.Nat.{add-zero, zero-add}
@@ -13,15 +13,18 @@ use Rattle.laws.specs.Res.{Res, ok, refuse}
 use Rattle.laws.specs.Lists.{all, joined, tab}
 use Rattle.laws.proofs.Little.{Bytes}
 use Rattle.laws.proofs.Members.{All, empty, also, all-append, all-getD, all-getD-or, all-member, all-tab, map-getD}
+use Rattle.rules.specs.Records.{headKind}
 use Rattle.rules.specs.Plan.{theTask}
 use Rattle.rules.specs.Traffic.{moduleNode, taskNode}
 use Rattle.rules.specs.Frames.{ControlRow, noControlRow}
-use Rattle.rules.specs.Table.{DataRow, tableOfRows}
-use Rattle.rules.specs.Checker.{TableRead, tableOf, noRow, nameOf, rowOf, Row, Passed, controlAt, rowAt, firstRow, lastRow, timed, located}
+use Rattle.rules.specs.Table.{DataRow, headerBytes, recordBytes, tableOfRows}
+use Rattle.rules.specs.Checker.{TableRead, tableOf, noRow, nameOf, rowOf, Row, Passed, controlAt, rowAt, firstRow, lastRow, timed, isForConsumers, located}
+use Rattle.rules.proofs.Editions.{edition-in}
+use Rattle.rules.proofs.Heads.{IsHead, basicHead, consumersHead}
 use Rattle.rules.proofs.LaidOut.{period-kept, pairs-kept, pairs-released}
 use Rattle.rules.proofs.RefusalNumbers.{timed-gives}
 use Rattle.rules.proofs.TableBytes.{ControlFits, DataFits}
-use Rattle.rules.proofs.TableFile.{FileIs, table-file, file-rows, controlOf, datasOf, periodOfHead, controlsOfHead, datasOfHead}
+use Rattle.rules.proofs.TableFile.{FileIs, table-file, file-rows, controlOf, datasOf, kindOfHead, periodOfHead, controlsOfHead, datasOfHead}
 use Rattle.rules.proofs.Located.{
   LocatedAs,
   located-as,
@@ -96,6 +99,12 @@ takes-reads number (takes-line e r) q = rw e (takes-reads (suc number) r q)
 
 -- ---- the table's rows
 
+-- the kind of a table's head is that of the edition which its first byte says
+head-kind : {head : ℕ} → IsHead head → (rest : List ℕ) → head ≡ headKind (isForConsumers (head ∷ rest))
+unfolding headKind isForConsumers
+head-kind basicHead rest = refl
+head-kind consumersHead rest = refl
+
 pub last-few : {plan table : List ℕ} {c : Passed} → LocatedAs plan table c → lastRow (c .table) ≤ 1032
 unfolding lastRow
 last-few h = omega (arith, few-control h, few-rows h)
@@ -134,14 +143,22 @@ module _ {plan table : List ℕ} {c : Passed} (h : LocatedAs plan table c) (byte
   rows-count : length datas ≡ length (c .table .rows)
   rows-count = sym (length-map datas rowOf) ∙ ap length rows-is
 
+  -- the edition is the one that the plan was read in
+  head-is : kindOfHead (h .rs) ≡ headKind (c .plan .consumers)
+  unfolding headerBytes recordBytes
+  head-is =
+      head-kind (file .isHead) _ ∙ ap (λ (l : List ℕ). headKind (isForConsumers l)) (sym (file .is))
+      ∙ ap headKind (sym (edition-in (isForConsumers table) plan (c .plan) (h .isRead)))
+
   -- so the file is the table of its rows: rule 21 counts them
-  table-is : table ≡ tableOfRows (c .table .period) (c .table .control) datas
+  table-is : table ≡ tableOfRows (headKind (c .plan .consumers)) (c .table .period) (c .table .control) datas
   table-is =
       let right = located-header h in
       let controls : controlsOfHead (h .rs) ≡ length (controlOf (h .rs)) =
       controls-is ∙ right .controls ∙ sym (right .controlRows) ∙ ap length (sym control-is) in
       let counted : datasOfHead (h .rs) ≡ length datas = datas-is ∙ right .datas ∙ sym (right .dataRows) ∙ sym rows-count in
-      file-rows file controls counted ∙ ap₂ (λ (p : ℕ) (l : List ControlRow). tableOfRows p l datas) period-is control-is
+      file-rows file controls counted ∙ ap₂ (λ (n p : ℕ). tableOfRows n p (controlOf (h .rs)) datas) head-is period-is
+      ∙ ap (λ (l : List ControlRow). tableOfRows (headKind (c .plan .consumers)) (c .table .period) l datas) control-is
 
   -- ---- every number is one that a reader takes
 
@@ -194,11 +211,15 @@ module _ {plan table : List ℕ} {c : Passed} (h : LocatedAs plan table c) (byte
 
   -- ---- row by row
 
+  -- what is read behind the first line, with these rows
+  abbrev behind : List ControlRow → List DataRow → SoFar
+  behind = readTo (c .plan .consumers) (c .table .period)
+
   abbrev behindControl : ℕ → SoFar
-  behindControl k = readTo (c .table .period) (take k (c .table .control)) []
+  behindControl k = behind (take k (c .table .control)) []
 
   abbrev behindData : ℕ → SoFar
-  behindData k = readTo (c .table .period) (c .table .control) (take k datas)
+  behindData k = behind (c .table .control) (take k datas)
 
   control-taken : (k : ℕ) → k < length (c .table .control) → withLine (behindControl k) (controlLine c k) ≡ some (behindControl (suc k))
   unfolding controlLine controlAt
@@ -207,50 +228,50 @@ module _ {plan table : List ℕ} {c : Passed} (h : LocatedAs plan table c) (byte
       let few : length (take k (c .table .control)) < 8 =
       omega (arith, length-take-le k (c .table .control) (omega arith), few-control h) in
       control-line (c .plan) r (all-getD noControlRow control-fits k w) (control-few (c .plan) (plan-kept h) r)
-      (c .table .period) (take k (c .table .control)) (1 + k) few
-      ∙ ap (λ (l : List ControlRow). some (readTo (c .table .period) l [])) (sym (take-suc (c .table .control) k noControlRow w))
+      (c .plan .consumers) (c .table .period) (take k (c .table .control)) (1 + k) few
+      ∙ ap (λ (l : List ControlRow). some (behind l [])) (sym (take-suc (c .table .control) k noControlRow w))
 
   data-taken : (k : ℕ) → k < length datas → withLine (behindData k) (dataLine c k) ≡ some (behindData (suc k))
   unfolding dataLine
   data-taken k w =
       let v : k < length (c .table .rows) = omega (arith, rows-count) in
       let few : length (take k datas) < 1024 = omega (arith, length-take-le k datas (omega arith), few-rows h, rows-count) in
-      data-line c (rowAt (c .table) k) (row-small k v) (c .table .period) (c .table .control) (take k datas) (firstRow (c .table) + k) few
-      ∙ ap (λ (r : DataRow). some (readTo (c .table .period) (c .table .control) (take k datas ++ (r ∷ [])))) (data-is k w)
-      ∙ ap (λ (l : List DataRow). some (readTo (c .table .period) (c .table .control) l)) (sym (take-suc datas k noData w))
+      data-line c (rowAt (c .table) k) (row-small k v) (c .plan .consumers) (c .table .period) (c .table .control) (take k datas) (firstRow (c .table) + k) few
+      ∙ ap (λ (r : DataRow). some (behind (c .table .control) (take k datas ++ (r ∷ [])))) (data-is k w)
+      ∙ ap (λ (l : List DataRow). some (behind (c .table .control) l)) (sym (take-suc datas k noData w))
 
-  controls-taken : Takes (readTo (c .table .period) [] []) (tab (controlLine c) 0 (length (c .table .control)))
-      (readTo (c .table .period) (c .table .control) [])
+  controls-taken : Takes (behind [] []) (tab (controlLine c) 0 (length (c .table .control)))
+      (behind (c .table .control) [])
   controls-taken =
       let C = c .table .control in
-      subst (λ (l : List ControlRow). Takes (behindControl 0) (tab (controlLine c) 0 (length C)) (readTo (c .table .period) l []))
+      subst (λ (l : List ControlRow). Takes (behindControl 0) (tab (controlLine c) 0 (length C)) (behind l []))
       (ap (λ (k : ℕ). take k C) (zero-add (length C)) ∙ take-all (length C) C (omega arith))
       (takes-tab (controlLine c) behindControl 0 (length C) (λ k a b. control-taken k (omega arith)))
 
-  datas-taken : Takes (readTo (c .table .period) (c .table .control) []) (tab (dataLine c) 0 (length (c .table .rows)))
-      (readTo (c .table .period) (c .table .control) datas)
+  datas-taken : Takes (behind (c .table .control) []) (tab (dataLine c) 0 (length (c .table .rows)))
+      (behind (c .table .control) datas)
   datas-taken =
       let n = length (c .table .rows) in
-      subst (λ (l : List DataRow). Takes (behindData 0) (tab (dataLine c) 0 n) (readTo (c .table .period) (c .table .control) l))
+      subst (λ (l : List DataRow). Takes (behindData 0) (tab (dataLine c) 0 n) (behind (c .table .control) l))
       (ap (λ (k : ℕ). take k datas) (zero-add n) ∙ take-all n datas (omega (arith, rows-count)))
       (takes-tab (dataLine c) behindData 0 n (λ k a b. data-taken k (omega (arith, rows-count))))
 
   -- the whole sheet, from where the cycle may come
   sheet-taken : (s : SoFar) → s .stage < 2 → s .control ≡ [] → s .rows ≡ []
-      → Takes s (sheetLines c) (readTo (c .table .period) (c .table .control) datas)
+      → Takes s (sheetLines c) (behind (c .table .control) datas)
   unfolding sheetLines
   sheet-taken s w e q =
       takes-line
-      (cycle-line s (c .table .period) period-fits w
-      ∙ ap₂ (λ (l : List ControlRow) (m : List DataRow). some (readTo (c .table .period) l m)) e q)
-      (takes-line (head-line (readTo (c .table .period) [] [])) (takes-append controls-taken datas-taken))
+      (cycle-line s (c .plan .consumers) (c .table .period) period-fits w
+      ∙ ap₂ (λ (l : List ControlRow) (m : List DataRow). some (behind l m)) e q)
+      (takes-line (head-line (behind [] [])) (takes-append controls-taken datas-taken))
 
   -- ---- the text
 
   sheet-feedless : All (λ l. all (isOther 10) l ≡ true) (sheetLines c)
   unfolding sheetLines controlLine dataLine
   sheet-feedless =
-      also (cycle-feedless (c .table .period))
+      also (cycle-feedless (c .plan .consumers) (c .table .period))
       (also head-feedless
       (all-append
       (all-tab (controlLine c) 0 (length (c .table .control))
@@ -259,7 +280,7 @@ module _ {plan table : List ℕ} {c : Passed} (h : LocatedAs plan table c) (byte
       (λ k a b. data-feedless (dataCells c (rowAt (c .table) k)) (firstRow (c .table) + k)))))
 
   read-lines : (ls : List (List ℕ)) → All (λ l. all (isOther 10) l ≡ true) ls
-      → Takes nothingYet ls (readTo (c .table .period) (c .table .control) datas) → readBack (joined (map ended ls)) ≡ TableBack.table table
+      → Takes nothingYet ls (behind (c .table .control) datas) → readBack (joined (map ended ls)) ≡ TableBack.table table
   unfolding readBack readSheet tableRead
   read-lines ls feedless t =
       ap (λ (ms : List (List ℕ)). tableFrom (readLines 1 ms nothingYet)) (lines-joined ls feedless)
@@ -272,7 +293,7 @@ module _ {plan table : List ℕ} {c : Passed} (h : LocatedAs plan table c) (byte
   topped (refuse n p) e =
       let number : n < 18446744073709551616 = omega (arith, timed-gives (c .layout) (c .table) .number n p e .1) in
       let place : p < 18446744073709551616 = omega (arith, timed-places (c .layout) (c .table) .place n p e, last-few h) in
-      let after : SoFar = record { stage = 1; period = 0; control = []; rows = [] } in
+      let after : SoFar = record { stage = 1; consumers = false; period = 0; control = []; rows = [] } in
       ap (λ (l : List ℕ). readBack (l ++ joined (map ended (sheetLines c)))) (top-ended n p)
       ∙ read-lines (topLine n p ∷ sheetLines c) (also (top-feedless n p) sheet-feedless)
       (takes-line (top-line n p number place) (sheet-taken after (omega arith) refl refl))

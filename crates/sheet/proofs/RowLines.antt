@@ -1,7 +1,7 @@
 -- The lines of a sheet, one by one: each is without a line feed, and a reader takes from it what the table has: from the refusal on top and
 -- from the head nothing, from the first line the cycle, from a row's line that row.
 use mathlib.Core.Path.{_≡_, refl, sym, ap, _∙_}
-use mathlib.Core.Bool.{true}
+use mathlib.Core.Bool.{Bool, true, false}
 use mathlib.Core.List.{List, [], _∷_, _++_, append-nil, append-assoc}
 use mathlib.Core.Option.{some}
 use native.Mathlib.Omega.{arith}
@@ -18,7 +18,7 @@ use Rattle.rules.specs.Table.{DataRow}
 use Rattle.rules.specs.Checker.{Row, Passed}
 use Rattle.rules.proofs.TableBytes.{ControlFits}
 use Rattle.text.specs.Text.{atWord, decimal, ended, front, lineFeed, padLeft, padRight, refusedLine, refusedWord, texts}
-use Rattle.text.specs.Lines.{behindWord, isBlank, isOther, isWord, uncommented, words}
+use Rattle.text.specs.Lines.{behindWord, blankFirst, isBlank, isOther, isWord, uncommented, words}
 use Rattle.text.proofs.Runs.{front-over}
 use Rattle.text.proofs.Words.{Wordy, decimal-wordy, spaces-passed, word-then}
 use Rattle.text.proofs.Padded.{all-both, decimal-other}
@@ -28,6 +28,7 @@ use Rattle.sheet.specs.declared.Kind.the-variants.{Refused, Cycle, Contr
 use Rattle.sheet.specs.declared.Form.the-variants as form
 use Rattle.sheet.specs.Sheet.{
   cycleWord,
+  consumersWord,
   controlWord,
   dataWord,
   cycleComment,
@@ -37,6 +38,7 @@ use Rattle.sheet.specs.Sheet.{
   wordAt,
   headLine,
   rowLine,
+  editionText,
   cycleLine,
   difference,
   controlSent,
@@ -73,6 +75,7 @@ use Rattle.sheet.proofs.Cells.{
   ReadAs,
   no-word,
   one-word,
+  word-missing,
   line-taken,
   kind-refused,
   kind-cycle,
@@ -83,8 +86,9 @@ use Rattle.sheet.proofs.Cells.{
 }
 
 -- behind the cycle's line
-abbrev pub readTo : ℕ → List ControlRow → List DataRow → SoFar
-readTo period control rows = record { stage = 2; period = period; control = control; rows = rows }
+abbrev pub readTo : Bool → ℕ → List ControlRow → List DataRow → SoFar
+readTo consumers period control rows =
+    record { stage = 2; consumers = consumers; period = period; control = control; rows = rows }
 
 -- numbers that are taken, by their widths, and one that only tells
 byte-read : (n : ℕ) → n < 256 → numberIn (form.Most most8) (decimal n) ≡ some n
@@ -133,11 +137,12 @@ module _ (p : Plan) (r : ControlRow) (fits : ControlFits r) (few : FewBits (cont
       (one-word dash-read
       (one-word dash-read no-word)))))))))
 
-  pub control-line : (period : ℕ) (control : List ControlRow) (k : ℕ) → length control < mostNodes
-      → withLine (readTo period control []) (rowLine controlWord (controlCells p r) k) ≡ some (readTo period (control ++ (r ∷ [])) [])
+  pub control-line : (consumers : Bool) (period : ℕ) (control : List ControlRow) (k : ℕ) → length control < mostNodes
+      → withLine (readTo consumers period control []) (rowLine controlWord (controlCells p r) k)
+      ≡ some (readTo consumers period (control ++ (r ∷ [])) [])
   unfolding mayStand withNumbers
-  control-line period control k w =
-      line-taken Control (readTo period control []) (rowLine controlWord (controlCells p r) k) controlWord _ _
+  control-line consumers period control k w =
+      line-taken Control (readTo consumers period control []) (rowLine controlWord (controlCells p r) k) controlWord _ _
       (row-words controlWord control-wordy refl (controlCells p r) k) kind-control (lt-ltb (length control) mostNodes w) control-read
 
 -- every number of a row's line is one that a reader takes
@@ -179,11 +184,12 @@ module _ (c : Passed) (r : Row) (small : RowSmall c r) where
       (one-word (signed-read (r .start) (releaseOf c r) start release)
       (one-word (signed-read (r .opens .deadline) (r .stop) deadline stop) no-word)))))))))
 
-  pub data-line : (period : ℕ) (control : List ControlRow) (rows : List DataRow) (k : ℕ) → length rows < mostFrames
-      → withLine (readTo period control rows) (rowLine dataWord (dataCells c r) k) ≡ some (readTo period control (rows ++ (dataOf r ∷ [])))
+  pub data-line : (consumers : Bool) (period : ℕ) (control : List ControlRow) (rows : List DataRow) (k : ℕ) → length rows < mostFrames
+      → withLine (readTo consumers period control rows) (rowLine dataWord (dataCells c r) k)
+      ≡ some (readTo consumers period control (rows ++ (dataOf r ∷ [])))
   unfolding mayStand withNumbers
-  data-line period control rows k w =
-      line-taken Data (readTo period control rows) (rowLine dataWord (dataCells c r) k) dataWord _ _
+  data-line consumers period control rows k w =
+      line-taken Data (readTo consumers period control rows) (rowLine dataWord (dataCells c r) k) dataWord _ _
       (row-words dataWord data-wordy refl (dataCells c r) k) kind-data (lt-ltb (length rows) mostFrames w) data-read
 
 -- ---- the first line
@@ -194,23 +200,61 @@ cycleFront period = (cycleWord ++ (32 ∷ [])) ++ decimal period
 cycle-all : (stop period : ℕ) → stop < 48 → all (isOther stop) (cycleWord ++ (32 ∷ [])) ≡ true → all (isOther stop) (cycleFront period) ≡ true
 cycle-all stop period h e = all-both (isOther stop) (cycleWord ++ (32 ∷ [])) (decimal period) e (decimal-other stop period h)
 
-pub cycle-feedless : (period : ℕ) → all (isOther 10) (cycleLine period) ≡ true
+-- the edition's word, where there is one
+edition-all : (stop : ℕ) (consumers : Bool) → all (isOther stop) (editionText true) ≡ true → all (isOther stop) (editionText consumers) ≡ true
+edition-all stop false e = refl
+edition-all stop true e = e
+
+pub cycle-feedless : (consumers : Bool) (period : ℕ) → all (isOther 10) (cycleLine consumers period) ≡ true
 unfolding cycleLine
-cycle-feedless period = all-both (isOther 10) (cycleFront period) cycleComment (cycle-all 10 period (omega arith) refl) refl
+cycle-feedless consumers period =
+    all-both (isOther 10) (cycleFront period) (editionText consumers ++ cycleComment) (cycle-all 10 period (omega arith) refl)
+    (all-both (isOther 10) (editionText consumers) cycleComment (edition-all 10 consumers refl) refl)
 
-cycle-words : (period : ℕ) → words (uncommented (cycleLine period)) ≡ cycleWord ∷ decimal period ∷ []
-unfolding cycleLine uncommented isBlank words
-cycle-words period =
-    ap words (front-over (isOther 35) (cycleFront period) cycleComment (cycle-all 35 period (omega arith) refl))
-    ∙ word-then cycleWord (32 ∷ decimal period ++ (32 ∷ 32 ∷ [])) (record { some = omega arith; letters = refl }) refl
-    ∙ ap (λ (ws : List (List ℕ)). cycleWord ∷ ws) (word-then (decimal period) (32 ∷ 32 ∷ []) (decimal-wordy period) refl)
+abbrev editionWords : Bool → List (List ℕ)
+editionWords false = []
+editionWords true = consumersWord ∷ []
 
-pub cycle-line : (s : SoFar) (period : ℕ) → period < 4294967296 → s .stage < 2
-    → withLine s (cycleLine period) ≡ some (readTo period (s .control) (s .rows))
+edition-words : (consumers : Bool) → words (editionText consumers ++ (32 ∷ 32 ∷ [])) ≡ editionWords consumers
+unfolding words isBlank
+edition-words false = refl
+edition-words true = refl
+
+edition-blank : (consumers : Bool) → blankFirst (editionText consumers ++ (32 ∷ 32 ∷ [])) ≡ true
+unfolding isBlank
+edition-blank false = refl
+edition-blank true = refl
+
+cycle-cut : (consumers : Bool) (period : ℕ) → uncommented (cycleLine consumers period) ≡ cycleFront period ++ (editionText consumers ++ (32 ∷ 32 ∷ []))
+unfolding cycleLine uncommented
+cycle-cut consumers period =
+    front-over (isOther 35) (cycleFront period) (editionText consumers ++ cycleComment) (cycle-all 35 period (omega arith) refl)
+    ∙ ap (λ (l : List ℕ). cycleFront period ++ l)
+    (front-over (isOther 35) (editionText consumers) cycleComment (edition-all 35 consumers refl))
+
+cycle-words : (consumers : Bool) (period : ℕ) → words (uncommented (cycleLine consumers period)) ≡ cycleWord ∷ decimal period ∷ editionWords consumers
+unfolding isBlank words
+cycle-words consumers period =
+    let rest = editionText consumers ++ (32 ∷ 32 ∷ []) in
+    ap words (cycle-cut consumers period)
+    ∙ word-then cycleWord (32 ∷ decimal period ++ rest) (record { some = omega arith; letters = refl }) refl
+    ∙ ap (λ (ws : List (List ℕ)). cycleWord ∷ ws)
+    (word-then (decimal period) rest (decimal-wordy period) (edition-blank consumers)
+    ∙ ap (λ (ws : List (List ℕ)). decimal period ∷ ws) (edition-words consumers))
+
+consumers-read : numberIn form.Consumers consumersWord ≡ some 1
+unfolding numberIn isWord behindWord
+consumers-read = refl
+
+pub cycle-line : (s : SoFar) (consumers : Bool) (period : ℕ) → period < 4294967296 → s .stage < 2
+    → withLine s (cycleLine consumers period) ≡ some (readTo consumers period (s .control) (s .rows))
 unfolding mayStand withNumbers
-cycle-line s period h w =
-    line-taken Cycle s (cycleLine period) cycleWord (decimal period ∷ []) (period ∷ []) (cycle-words period) kind-cycle
-    (lt-ltb (s .stage) 2 w) (one-word (word-read period h) no-word)
+cycle-line s false period h w =
+    line-taken Cycle s (cycleLine false period) cycleWord (decimal period ∷ []) (period ∷ 0 ∷ []) (cycle-words false period) kind-cycle
+    (lt-ltb (s .stage) 2 w) (one-word (word-read period h) (word-missing refl no-word))
+cycle-line s true period h w =
+    line-taken Cycle s (cycleLine true period) cycleWord (decimal period ∷ consumersWord ∷ []) (period ∷ 1 ∷ []) (cycle-words true period) kind-cycle
+    (lt-ltb (s .stage) 2 w) (one-word (word-read period h) (one-word consumers-read no-word))
 
 -- ---- the head
 
@@ -265,7 +309,7 @@ unfolding numberIn isWord behindWord
 at-read = refl
 
 pub top-line : (n p : ℕ) → n < 18446744073709551616 → p < 18446744073709551616
-    → withLine nothingYet (topLine n p) ≡ some (record { stage = 1; period = 0; control = []; rows = [] })
+    → withLine nothingYet (topLine n p) ≡ some (record { stage = 1; consumers = false; period = 0; control = []; rows = [] })
 unfolding mayStand withNumbers
 top-line n p h k =
     line-taken Refused nothingYet (topLine n p) refusedKind (decimal n ∷ atPlace ∷ decimal p ∷ []) (n ∷ 0 ∷ p ∷ []) (top-words n p) kind-refused

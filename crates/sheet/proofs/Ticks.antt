@@ -14,7 +14,7 @@ use Rattle.laws.proofs.Lists.{length-keep, length-upTo}
 use Rattle.laws.proofs.Members.{All, empty, also, all-getD, all-member}
 use Rattle.laws.proofs.Tests.{by-and, by-eq, by-itself}
 use Rattle.rules.specs.Plan.{Bus, Plan, noTask, theTask}
-use Rattle.rules.specs.Traffic.{Traffic, controlPayload, sendersOn, standsOn, basic, sendingNodes}
+use Rattle.rules.specs.Traffic.{Traffic, controlPayload, sendersOn, standsOn, traffic, sendingNodes}
 use Rattle.rules.specs.Frames.{
   Pair,
   pairs,
@@ -90,7 +90,7 @@ module _ {plan table : List ℕ} {c : Passed} (h : LocatedAs plan table c) where
       let one = namedIn (c .layout .pairs) (rowAt (c .table) k .opens) in
       let is : payload (c .plan) (c .traffic .messages) (heldBy c (rowAt (c .table) k)) ≡ theTask (c .plan) (one .task) .size =
       ap (λ (t : Traffic). payload (c .plan) (t .messages) (heldBy c (rowAt (c .table) k))) (sym (h .traffic))
-      ∙ ap (payload (c .plan) (basic (c .plan) .messages)) (held-one k w)
+      ∙ ap (payload (c .plan) (traffic (c .plan) .messages)) (held-one k w)
       ∙ payload-one (c .plan) (plan-kept h) one (opens-pair h k w) in
       omega (arith, is, size-few (c .plan) (plan-kept h) one (opens-pair h k w))
 

@@ -6,6 +6,7 @@ use lib.Dec.{eqb, leb, ltb}
 use lib.ListN.{length, drop}
 use Prim.Native.Nat.{ℕ, suc}
 use Rattle.rules.specs.Limits.{mostNodes, mostFrames}
+use Rattle.rules.specs.Records.{headKind}
 use Rattle.rules.specs.Plan.{nth}
 use Rattle.rules.specs.Frames.{ControlRow}
 use Rattle.rules.specs.Table.{DataRow, tableOfRows}
@@ -16,7 +17,7 @@ use Rattle.sheet.specs.declared.Kind.{Kind}
 use Rattle.sheet.specs.declared.Kind.the-variants.{Refused, Cycle, Control, Data, Other}
 use Rattle.sheet.specs.declared.Form.{Form}
 use Rattle.sheet.specs.declared.Form.the-variants as form
-use Rattle.sheet.specs.Sheet.{dash, cycleWord, controlWord, dataWord}
+use Rattle.sheet.specs.Sheet.{dash, cycleWord, consumersWord, controlWord, dataWord}
 
 -- ---- the words of a line
 
@@ -34,7 +35,7 @@ kindOf w =
     cond (isWord dataWord w) Data
     (cond (isWord controlWord w) Control (cond (isWord cycleWord w) Cycle (cond (isWord refusedKind w) Refused Other)))
 
--- Rules 18.3 and 18.4: what the words behind the first have to be. Of the numbers that are taken node and task have 8 bits, all others 32; one
+-- Rules 18.3, 18.4 and 21.10: what the words behind the first have to be. Of the numbers that are taken node and task have 8 bits, all others 32; one
 -- that only tells has 64.
 abbrev pub most8 : ℕ
 most8 = 255
@@ -47,7 +48,7 @@ most64 = 18446744073709551615
 
 abbrev pub formsOf : Kind → List Form
 formsOf Refused = form.Most most64 ∷ form.At ∷ form.Most most64 ∷ []
-formsOf Cycle = form.Most most32 ∷ []
+formsOf Cycle = form.Most most32 ∷ form.Consumers ∷ []
 formsOf Control =
     form.Most most8 ∷ form.Dash ∷ form.Dash ∷ form.Dash ∷ form.Most most32 ∷ form.Most most32 ∷ form.Most most64 ∷ form.Most most64
     ∷ form.Dash ∷ form.Dash ∷ []
@@ -56,7 +57,7 @@ formsOf Data =
     ∷ form.Most most64 ∷ form.Most most64 ∷ form.Signed ∷ form.Signed ∷ []
 formsOf Other = []
 
--- the number that a word says, if it has the form; a word that says none counts as 0
+-- the number that a word says, if it has the form; a word that says none counts as 0, `consumers` as 1
 abbrev pub upToMost : ℕ → Whole → Option ℕ
 upToMost most whole.None = none
 upToMost most (whole.Value n) = cond (leb n most) (some n) none
@@ -66,7 +67,17 @@ numberIn form.Dash w = cond (isWord dash w) (some 0) none
 numberIn form.At w = cond (isWord atPlace w) (some 0) none
 numberIn (form.Most most) w = upToMost most (wholeNumber w)
 numberIn form.Signed w = upToMost most64 (wholeNumber (cond (startsWith dash w) (drop 1 w) w))
+numberIn form.Consumers w = cond (isWord consumersWord w) (some 1) none
 numberIn form.End w = none
+
+-- where the words have come to their end, only `consumers` may be missing: it counts as 0
+abbrev pub numberMissing : Form → Option ℕ
+numberMissing form.Dash = none
+numberMissing form.At = none
+numberMissing (form.Most most) = none
+numberMissing form.Signed = none
+numberMissing form.Consumers = some 0
+numberMissing form.End = none
 
 -- a number before others, where both are there
 abbrev pub numberFirst : Option ℕ → Option (List ℕ) → Option (List ℕ)
@@ -74,24 +85,25 @@ numberFirst none ns = none
 numberFirst (some n) none = none
 numberFirst (some n) (some ns) = some (n ∷ ns)
 
--- the numbers of words: as many as there are forms, each of its form
+-- the numbers of words: one for each form, and no word more
 unfoldable pub numbersIn : List Form → List (List ℕ) → Option (List ℕ)
 numbersIn [] [] = some []
 numbersIn [] (w ∷ ws) = none
-numbersIn (f ∷ fs) [] = none
+numbersIn (f ∷ fs) [] = numberFirst (numberMissing f) (numbersIn fs [])
 numbersIn (f ∷ fs) (w ∷ ws) = numberFirst (numberIn f w) (numbersIn fs ws)
 
 -- ---- line by line
 
--- What was read so far: how far the sheet has come (0: nothing; 1: a refusal; 2: the cycle), the cycle, and the rows.
+-- What was read so far: how far the sheet has come (0: nothing; 1: a refusal; 2: the cycle), the edition, the cycle, and the rows.
 pub record SoFar : Type 0 where
   pub stage : ℕ
+  pub consumers : Bool
   pub period : ℕ
   pub control : List ControlRow
   pub rows : List DataRow
 
 abbrev pub nothingYet : SoFar
-nothingYet = record { stage = 0; period = 0; control = []; rows = [] }
+nothingYet = record { stage = 0; consumers = false; period = 0; control = []; rows = [] }
 
 -- Rule 18.2: a refusal may stand first, then the cycle, then control rows, then data rows, no more of each than a table that prints can have.
 unfoldable pub mayStand : Kind → ℕ → ℕ → ℕ → Bool
@@ -103,11 +115,14 @@ mayStand Other stage controls rows = false
 
 -- Rule 18.3: what is taken from the numbers of a line.
 unfoldable pub withNumbers : Kind → SoFar → List ℕ → SoFar
-withNumbers Refused s ns = record { stage = 1; period = s .period; control = s .control; rows = s .rows }
-withNumbers Cycle s ns = record { stage = 2; period = nth ns 0; control = s .control; rows = s .rows }
+withNumbers Refused s ns =
+    record { stage = 1; consumers = s .consumers; period = s .period; control = s .control; rows = s .rows }
+withNumbers Cycle s ns =
+    record { stage = 2; consumers = eqb (nth ns 1) 1; period = nth ns 0; control = s .control; rows = s .rows }
 withNumbers Control s ns =
     record {
       stage = s .stage;
+      consumers = s .consumers;
       period = s .period;
       control = s .control ++ (record { node = nth ns 0; start = nth ns 4; stop = nth ns 5 } ∷ []);
       rows = s .rows;
@@ -115,6 +130,7 @@ withNumbers Control s ns =
 withNumbers Data s ns =
     record {
       stage = s .stage;
+      consumers = s .consumers;
       period = s .period;
       control = s .control;
       rows = s .rows ++ (record { task = nth ns 1; deadline = nth ns 3; start = nth ns 4; stop = nth ns 5 } ∷ []);
@@ -160,9 +176,9 @@ readLines number (line ∷ lines) s = goesOn number (withLine s line) (readLines
 unfoldable pub readSheet : List ℕ → Back
 readSheet text = readLines 1 (linesOf text) nothingYet
 
--- Rule 18.5: the table has the cycle and the rows that were read, and a head that counts them.
+-- Rules 18.5 and 21.10: the table has the cycle and the rows that were read, and a head of the edition's kind that counts them.
 unfoldable pub tableRead : SoFar → List ℕ
-tableRead s = tableOfRows (s .period) (s .control) (s .rows)
+tableRead s = tableOfRows (headKind (s .consumers)) (s .period) (s .control) (s .rows)
 
 -- What reading a text back comes to: a table's bytes, or the number of the first line that cannot be read.
 pub data TableBack : Type 0 where

@@ -1,5 +1,5 @@
 -- docs/RULES.md, section 17: the text of a sheet. Lines are without their line feed until they are joined.
-use mathlib.Core.Bool.{cond}
+use mathlib.Core.Bool.{Bool, true, false, cond}
 use mathlib.Core.List.{List, [], _∷_, _++_, map}
 use lib.Dec.{leb}
 use lib.ListN.{length, getD}
@@ -10,7 +10,7 @@ use Rattle.rules.specs.Plan.{Plan}
 use Rattle.rules.specs.Traffic.{taskNode, controlPayload}
 use Rattle.rules.specs.Frames.{Pair, ControlRow, Sending, onBus, payload}
 use Rattle.rules.specs.Checker.{Row, Passed, controlAt, rowAt, namedIn, firstRow, timed, located}
-use Rattle.text.specs.Text.{decimal, ended, marked, padLeft, padRight, refusedLine, texts}
+use Rattle.text.specs.Text.{ascii, decimal, ended, marked, padLeft, padRight, refusedLine, texts}
 use Rattle.sheet.specs.declared.Cell.{Cell}
 use Rattle.sheet.specs.declared.Cell.the-variants.{Dash, Count, Below}
 
@@ -23,6 +23,9 @@ dash = 45 ∷ []
 -- `cycle`
 abbrev pub cycleWord : List ℕ
 cycleWord = 99 ∷ 121 ∷ 99 ∷ 108 ∷ 101 ∷ []
+
+abbrev pub consumersWord : List ℕ
+consumersWord = ascii "consumers"
 
 -- `control`
 abbrev pub controlWord : List ℕ
@@ -98,9 +101,13 @@ headLine = sheetLine headWord nameAt recordWord
 unfoldable pub rowLine : List ℕ → List Cell → ℕ → List ℕ
 rowLine kind cells k = sheetLine kind (wordAt cells) (decimal k)
 
--- Rule 17.2: the first line has the cycle, as the table's head says it.
-unfoldable pub cycleLine : ℕ → List ℕ
-cycleLine period = marked (cycleWord ++ (32 ∷ [])) period ++ cycleComment
+-- Rules 17.2 and 21.10: the first line has the cycle, as the table's head says it; of a table of the consumer edition also that word.
+abbrev pub editionText : Bool → List ℕ
+editionText false = []
+editionText true = 32 ∷ consumersWord
+
+unfoldable pub cycleLine : Bool → ℕ → List ℕ
+cycleLine consumers period = marked (cycleWord ++ (32 ∷ [])) period ++ (editionText consumers ++ cycleComment)
 
 -- ---- the rows of a table
 
@@ -144,7 +151,7 @@ dataLine c k = rowLine dataWord (dataCells c (rowAt (c .table) k)) (firstRow (c 
 
 unfoldable pub sheetLines : Passed → List (List ℕ)
 sheetLines c =
-    cycleLine (c .table .period) ∷ headLine
+    cycleLine (c .plan .consumers) (c .table .period) ∷ headLine
     ∷ (tab (controlLine c) 0 (length (c .table .control)) ++ tab (dataLine c) 0 (length (c .table .rows)))
 
 unfoldable pub sheetOf : Passed → List ℕ

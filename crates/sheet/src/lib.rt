@@ -17,11 +17,13 @@ pub enum Kind {
     Other,
 }
 
-// What a word of a line has to be: `-`, `at`, a number up to a limit, a number with or without `-` in front; or no word at all.
+// What a word of a line has to be: `-`, `at`, a number up to a limit, a number with or without `-` in front; `consumers`, or no word; or no
+// word at all.
 pub enum Form {
     Dash,
     At,
     Most(u64),
     Signed,
+    Consumers,
     End,
 }

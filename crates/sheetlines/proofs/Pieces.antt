@@ -1,5 +1,6 @@
 -- Cells and lines put piece by piece.
 use mathlib.Core.Path.{_≡_, refl}
+use mathlib.Core.Bool.{Bool}
 use mathlib.Core.List.{List, [], _∷_, _++_, append-assoc}
 use native.Mathlib.Omega.{arith}
 use borrow.Author.Tests.{leb-true}
@@ -11,7 +12,7 @@ use Rattle.text.specs.Text.{ended, lineFeed, marked, padLeft, padRight, spaces,
 use Rattle.text.proofs.Padded.{decimal-few}
 use Rattle.text.proofs.Putting.{Put, both-put}
 use Rattle.sheet.specs.declared.Cell.{Cell}
-use Rattle.sheet.specs.Sheet.{column, columnOf, columnWidths, commentSign, cycleComment, cycleLine, cycleWord, rowLine, sheetLine, wordAt}
+use Rattle.sheet.specs.Sheet.{column, columnOf, columnWidths, commentSign, cycleComment, cycleLine, cycleWord, editionText, rowLine, sheetLine, wordAt}
 
 pub widths-few : (k : ℕ) → k < 10 → getD columnWidths k 0 ≤ 12
 widths-few k h = leb-true (getD columnWidths k 0) 12 (below (λ j. leb (getD columnWidths j 0) 12) 10 refl k h)
@@ -33,10 +34,13 @@ module _ (b b₁ b₂ : List ℕ) (at k₁ k₂ : ℕ) where
   behind-put : (l m n : List ℕ) → Put b at l b₁ k₁ → Put b₁ k₁ (m ++ n) b₂ k₂ → Put b at ((l ++ m) ++ n) b₂ k₂
   behind-put l m n p q = rw (append-assoc l m n) (both-put b b₁ b₂ l (m ++ n) at k₁ k₂ p q)
 
-  pub cycle-put : (period : ℕ) → Put b at (marked (cycleWord ++ (32 ∷ [])) period) b₁ k₁ → Put b₁ k₁ (cycleComment ++ lineFeed) b₂ k₂
-      → Put b at (ended (cycleLine period)) b₂ k₂
-  unfolding cycleLine
-  cycle-put period p q = behind-put (marked (cycleWord ++ (32 ∷ [])) period) cycleComment lineFeed p q
+pub cycle-put : (b b₁ b₂ b₃ : List ℕ) (at k₁ k₂ k₃ : ℕ) (consumers : Bool) (period : ℕ) → Put b at (marked (cycleWord ++ (32 ∷ [])) period) b₁ k₁
+    → Put b₁ k₁ (editionText consumers) b₂ k₂ → Put b₂ k₂ (cycleComment ++ lineFeed) b₃ k₃
+    → Put b at (ended (cycleLine consumers period)) b₃ k₃
+unfolding cycleLine
+cycle-put b b₁ b₂ b₃ at k₁ k₂ k₃ consumers period p q r =
+    behind-put b b₁ b₃ at k₁ k₃ (marked (cycleWord ++ (32 ∷ [])) period) (editionText consumers ++ cycleComment) lineFeed p
+    (behind-put b₁ b₂ b₃ k₁ k₂ k₃ (editionText consumers) cycleComment lineFeed q r)
 
 -- a record's number has at most four digits
 pub comment-few : (n : ℕ) → n < 10000 → length (marked commentSign n) ≤ 8

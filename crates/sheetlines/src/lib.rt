@@ -6,7 +6,7 @@ ghost use lib.ListN.{length, getD};
 ghost use lib.Seq.{sets};
 ghost use Rattle.text.specs.Text.{ended, padRight, texts};
 ghost use Rattle.sheet.specs.Sheet as sheet;
-ghost use Rattle.sheet.specs.Sheet.{cellText, columnOf, columnWidths, cycleLine, headLine, rowLine, wordAt};
+ghost use Rattle.sheet.specs.Sheet.{cellText, columnOf, columnWidths, cycleLine, editionText, headLine, rowLine, wordAt};
 use sheet::Cell;
 use text::decimal_length;
 use text::put_bytes;
@@ -115,14 +115,27 @@ pub fn put_row(buf: &mut [u8], at: usize, kind: &[u8], cells: [Cell; COLUMNS], n
     put_bytes(buf, end, b"\n")
 }
 
-// The first line: the cycle.
-pub fn put_cycle(buf: &mut [u8], at: usize, period: u32) -> usize
-    requires { ⌜ at + 60 ≤ 18446744073709551615 ⌝ }
-    ensures { λ r. ⌜ (now (buf .exit) ≡ sets (now (buf .entry)) at (ended (cycleLine period))) × (r ≡ at + length (ended (cycleLine period))) ⌝ }
-    ensures few { λ r. ⌜ r ≤ at + 60 ⌝ }
+// The word of the consumer edition; nothing in the other.
+fn put_edition(buf: &mut [u8], at: usize, consumers: bool) -> usize
+    requires { ⌜ at + 10 ≤ 18446744073709551615 ⌝ }
+    ensures { λ r. ⌜ (now (buf .exit) ≡ sets (now (buf .entry)) at (editionText consumers)) × (r ≡ at + length (editionText consumers)) ⌝ }
+    ensures few { λ r. ⌜ r ≤ at + 10 ⌝ }
 {
-    let end = put_marked(&mut *buf, at, b"cycle ", period as u64);
-    put_bytes(buf, end, b"  # ticks of one microsecond\n")
+    if consumers {
+        return put_bytes(buf, at, b" consumers");
+    }
+    at
+}
+
+// The first line: the cycle, and the edition.
+pub fn put_cycle(buf: &mut [u8], at: usize, consumers: bool, period: u32) -> usize
+    requires { ⌜ at + 70 ≤ 18446744073709551615 ⌝ }
+    ensures { λ r. ⌜ (now (buf .exit) ≡ sets (now (buf .entry)) at (ended (cycleLine consumers period))) × (r ≡ at + length (ended (cycleLine consumers period))) ⌝ }
+    ensures few { λ r. ⌜ r ≤ at + 70 ⌝ }
+{
+    let edition_at = put_marked(&mut *buf, at, b"cycle ", period as u64);
+    let comment_at = put_edition(&mut *buf, edition_at, consumers);
+    put_bytes(buf, comment_at, b"  # ticks of one microsecond\n")
 }
 
 // The head: the names of the columns.

@@ -12,11 +12,13 @@ use Rattle.laws.specs.Lists.{joined, tab}
 use Rattle.laws.proofs.Lists.{length-tab}
 use Rattle.laws.proofs.Arrays.{getD-laid, tab-list}
 use Rattle.rules.specs.Limits.{mostNodes, mostFrames}
-use Rattle.rules.specs.Records.{kinds, fields, bodyLength}
+use Rattle.rules.specs.Records.{kinds, fields, bodyLength, headKind}
 use Rattle.rules.specs.Frames.{ControlRow, noControlRow}
-use Rattle.rules.specs.Table.{DataRow, headerBytes, controlBytes, dataBytes, longestTable, recordLength, tableLength, tableOfRows}
-use Rattle.rules.proofs.TableLength.{length-controls, length-datas, length-header, length-most}
-use Rattle.table.specs.Rows.{controlIn, dataIn, tableIn}
+use Rattle.rules.specs.Table.{DataRow, controlBytes, dataBytes, longestTable, recordLength, tableLength, tableOfRows}
+use Rattle.rules.proofs.Heads.{head-of}
+use Rattle.rules.proofs.TableLength.{length-controls, length-datas, length-most}
+use Rattle.table.specs.Rows.{controlIn, dataIn, headIn, tableIn}
+use Rattle.table.proofs.Glued.{length-head, head-in}
 use Rattle.sheet.proofs.Pinned.{read-fits}
 use Rattle.sheet.specs.Back as back
 use Rattle.sheet.specs.Back.{SoFar, readBack, readSheet, table, tableFrom, tableRead, unreadableLine}
@@ -34,22 +36,22 @@ length-end : 1 ≡ recordLength 0
 unfolding recordLength bodyLength fields kinds
 length-end = refl
 
-table-long : (period : ℕ) (control : List ControlRow) (rows : List DataRow) (controls datas : ℕ) → length control ≡ controls → length rows ≡ datas
-    → length (tableIn period control rows controls datas) ≡ tableLength controls datas
+table-long : (head period : ℕ) (control : List ControlRow) (rows : List DataRow) (controls datas : ℕ) → length control ≡ controls → length rows ≡ datas
+    → length (tableIn head period control rows controls datas) ≡ tableLength controls datas
 unfolding tableIn tableLength
-table-long period control rows controls datas e f =
-    let H = headerBytes period controls datas in
+table-long head period control rows controls datas e f =
+    let H = headIn head period controls datas in
     let C = joined (map controlBytes control) in
     let D = joined (map dataBytes rows) in
     let h : length (H ++ (C ++ (D ++ (0 ∷ [])))) ≡ length H + length (C ++ (D ++ (0 ∷ []))) = length-append H (C ++ (D ++ (0 ∷ []))) in
     let c : length (C ++ (D ++ (0 ∷ []))) ≡ length C + length (D ++ (0 ∷ [])) = length-append C (D ++ (0 ∷ [])) in
     let d : length (D ++ (0 ∷ [])) ≡ length D + recordLength 0 = length-append D (0 ∷ []) ∙ ap (λ (n : ℕ). length D + n) length-end in
-    rw (h, c, d, length-header period controls datas, length-controls control, length-datas rows, e, f) (omega arith)
+    rw (h, c, d, length-head head period controls datas, length-controls control, length-datas rows, e, f) (omega arith)
 
 pub bytes-long : (m : Laid) → length (bytesIn m) ≡ tableLength (m .held .controls) (m .held .rows)
 unfolding bytesIn
 bytes-long m =
-    table-long (m .held .period .0) (tab (controlIn (m .nodes) (m .controlStarts) (m .controlStops)) 0 (m .held .controls))
+    table-long (headKind (m .held .consumers)) (m .held .period .0) (tab (controlIn (m .nodes) (m .controlStarts) (m .controlStops)) 0 (m .held .controls))
     (tab (dataIn (m .tasks) (m .deadlines) (m .starts) (m .stops)) 0 (m .held .rows)) (m .held .controls) (m .held .rows)
     (length-tab (controlIn (m .nodes) (m .controlStarts) (m .controlStops)) 0 (m .held .controls))
     (length-tab (dataIn (m .tasks) (m .deadlines) (m .starts) (m .stops)) 0 (m .held .rows))
@@ -111,9 +113,14 @@ module _ (s : SoFar) where
         getD-laid stopOf (s .rows) noData mostFrames k refl (omega arith),
       ))
 
+  -- either head is written alike
+  table-in : tableIn (headKind (s .consumers)) (s .period) (s .control) (s .rows) (length (s .control)) (length (s .rows)) ≡ tableRead s
+  unfolding tableIn tableRead tableOfRows
+  table-in = rw (head-in (head-of (s .consumers)) (s .period) (length (s .control)) (length (s .rows)))
+
   bytes-read : Few (layOut s .held) → bytesIn (layOut s) ≡ tableRead s
-  unfolding bytesIn tableRead tableIn tableOfRows layOut
-  bytes-read h = rw (control-again (h .controls), rows-again (h .rows))
+  unfolding bytesIn layOut
+  bytes-read h = rw (control-again (h .controls), rows-again (h .rows)) table-in
 
 module _ (m : Laid) (text : List ℕ) {r : Reading} (g : GatheredIn r m (readSheet text)) where
   module _ (e : r ≡ reading.Sheet (m .held)) where
@@ -148,13 +155,13 @@ module _ (m : Laid) (text : List ℕ) {r : Reading} (g : GatheredIn r m (readShe
 -- ---- no table that is read is longer than the longest
 
 pub read-short : (text bytes : List ℕ) → readBack text ≡ table bytes → length bytes ≤ longestTable
-unfolding readBack tableRead tableOfRows tableIn
+unfolding readBack
 read-short text bytes e = go (readSheet text) refl e
   where
     go : (b : back.Back) → readSheet text ≡ b → tableFrom b ≡ table bytes → length bytes ≤ longestTable
     go (back.sheet s) read q =
         let fits = read-fits text s read in
-        let same : tableIn (s .period) (s .control) (s .rows) (length (s .control)) (length (s .rows)) ≡ bytes = cc in
-        let long = table-long (s .period) (s .control) (s .rows) (length (s .control)) (length (s .rows)) refl refl in
-        rw (← same, long) (length-most (length (s .control)) (length (s .rows)) (fits .controls) (fits .datas))
+        let same : tableRead s ≡ bytes = cc in
+        let long = table-long (headKind (s .consumers)) (s .period) (s .control) (s .rows) (length (s .control)) (length (s .rows)) refl refl in
+        rw (← same, ← table-in s, long) (length-most (length (s .control)) (length (s .rows)) (fits .controls) (fits .datas))
     go (back.unreadable n) read q = let z : _≡_ {A = ℕ} 0 1 = cc in absurd (omega arith)

@@ -38,7 +38,7 @@ pub record Gathering (text : List ℕ) (at line : ℕ) (m : Laid) : Type 0 where
 pub gathering-none : {text nodes controlStarts controlStops tasks deadlines starts stops : List ℕ}
     → nodes ≡ replicate mostNodes 0 → controlStarts ≡ replicate mostNodes 0 → controlStops ≡ replicate mostNodes 0
     → tasks ≡ replicate mostFrames 0 → deadlines ≡ replicate mostFrames 0 → starts ≡ replicate mostFrames 0 → stops ≡ replicate mostFrames 0
-    → Gathering text 0 0 (laid (record { stage = 0; period = record { 0 = 0 }; controls = 0; rows = 0 }) nodes controlStarts controlStops tasks deadlines starts stops)
+    → Gathering text 0 0 (laid (record { stage = 0; consumers = false; period = record { 0 = 0 }; controls = 0; rows = 0 }) nodes controlStarts controlStops tasks deadlines starts stops)
 unfolding readSheet layOut
 gathering-none e1 e2 e3 e4 e5 e6 e7 =
     record {

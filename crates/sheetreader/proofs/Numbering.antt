@@ -21,7 +21,7 @@ use Rattle.sheet.specs.declared.Kind.{Kind}
 use Rattle.sheet.specs.declared.Form.{Form}
 use Rattle.sheet.specs.declared.Form.the-variants as form
 use Rattle.sheet.specs.Sheet.{dash}
-use Rattle.sheet.specs.Back.{formsOf, numberFirst, numberIn, numbersIn}
+use Rattle.sheet.specs.Back.{formsOf, numberFirst, numberIn, numberMissing, numbersIn}
 use Rattle.sheetreader.specs.declared.Taken.{Taken}
 use Rattle.sheetreader.specs.declared.Taken.the-variants.{Number, Wrong}
 use Rattle.sheetreader.specs.declared.Numbers.{Numbers}
@@ -77,8 +77,8 @@ one-step s at f fs = go (nextWord s at) (words-from s at)
     taken none to = refl
     taken (some n) to = refl
 
-    go : (w : Word) → WordsFrom s at w → numbersIn (f ∷ fs) (words (drop at s)) ≡ takenThen fs s (takenFrom s f w)
-    go None e = rw e
+    go : (w : Word) → WordsFrom s at w → numbersIn (f ∷ fs) (words (drop at s)) ≡ takenThen fs s (takenFrom s at f w)
+    go None e = let t = taken (numberMissing f) at in rw e (rw e at t)
     go (Stands from to) e = rw (e .0) (taken (numberIn f (take (to - from) (drop from s))) to)
 
 -- numbers in front of others

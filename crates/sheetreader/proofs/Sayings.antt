@@ -61,7 +61,7 @@ module _ (ns : List ℕ) where
 
   said-filled : (k : Kind) → saidOf k (some (padTo 10 0 ns)) ≡ saidOf k (some ns)
   said-filled kind.Refused = refl
-  said-filled kind.Cycle = rw (filled 0 (omega arith))
+  said-filled kind.Cycle = rw (filled 0 (omega arith), filled 1 (omega arith))
   said-filled kind.Control = rw (filled 0 (omega arith), filled 4 (omega arith), filled 5 (omega arith))
   said-filled kind.Data =
       rw (filled 1 (omega arith), filled 3 (omega arith), filled 4 (omega arith), filled 5 (omega arith))
@@ -102,11 +102,13 @@ module _ (k : Kind) (ws : List (List ℕ)) {r : Numbers} (read : r ≡ numbersLa
 abbrev pub more : Said → SoFar → SoFar
 more Unreadable s = s
 more Blank s = s
-more Refusal s = record { stage = 1; period = s .period; control = s .control; rows = s .rows }
-more (Cycle ticks) s = record { stage = 2; period = ticks .0; control = s .control; rows = s .rows }
+more Refusal s = record { stage = 1; consumers = s .consumers; period = s .period; control = s .control; rows = s .rows }
+more (Cycle consumers period) s =
+    record { stage = 2; consumers = consumers; period = period .0; control = s .control; rows = s .rows }
 more (Control node start stop) s =
     record {
       stage = s .stage;
+      consumers = s .consumers;
       period = s .period;
       control = s .control ++ (record { node = node .0; start = start .0; stop = stop .0 } ∷ []);
       rows = s .rows;
@@ -114,6 +116,7 @@ more (Control node start stop) s =
 more (Data task deadline start stop) s =
     record {
       stage = s .stage;
+      consumers = s .consumers;
       period = s .period;
       control = s .control;
       rows = s .rows ++ (record { task = task .0; deadline = deadline .0; start = start .0; stop = stop .0 } ∷ []);
@@ -158,7 +161,7 @@ unfolding layOut
 laid-more Unreadable s = refl
 laid-more Blank s = refl
 laid-more Refusal s = refl
-laid-more (Cycle ticks) s = refl
+laid-more (Cycle consumers period) s = refl
 laid-more (Control node start stop) s =
     let r : ControlRow = record { node = node .0; start = start .0; stop = stop .0 } in
     rw (

@@ -3,13 +3,14 @@ use mathlib.Core.Path.{_≡_}
 use mathlib.Core.Bool.{Bool, true, false, cond}
 use mathlib.Core.List.{List, [], _∷_, map}
 use mathlib.Core.Option.{Option, none, some}
-use lib.Dec.{leb}
+use lib.Dec.{eqb, leb}
 use lib.ListN.{length, take, drop, replicate}
 use lib.Seq.{sets}
 use Prim.Native.Nat.{ℕ, _+_, _-_, _≤_}
 use Rattle.laws.specs.Lists.{tab}
 use Rattle.laws.specs.Loops.{padTo, placed}
 use Rattle.rules.specs.Limits.{mostNodes, mostFrames}
+use Rattle.rules.specs.Records.{headKind}
 use Rattle.rules.specs.Plan.{nth}
 use Rattle.rules.specs.Table.{DataRow}
 use Rattle.table.specs.Memory.{controlNodeOf, controlStartOf, controlStopOf}
@@ -27,7 +28,7 @@ use Rattle.sheet.specs.declared.Kind.the-variants as kind
 use Rattle.sheet.specs.declared.Form.{Form}
 use Rattle.sheet.specs.declared.Form.the-variants as form
 use Rattle.sheet.specs.Back as back
-use Rattle.sheet.specs.Back.{SoFar, TableBack, formsOf, kindOf, mayStand, most8, most32, numberIn, numbersIn, table, unreadableLine}
+use Rattle.sheet.specs.Back.{SoFar, TableBack, formsOf, kindOf, mayStand, most8, most32, numberIn, numberMissing, numbersIn, table, unreadableLine}
 use Rattle.sheetreader.specs.declared.Taken.{Taken}
 use Rattle.sheetreader.specs.declared.Taken.the-variants.{Number, Wrong}
 use Rattle.sheetreader.specs.declared.Numbers.{Numbers}
@@ -50,18 +51,18 @@ asOption (whole.Value n) = some n
 abbrev pub formsLaid : Kind → List Form
 formsLaid kind = padTo 10 form.End (formsOf kind)
 
--- the number that a word says, and the place behind it
+-- the number that a word says, and the place behind it; of a word that is missing the place stays
 abbrev pub takenWith : Option ℕ → ℕ → Taken
 takenWith none next = Wrong
 takenWith (some n) next = Number n next
 
-abbrev pub takenFrom : List ℕ → Form → Word → Taken
-takenFrom s form word.None = Wrong
-takenFrom s form (word.Stands from to) = takenWith (numberIn form (take (to - from) (drop from s))) to
+abbrev pub takenFrom : List ℕ → ℕ → Form → Word → Taken
+takenFrom s at form word.None = takenWith (numberMissing form) at
+takenFrom s at form (word.Stands from to) = takenWith (numberIn form (take (to - from) (drop from s))) to
 
 -- what the first word from a place on says, if it has the form
 unfoldable pub takenAt : List ℕ → ℕ → Form → Taken
-takenAt s at form = takenFrom s form (nextWord s at)
+takenAt s at form = takenFrom s at form (nextWord s at)
 
 -- numbers filled up with zeros; none where the words have not their forms
 abbrev pub numbersLaid : Option (List ℕ) → Numbers
@@ -87,7 +88,7 @@ Narrow kind.Other ns = Unit
 abbrev pub saidOf : Kind → Option (List ℕ) → Said
 saidOf k none = Unreadable
 saidOf kind.Refused (some ns) = Refusal
-saidOf kind.Cycle (some ns) = Cycle (record { 0 = nth ns 0 })
+saidOf kind.Cycle (some ns) = Cycle (eqb (nth ns 1) 1) (record { 0 = nth ns 0 })
 saidOf kind.Control (some ns) = Control (record { 0 = nth ns 0 }) (record { 0 = nth ns 4 }) (record { 0 = nth ns 5 })
 saidOf kind.Data (some ns) =
     Data (record { 0 = nth ns 1 }) (record { 0 = nth ns 3 }) (record { 0 = nth ns 4 }) (record { 0 = nth ns 5 })
@@ -106,7 +107,7 @@ abbrev pub isUnreadable : Said → Bool
 isUnreadable Unreadable = true
 isUnreadable Blank = false
 isUnreadable Refusal = false
-isUnreadable (Cycle ticks) = false
+isUnreadable (Cycle consumers period) = false
 isUnreadable (Control node start stop) = false
 isUnreadable (Data task deadline start stop) = false
 
@@ -158,7 +159,14 @@ stopOf r = r .stop
 unfoldable pub layOut : SoFar → Laid
 layOut s =
     record {
-      held = record { stage = s .stage; period = record { 0 = s .period }; controls = length (s .control); rows = length (s .rows) };
+      held =
+          record {
+            stage = s .stage;
+            consumers = s .consumers;
+            period = record { 0 = s .period };
+            controls = length (s .control);
+            rows = length (s .rows);
+          };
       nodes = padTo mostNodes 0 (map controlNodeOf (s .control));
       controlStarts = padTo mostNodes 0 (map controlStartOf (s .control));
       controlStops = padTo mostNodes 0 (map controlStopOf (s .control));
@@ -169,11 +177,13 @@ layOut s =
     }
 
 -- what is held with a line more
-abbrev pub withStage : Held → ℕ → Ticks → Held
-withStage h stage period = record { stage = stage; period = period; controls = h .controls; rows = h .rows }
+abbrev pub withStage : Held → ℕ → Bool → Ticks → Held
+withStage h stage consumers period =
+    record { stage = stage; consumers = consumers; period = period; controls = h .controls; rows = h .rows }
 
 abbrev pub withCounts : Held → ℕ → ℕ → Held
-withCounts h controls rows = record { stage = h .stage; period = h .period; controls = controls; rows = rows }
+withCounts h controls rows =
+    record { stage = h .stage; consumers = h .consumers; period = h .period; controls = controls; rows = rows }
 
 abbrev pub withHeld : Laid → Held → Laid
 withHeld m held =
@@ -197,8 +207,8 @@ withData m task deadline start stop =
 abbrev pub withSaid : Said → Laid → Laid
 withSaid Unreadable m = m
 withSaid Blank m = m
-withSaid Refusal m = withHeld m (withStage (m .held) 1 (m .held .period))
-withSaid (Cycle ticks) m = withHeld m (withStage (m .held) 2 ticks)
+withSaid Refusal m = withHeld m (withStage (m .held) 1 (m .held .consumers) (m .held .period))
+withSaid (Cycle consumers period) m = withHeld m (withStage (m .held) 2 consumers period)
 withSaid (Control node start stop) m = withControl m node start stop
 withSaid (Data task deadline start stop) m = withData m task deadline start stop
 
@@ -211,7 +221,7 @@ Gathered r nodes controlStarts controlStops tasks deadlines starts stops (back.u
 -- the bytes of the table that is held
 unfoldable pub bytesIn : Laid → List ℕ
 bytesIn m =
-    tableIn (m .held .period .0) (tab (controlIn (m .nodes) (m .controlStarts) (m .controlStops)) 0 (m .held .controls))
+    tableIn (headKind (m .held .consumers)) (m .held .period .0) (tab (controlIn (m .nodes) (m .controlStarts) (m .controlStops)) 0 (m .held .controls))
     (tab (dataIn (m .tasks) (m .deadlines) (m .starts) (m .stops)) 0 (m .held .rows)) (m .held .controls) (m .held .rows)
 
 -- What reading a text back gives, and what it leaves in the bytes that are lent: the table stands there only if all of it does.

@@ -9,9 +9,10 @@ ghost use Rattle.rules.specs.Limits.{mostNodes, mostFrames};
 ghost use Rattle.text.specs.Lines.{isWord, startsWith, wholeNumber, words};
 ghost use Rattle.sheet.specs.Sheet.{dash};
 ghost use Rattle.sheet.specs.Back as back;
-ghost use Rattle.sheet.specs.Back.{formsOf, kindOf, mayStand, numberIn, numbersIn, readBack, readSheet, upToMost};
-ghost use Rattle.sheetreader.specs.Memory.{Few, Gathered, Narrow, asOption, backFor, bytesIn, endedWith, formsLaid, isUnreadable, laid, leftBy, lineSaid, numbersLaid, saidOf, takenAt, withSaid, wordsSaid};
+ghost use Rattle.sheet.specs.Back.{formsOf, kindOf, mayStand, numberIn, numberMissing, numbersIn, readBack, readSheet, upToMost};
+ghost use Rattle.sheetreader.specs.Memory.{Few, Gathered, Narrow, asOption, backFor, bytesIn, endedWith, formsLaid, isUnreadable, laid, leftBy, lineSaid, numbersLaid, saidOf, takenAt, takenWith, withSaid, wordsSaid};
 use figures::both;
+use records::kinds::head_kind;
 use sheet::Form;
 use sheet::Kind;
 use table::write::table_length;
@@ -37,6 +38,8 @@ const WORDS: usize = 10;
 // The places of the numbers that are taken: of a cycle's line, and of a row's.
 const PERIOD: usize = 0;
 
+const EDITION: usize = 1;
+
 const NODE: usize = 0;
 
 const TASK: usize = 1;
@@ -54,9 +57,10 @@ const MOST_32: u64 = 4294967295;
 const MOST_64: u64 = 18446744073709551615;
 
 // What was read so far, but for the numbers of the rows, which stand in arrays: how far the sheet has come (0: nothing; 1: a refusal; 2: the
-// cycle), the cycle, and how many rows there are.
+// cycle), the edition, the cycle, and how many rows there are.
 struct Held {
     stage: u8,
+    consumers: bool,
     period: Ticks,
     controls: usize,
     rows: usize,
@@ -94,34 +98,47 @@ fn forms_of(kind: Kind) -> [Form; WORDS]
     let sign = Form::Signed;
     let dash = Form::Dash;
     let word = Form::At;
+    let edition = Form::Consumers;
     let none = Form::End;
     match kind {
         Kind::Refused => [told, word, told, none, none, none, none, none, none, none],
-        Kind::Cycle => [time, none, none, none, none, none, none, none, none, none],
+        Kind::Cycle => [
+            time,
+            edition,
+            none,
+            none,
+            none,
+            none,
+            none,
+            none,
+            none,
+            none,
+        ],
         Kind::Control => [node, dash, dash, dash, time, time, told, told, dash, dash],
         Kind::Data => [told, task, told, time, time, time, told, told, sign, sign],
         Kind::Other => [none; WORDS],
     }
 }
 
-// How many words a line of a kind has behind its first.
+// How many words a line of a kind has behind its first, at most.
 fn form_count(kind: Kind) -> usize
     ensures { λ r. ⌜ (r ≡ length (formsOf kind)) × (r ≤ 10) ⌝ }
 {
     match kind {
         Kind::Refused => 3,
-        Kind::Cycle => 1,
+        Kind::Cycle => 2,
         Kind::Control => 10,
         Kind::Data => 10,
         Kind::Other => 0,
     }
 }
 
-fn literal(word: &[u8], wanted: &[u8]) -> Whole
-    ensures { λ r. ⌜ asOption r ≡ cond (isWord (now (wanted .entry)) (now (word .entry))) (some 0) none ⌝ }
+// What a word counts as, if it is the one that is wanted.
+fn literal(word: &[u8], wanted: &[u8], counts: u64) -> Whole
+    ensures { λ r. ⌜ asOption r ≡ cond (isWord (now (wanted .entry)) (now (word .entry))) (some counts) none ⌝ }
 {
     if is_word(word, wanted) {
-        Whole::Value(0)
+        Whole::Value(counts)
     } else {
         Whole::None
     }
@@ -152,15 +169,16 @@ fn unsigned(word: &[u8]) -> Whole
     }
 }
 
-// The number that a word says, if it has the form; 0 where the form says none.
+// The number that a word says, if it has the form; where the form says none, 0, and 1 for the word of the edition.
 fn number_in(form: Form, word: &[u8]) -> Whole
     ensures { λ r. ⌜ asOption r ≡ numberIn form (now (word .entry)) ⌝ }
 {
     match form {
-        Form::Dash => literal(word, b"-"),
-        Form::At => literal(word, b"at"),
+        Form::Dash => literal(word, b"-", 0),
+        Form::At => literal(word, b"at", 0),
         Form::Most(most) => up_to(most, whole_number(word)),
         Form::Signed => up_to(MOST_64, unsigned(word)),
+        Form::Consumers => literal(word, b"consumers", 1),
         Form::End => Whole::None,
     }
 }
@@ -173,11 +191,25 @@ enum Taken {
     Wrong,
 }
 
+// Where no word is left: only that of the edition may be missing.
+fn missing(form: Form, at: usize) -> Taken
+    ensures { λ r. ⌜ r ≡ takenWith (numberMissing form) at ⌝ }
+{
+    match form {
+        Form::Dash => Taken::Wrong,
+        Form::At => Taken::Wrong,
+        Form::Most(_) => Taken::Wrong,
+        Form::Signed => Taken::Wrong,
+        Form::Consumers => Taken::Number { value: 0, next: at },
+        Form::End => Taken::Wrong,
+    }
+}
+
 fn number_at(s: &[u8], at: usize, form: Form) -> Taken
     ensures { λ r. ⌜ r ≡ takenAt (now (s .entry)) at form ⌝ }
 {
     match next_word(s, at) {
-        Word::None => Taken::Wrong,
+        Word::None => missing(form, at),
         Word::Stands { from, to } => match number_in(form, &s[from..to]) {
             Whole::None => Taken::Wrong,
             Whole::Value(value) => Taken::Number { value, next: to },
@@ -255,7 +287,10 @@ enum Said {
     Unreadable,
     Blank,
     Refusal,
-    Cycle(Ticks),
+    Cycle {
+        consumers: bool,
+        period: Ticks,
+    },
     Control {
         node: NodeNo,
         start: Ticks,
@@ -276,7 +311,10 @@ fn is_unreadable(said: Said) -> bool
         Said::Unreadable => true,
         Said::Blank => false,
         Said::Refusal => false,
-        Said::Cycle(_) => false,
+        Said::Cycle {
+            consumers: _,
+            period: _,
+        } => false,
         Said::Control {
             node: _,
             start: _,
@@ -298,7 +336,10 @@ fn said_by(kind: Kind, values: [u64; WORDS]) -> Said
 {
     match kind {
         Kind::Refused => Said::Refusal,
-        Kind::Cycle => Said::Cycle(Ticks(values[PERIOD] as u32)),
+        Kind::Cycle => Said::Cycle {
+            consumers: values[EDITION] == 1,
+            period: Ticks(values[PERIOD] as u32),
+        },
         Kind::Control => Said::Control {
             node: NodeNo(values[NODE] as u8),
             start: Ticks(values[START] as u32),
@@ -417,9 +458,10 @@ fn take(
         Said::Refusal => {
             held.stage = 1;
         }
-        Said::Cycle(ticks) => {
+        Said::Cycle { consumers, period } => {
             held.stage = 2;
-            held.period = ticks;
+            held.consumers = consumers;
+            held.period = period;
         }
         Said::Control { node, start, stop } => {
             take_control(
@@ -484,6 +526,7 @@ fn gather(
 {
     let mut held = Held {
         stage: 0,
+        consumers: false,
         period: Ticks(0),
         controls: 0,
         rows: 0,
@@ -547,6 +590,7 @@ fn written<'a>(
     }
     write_table(
         table,
+        head_kind(held.consumers),
         held.period,
         control_nodes,
         control_starts,

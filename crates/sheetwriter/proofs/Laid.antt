@@ -17,10 +17,10 @@ use Rattle.laws.proofs.Lists.{joined-append, joined-snoc, map-append, tab-more}
 use Rattle.laws.proofs.Loops.{stores-at}
 use Rattle.rules.specs.Limits.{mostNodes, mostFrames}
 use Rattle.rules.specs.Records.{Rec, records, tableFollows}
-use Rattle.rules.specs.Plan.{Plan, readPlan, theTask}
-use Rattle.rules.specs.Traffic.{basic}
+use Rattle.rules.specs.Plan.{Plan, theTask}
+use Rattle.rules.specs.Traffic.{readIn, traffic}
 use Rattle.rules.specs.Frames.{Pair, layout, layoutOf, noControlRow, onBus, pairs, payload}
-use Rattle.rules.specs.Checker.{Passed, TableRead, controlAt, firstRow, isPairOf, namedIn, noRow, rowAt, shaped, tableOf}
+use Rattle.rules.specs.Checker.{Passed, TableRead, controlAt, firstRow, isForConsumers, isPairOf, namedIn, noRow, rowAt, shaped, tableOf}
 use Rattle.rules.proofs.Located.{LocatedAs, plan-kept, few-control, few-rows, holds-one, opens-named, opens-pair}
 use Rattle.rules.proofs.Payload.{payload-one}
 use Rattle.laws.proofs.Tests.{by-and, by-eq, by-some}
@@ -60,14 +60,14 @@ texts-joined line (suc n) =
 
 -- the lines of a sheet, part by part
 sheet-parts : (c : Passed)
-    → ended (cycleLine (c .table .period)) ++ (ended headLine
+    → ended (cycleLine (c .plan .consumers) (c .table .period)) ++ (ended headLine
     ++ (texts (endedBy (controlLine c)) (length (c .table .control)) ++ texts (endedBy (dataLine c)) (length (c .table .rows))))
     ≡ sheetOf c
 unfolding sheetOf sheetLines
 sheet-parts c =
     let controls = tab (controlLine c) 0 (length (c .table .control)) in
     let datas = tab (dataLine c) 0 (length (c .table .rows)) in
-    ap (λ (l : List ℕ). ended (cycleLine (c .table .period)) ++ (ended headLine ++ l))
+    ap (λ (l : List ℕ). ended (cycleLine (c .plan .consumers) (c .table .period)) ++ (ended headLine ++ l))
     (ap₂ _++_ (texts-joined (controlLine c) (length (c .table .control))) (texts-joined (dataLine c) (length (c .table .rows)))
     ∙ sym (joined-append (map ended controls) (map ended datas)) ∙ ap joined (sym (map-append ended controls datas)))
 
@@ -78,20 +78,20 @@ abbrev pub numbersOf : Plan → TableRead → List ℕ
 numbersOf p t =
     stores (replicate mostFrames 0) (numberAt (lineOf p .tasks) (lineOf p .deadlines) (lineOf p .frames) (layOut t .tasks) (layOut t .deadlines)) (min (length (t .rows)) mostFrames)
 
--- a plan that was read and laid out, and a table of the right shape
-module _ (file table : List ℕ) (p : Plan) (isRead : readPlan file ≡ ok p) (isLaid : layout p ≡ ok (layoutOf p)) (rs : List Rec)
+-- a plan that was read in a table's edition and laid out, and a table of the right shape
+module _ (file table : List ℕ) (p : Plan) (isRead : readIn (isForConsumers table) file ≡ ok p) (isLaid : layout p ≡ ok (layoutOf p)) (rs : List Rec)
     (areRows : records tableFollows 20 table ≡ ok rs) (shape : shaped (layoutOf p) (tableOf rs) ≡ ok tt) where
   abbrev t : TableRead
   t = tableOf rs
 
   abbrev c : Passed
-  c = record { plan = p; traffic = basic p; layout = layoutOf p; table = t }
+  c = record { plan = p; traffic = traffic p; layout = layoutOf p; table = t }
 
   here : LocatedAs file table c
   here = record { isRead = isRead; isLaid = isLaid; traffic = refl; rs = rs; areRecords = areRows; isTable = refl; isShaped = shape }
 
   isDrawn : Drawn p
-  isDrawn = drawn file p (layoutOf p) isRead isLaid
+  isDrawn = drawn (isForConsumers table) file p (layoutOf p) isRead isLaid
 
   control-same : (k : ℕ) → k < length (t .control)
       → controlTextIn p (layOut t .«control_nodes») (layOut t .«control_starts») (layOut t .«control_stops») k ≡ endedBy (controlLine c) k
@@ -172,7 +172,7 @@ module _ (file table : List ℕ) (p : Plan) (isRead : readPlan file ≡ ok p) (i
     sent-is =
         let n = rowAt t k .opens in
         let f = namedIn (layoutOf p .pairs) n in
-        ap (λ (fs : List Pair). onBus (p .bus) (payload p (basic p .messages) fs)) (ap (map (namedIn (layoutOf p .pairs))) (holds-one here k w))
+        ap (λ (fs : List Pair). onBus (p .bus) (payload p (traffic p .messages) fs)) (ap (map (namedIn (layoutOf p .pairs))) (holds-one here k w))
         ∙ ap (onBus (p .bus)) (payload-one p (plan-kept here) f (opens-pair here k w))
         ∙ ap (λ (task : ℕ). onBus (p .bus) (theTask p task .size)) (sym (opens-named here k w .task))
 
@@ -192,7 +192,7 @@ module _ (file table : List ℕ) (p : Plan) (isRead : readPlan file ≡ ok p) (i
   sheet-laid =
       let controls : min (length (t .control)) mostNodes ≡ length (t .control) = omega (arith, few-control here) in
       let rows : min (length (t .rows)) mostFrames ≡ length (t .rows) = omega (arith, few-rows here) in
-      ap₂ (λ (m n : List ℕ). ended (cycleLine (t .period)) ++ (ended headLine ++ (m ++ n)))
+      ap₂ (λ (m n : List ℕ). ended (cycleLine (p .consumers) (t .period)) ++ (ended headLine ++ (m ++ n)))
       (ap (texts (controlTextIn p (layOut t .«control_nodes») (layOut t .«control_starts») (layOut t .«control_stops»))) controls
       ∙ texts-same _ (endedBy (controlLine c)) (length (t .control)) control-same)
       (ap₂ (λ (first n : ℕ). texts (dataTextIn p (1 + first) (layOut t .tasks) (layOut t .deadlines) (layOut t .starts) (layOut t .stops) (lineOf p .releases) (numbersOf p t)) n) controls rows

@@ -15,9 +15,9 @@ use Rattle.laws.proofs.Res.{refuse≢ok, bind-refused, then-refused}
 use Rattle.rules.specs.Limits.{mostNodes, mostFrames}
 use Rattle.rules.specs.Records.{Rec, records, tableFollows}
 use Rattle.rules.specs.Plan as rules
-use Rattle.rules.specs.Plan.{readPlan}
+use Rattle.rules.specs.Traffic.{readIn}
 use Rattle.rules.specs.Frames.{layout, layoutOf}
-use Rattle.rules.specs.Checker.{checkFiles, judged, located, shaped, tableOf, timed}
+use Rattle.rules.specs.Checker.{checkFiles, isForConsumers, judged, located, shaped, tableOf, timed}
 use Rattle.rules.proofs.RecordsExact.{records-refused}
 use Rattle.rules.proofs.RefusalNumbers.{shaped-gives, timed-gives}
 use Rattle.answers.specs.declared.Refusal.{Refusal}
@@ -28,7 +28,6 @@ use Rattle.answers.specs.declared.Verdict.{Verdict}
 use Rattle.answers.specs.declared.Verdict.the-variants.{Fine, Refused}
 use Rattle.plan.specs.Memory as planned
 use Rattle.plan.specs.Memory.{seen}
-use Rattle.plan.proofs.Laid.{read-seen}
 use Rattle.planrules.specs.declared.Reading as planread
 use Rattle.planrules.specs.Reading.{Reads}
 use Rattle.plan.specs.declared.Plan.{Plan}
@@ -39,7 +38,7 @@ use Rattle.line.proofs.Drawn.{Drawn, drawn}
 use Rattle.naming.specs.Places.{Numbered, numberAt}
 use Rattle.judging.specs.Judged.{Right, framesOn, judgement, lineJudged}
 use Rattle.line.specs.Laying.{Lays, fileLaid, laid}
-use Rattle.line.proofs.Reading.{sound-laid}
+use Rattle.line.proofs.Reading.{read-in-seen, sound-laid}
 use Rattle.table.specs.declared.read.Outcome.the-variants.{Broken, Whole}
 use Rattle.table.specs.Memory as tabled
 use Rattle.table.specs.Memory.{ReadTable, Table, layOut, readingOf}
@@ -60,7 +59,7 @@ use Rattle.sheetwriter.proofs.Laid.{numbersOf, sheet-laid}
 
 pub sheet-put : (p : rules.Plan) (t : Table) (releases frames : List ℕ) (b b₁ b₂ b₃ b₄ : List ℕ) (at k₁ k₂ k₃ k₄ : ℕ) {controls rows : ℕ}
     → controls ≡ min (t .controls) mostNodes → rows ≡ min (t .rows) mostFrames
-    → Put b at (ended (cycleLine (t .header .period .0))) b₁ k₁ → Put b₁ k₁ (ended headLine) b₂ k₂
+    → Put b at (ended (cycleLine (p .consumers) (t .header .period .0))) b₁ k₁ → Put b₁ k₁ (ended headLine) b₂ k₂
     → Put b₂ k₂ (texts (controlTextIn p (t .«control_nodes») (t .«control_starts») (t .«control_stops»)) controls) b₃ k₃
     → Put b₃ k₃ (texts (dataTextIn p (1 + controls) (t .tasks) (t .deadlines) (t .starts) (t .stops) releases frames) rows) b₄ k₄
     → Put b at (sheetIn p t releases frames) b₄ k₄
@@ -68,7 +67,7 @@ unfolding sheetIn
 sheet-put p t releases frames b b₁ b₂ b₃ b₄ at k₁ k₂ k₃ k₄ c r q₁ q₂ q₃ q₄ =
     let controls = texts (controlTextIn p (t .«control_nodes») (t .«control_starts») (t .«control_stops»)) (min (t .controls) mostNodes) in
     let rows = texts (dataTextIn p (1 + min (t .controls) mostNodes) (t .tasks) (t .deadlines) (t .starts) (t .stops) releases frames) (min (t .rows) mostFrames) in
-    let cycle = ended (cycleLine (t .header .period .0)) in
+    let cycle = ended (cycleLine (p .consumers) (t .header .period .0)) in
     both-put b b₁ b₄ cycle (ended headLine ++ (controls ++ rows)) at k₁ k₄ q₁
     (both-put b₁ b₂ b₄ (ended headLine) (controls ++ rows) k₁ k₂ k₄ q₂ (both-put b₂ b₃ b₄ controls rows k₂ k₃ k₄ (rw c at q₃) (rw (c, r) at q₄)))
 
@@ -117,7 +116,7 @@ module _ (old left : List ℕ) (r : Written) where
 module _ (old left : List ℕ) (r : Written) (why : Refusal) (sheet : List ℕ) where
   pub late-printed : {number place again k n : ℕ} (mid : List ℕ) → number ≡ numberOf why → place ≡ placeOf why → number < 18446744073709551616 → place < 18446744073709551616
       → again ≡ numberOf why → 25 ≤ again → (mid ≡ sets old 0 (refusedLine number place)) × (k ≡ length (refusedLine number place)) → Put mid k sheet left n
-      → n ≤ k + 254052 → r ≡ record { answer = Refused why; length = n } → Prints r old left (said why) (printedText (said why) sheet) × (r .length ≤ 262144)
+      → n ≤ k + 254062 → r ≡ record { answer = Refused why; length = n } → Prints r old left (said why) (printedText (said why) sheet) × (r .length ≤ 262144)
   late-printed {number} {place} mid a b h k c w q rest end e =
       let few : length (refusedLine number place) ≤ 53 = refused-line-most number place h k in
       let long = q .1 in
@@ -126,7 +125,7 @@ module _ (old left : List ℕ) (r : Written) (why : Refusal) (sheet : List ℕ) 
 -- ---- by a plan that is laid out
 
 -- what is printed by the judgement of a table is the text that the rules ask for
-module _ (p : rules.Plan) (from : FromFile p) (table : List ℕ) (rs : List Rec) (areRows : records tableFollows 20 table ≡ ok rs) where
+module _ (p : rules.Plan) (table : List ℕ) (from : FromFile (isForConsumers table) p) (rs : List Rec) (areRows : records tableFollows 20 table ≡ ok rs) where
   abbrev sheet : List ℕ
   sheet = sheetIn p (layOut (tableOf rs)) (lineOf p .releases) (numbersOf p (tableOf rs))
 
@@ -166,15 +165,15 @@ module _ (p : rules.Plan) (table : List ℕ) where
       rw is h
 
 -- a plan in memory with its line and its pairs, and what was read of a table file
-module _ (p : Plan) (line : Line) (tasks releases deadlines : List ℕ)
-    (ready : (p ≡ planned.layOut (seen p)) × (drawing line tasks releases deadlines ≡ lineOf (seen p)) × FromFile (seen p)) where
+module _ (p : Plan) (line : Line) (tasks releases deadlines table : List ℕ)
+    (ready : (p ≡ planned.layOut (seen p)) × (drawing line tasks releases deadlines ≡ lineOf (seen p)) × FromFile (isForConsumers table) (seen p)) where
   isDrawn : Drawn (seen p)
-  isDrawn = drawn (ready .2 .file) (seen p) (layoutOf (seen p)) (ready .2 .isRead) (ready .2 .isLaid)
+  isDrawn = drawn (isForConsumers table) (ready .2 .file) (seen p) (layoutOf (seen p)) (ready .2 .isRead) (ready .2 .isLaid)
 
   pub judge-ready : Numbered tasks deadlines (line .frames) × (line .controls ≤ 8)
   judge-ready = drawn-ready (seen p) isDrawn (ready .1)
 
-  module _ (table : List ℕ) (reading : ReadTable) (is : reading ≡ readingOf (records tableFollows 20 table)) (r : Written) (old left : List ℕ) where
+  module _ (reading : ReadTable) (is : reading ≡ readingOf (records tableFollows 20 table)) (r : Written) (old left : List ℕ) where
     -- what is promised
     abbrev Promised : Type 0
     Promised = Prints r old left (verdict (tablePassed (seen p) table)) (textFor (tableLocated (seen p) table)) × (r .length ≤ 262144)
@@ -197,15 +196,15 @@ module _ (p : Plan) (line : Line) (tasks releases deadlines : List ℕ)
         let judged-is : heard v ≡ judged (layoutOf (seen p)) (tableOf rs) = says .verdict (inl refl) in
         let same = ready .1 in
         let printed = rw (e, n, held, ap (λ (d : Drawing). d .tasks) same, ap (λ (d : Drawing). d .deadlines) same, ap (λ (d : Drawing). d .releases) same, ap (λ (d : Drawing). d .frames) same) at (h .0) in
-        (by-rows (seen p) (ready .2) table rs areRows v judged-is printed, h .1)
+        (by-rows (seen p) table (ready .2) rs areRows v judged-is printed, h .1)
 
 -- ---- by a plan file
 
 -- a plan file that 1 to 11 refuse
-located-refused : (plan table : List ℕ) (n at : ℕ) → fileLaid plan ≡ refuse n at → located plan table ≡ refuse n at
+located-refused : (plan table : List ℕ) (n at : ℕ) → fileLaid (isForConsumers table) plan ≡ refuse n at → located plan table ≡ refuse n at
 unfolding located laid fileLaid
 located-refused plan table n at e =
-    bind-refused (readPlan plan) _ e (λ a. rw a)
+    bind-refused (readIn (isForConsumers table) plan) _ e (λ a. rw a)
     (λ q a b. then-refused (layout q) (ok q) b (λ c. rw (a, c)) (λ l c f. refuse≢ok (sym f)))
 
 refused-writes : (plan table : List ℕ) (why : Refusal) → checkFiles plan table ≡ said why → located plan table ≡ said why → {r : Written} {old left : List ℕ}
@@ -213,35 +212,35 @@ refused-writes : (plan table : List ℕ) (why : Refusal) → checkFiles plan tab
 unfolding sheetText
 refused-writes plan table why e q h = rw (e, q) h
 
-module _ (plan table : List ℕ) (reading : planread.Reading) (reads : Reads reading (readPlan plan)) where
+module _ (plan table : List ℕ) (reading : planread.Reading) (reads : Reads reading (readIn (isForConsumers table) plan)) where
   pub way-unread : {r : Written} {old left : List ℕ} (why : Refusal) → reading .answer ≡ Refused why → Prints r old left (said why) (refusedLine (numberOf why) (placeOf why))
       → Writes r old left plan table
   unfolding checkFiles located
   way-unread why q h =
-      let n : readPlan plan ≡ said why = read-refused (numberOf why) (placeOf why) (readPlan plan) (sym (reads .answered) ∙ ap heard q) in
+      let n : readIn (isForConsumers table) plan ≡ said why = read-refused (numberOf why) (placeOf why) (readIn (isForConsumers table) plan) (sym (reads .answered) ∙ ap heard q) in
       refused-writes plan table why (rw n) (rw n) h
 
   module _ (sound : reading .answer ≡ Fine) (x : Laid) {tasks releases deadlines : List ℕ} (lays : Lays x tasks releases deadlines (laid (seen (reading .plan)))) where
-    lays-file : Lays x tasks releases deadlines (fileLaid plan)
-    lays-file = sound-laid plan reading reads x sound lays
+    lays-file : Lays x tasks releases deadlines (fileLaid (isForConsumers table) plan)
+    lays-file = sound-laid (isForConsumers table) plan reading reads x sound lays
 
     pub way-unlaid : {r : Written} {old left : List ℕ} (why : Refusal) → x .answer ≡ Refused why → Prints r old left (said why) (refusedLine (numberOf why) (placeOf why))
         → Writes r old left plan table
     way-unlaid why q h =
-        let n : fileLaid plan ≡ said why = laid-refused (numberOf why) (placeOf why) (fileLaid plan) (sym (lays-file .answered) ∙ ap heard q) in
+        let n : fileLaid (isForConsumers table) plan ≡ said why = laid-refused (numberOf why) (placeOf why) (fileLaid (isForConsumers table) plan) (sym (lays-file .answered) ∙ ap heard q) in
         refused-writes plan table why (plan-refused plan table (numberOf why) (placeOf why) n) (located-refused plan table (numberOf why) (placeOf why) n) h
 
     module _ (fine : x .answer ≡ Fine) where
       -- the plan that was read is the one that is laid out
       read-is : {C : Type 0} → ((q : rules.Plan) → drawing (x .line) tasks releases deadlines ≡ lineOf q → reading .plan ≡ planned.layOut q → seen (reading .plan) ≡ q
-          → readPlan plan ≡ ok q → layout q ≡ ok (layoutOf q) → C) → C
+          → readIn (isForConsumers table) plan ≡ ok q → layout q ≡ ok (layoutOf q) → C) → C
       read-is go =
-          laid-sound (fileLaid plan) x lays-file fine λ q isLaid same.
-          file-laid plan q isLaid λ isRead drawn.
+          laid-sound (fileLaid (isForConsumers table) plan) x lays-file fine λ q isLaid same.
+          file-laid (isForConsumers table) plan q isLaid λ isRead drawn.
           let held : reading .plan ≡ planned.layOut q = rw isRead at (reads .left) in
-          go q same held (rw held (read-seen plan q isRead)) isRead drawn
+          go q same held (rw held (read-in-seen (isForConsumers table) plan q isRead)) isRead drawn
 
-      pub way-ready : (reading .plan ≡ planned.layOut (seen (reading .plan))) × (drawing (x .line) tasks releases deadlines ≡ lineOf (seen (reading .plan))) × FromFile (seen (reading .plan))
+      pub way-ready : (reading .plan ≡ planned.layOut (seen (reading .plan))) × (drawing (x .line) tasks releases deadlines ≡ lineOf (seen (reading .plan))) × FromFile (isForConsumers table) (seen (reading .plan))
       way-ready = read-is λ q same held is isRead drawn. rw is (held, same, record { file = plan; isRead = isRead; isLaid = drawn })
 
       pub way-on : {r : Written} {old left : List ℕ} → Prints r old left (verdict (tablePassed (seen (reading .plan)) table)) (textFor (tableLocated (seen (reading .plan)) table))

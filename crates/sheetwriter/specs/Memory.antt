@@ -38,7 +38,7 @@ dataTextIn p first tasks deadlines starts stops releases frames k =
 -- of the rows as many as have a place
 unfoldable pub sheetIn : Plan → Table → List ℕ → List ℕ → List ℕ
 sheetIn p t releases frames =
-    ended (cycleLine (t .header .period .0))
+    ended (cycleLine (p .consumers) (t .header .period .0))
     ++ (ended headLine
     ++ (texts (controlTextIn p (t .«control_nodes») (t .«control_starts») (t .«control_stops»)) (min (t .controls) mostNodes)
     ++ texts (dataTextIn p (1 + min (t .controls) mostNodes) (t .tasks) (t .deadlines) (t .starts) (t .stops) releases frames) (min (t .rows) mostFrames)))

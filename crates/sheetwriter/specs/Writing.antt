@@ -1,5 +1,6 @@
 -- What is left of a plan file and a table file: the checker's answer, and the text at the front of the lent bytes.
 use mathlib.Core.Path.{_≡_}
+use mathlib.Core.Bool.{Bool}
 use mathlib.Core.List.{List}
 use lib.ListN.{length}
 use lib.Seq.{sets}
@@ -7,7 +8,7 @@ use Prim.Native.Nat.{ℕ}
 use Rattle.laws.specs.Res.{Res, ok, _>>=_, _>>_}
 use Rattle.rules.specs.Records.{records, tableFollows}
 use Rattle.rules.specs.Plan as rules
-use Rattle.rules.specs.Traffic.{basic}
+use Rattle.rules.specs.Traffic.{readIn, traffic}
 use Rattle.rules.specs.Frames.{layout, layoutOf}
 use Rattle.rules.specs.Checker.{Passed, checkFiles, shaped, tableOf}
 use Rattle.answers.specs.Refusals.{heard}
@@ -25,10 +26,10 @@ pub record Prints (r : Written) (old left : List ℕ) (answer : Res (Unit {0})) 
 abbrev pub Writes : Written → List ℕ → List ℕ → List ℕ → List ℕ → Type 0
 Writes r old left plan table = Prints r old left (verdict (checkFiles plan table)) (sheetText plan table)
 
--- a plan that some file holds, and that is laid out
-pub record FromFile (p : rules.Plan) : Type 0 where
+-- a plan that some file holds, in an edition, and that is laid out
+pub record FromFile (consumers : Bool) (p : rules.Plan) : Type 0 where
   pub file : List ℕ
-  pub isRead : rules.readPlan file ≡ ok p
+  pub isRead : readIn consumers file ≡ ok p
   pub isLaid : layout p ≡ ok (layoutOf p)
 
 -- refusals 20 to 24 of a table file by a plan that is laid out
@@ -36,4 +37,4 @@ unfoldable pub tableLocated : rules.Plan → List ℕ → Res Passed
 tableLocated p table = do
   rs ← records tableFollows 20 table
   shaped (layoutOf p) (tableOf rs)
-  ok (record { plan = p; traffic = basic p; layout = layoutOf p; table = tableOf rs })
+  ok (record { plan = p; traffic = traffic p; layout = layoutOf p; table = tableOf rs })

@@ -5,6 +5,7 @@ ghost use lib.ListN.{length};
 ghost use lib.Seq.{sets};
 ghost use Rattle.rules.specs.Limits.{longestSheet, mostNodes, mostFrames};
 ghost use Rattle.rules.specs.Traffic.{controlPayload};
+ghost use Rattle.rules.specs.Checker.{isForConsumers};
 ghost use Rattle.answers.specs.Refusals.{heard, numberOf, placeOf, said};
 ghost use Rattle.plan.specs.Memory.{layOut, seen};
 ghost use Rattle.bus.specs.Senders.{byNumber};
@@ -27,6 +28,7 @@ use figures::wide;
 use judging::judge;
 use line::Line;
 use line::of_plan;
+use line::read_in;
 use naming::numbers;
 use plan::Plan;
 use plan::look::module_at;
@@ -39,6 +41,7 @@ use sheetlines::put_head;
 use sheetlines::put_row;
 use table::Heading;
 use table::read::Outcome;
+use table::read::is_for_consumers;
 use table::read::read_table;
 use text::put_refused;
 use times::on_bus;
@@ -191,14 +194,14 @@ fn put_sheet<'a>(
 ) -> usize
     requires { ⌜ at ≤ 53 ⌝ }
     ensures { λ r. ⌜ (now (buf .exit) ≡ sets (now (buf .entry)) at (sheetIn (seen p) (tableWith heading (now (tasks .entry)) (now (deadlines .entry)) (now (starts .entry)) (now (stops .entry))) (now (releases .entry)) (now (frames .entry)))) × (r ≡ at + length (sheetIn (seen p) (tableWith heading (now (tasks .entry)) (now (deadlines .entry)) (now (starts .entry)) (now (stops .entry))) (now (releases .entry)) (now (frames .entry)))) ⌝ }
-    ensures few { λ r. ⌜ r ≤ at + 254052 ⌝ }
+    ensures few { λ r. ⌜ r ≤ at + 254062 ⌝ }
 {
     let senders = Senders::of(p);
     let payloads = senders.payloads;
     let controls = lower(heading.controls, NodeNo::MOST);
     let rows = lower(heading.rows, Frame::MOST);
     let head = heading.header;
-    let head_at = put_cycle(&mut *buf, at, head.period.0);
+    let head_at = put_cycle(&mut *buf, at, p.consumers, head.period.0);
     let controls_at = put_head(&mut *buf, head_at);
     let rows_at = put_controls(
         &mut *buf,
@@ -310,7 +313,7 @@ fn by_plan<'a>(
     deadlines: &'a [u32; Frame::MOST],
     out: &mut [u8],
 ) -> Written
-    requires { ⌜ (p ≡ layOut (seen p)) × (drawing line (now tasks) (now releases) (now deadlines) ≡ lineOf (seen p)) × FromFile (seen p) ⌝ }
+    requires { ⌜ (p ≡ layOut (seen p)) × (drawing line (now tasks) (now releases) (now deadlines) ≡ lineOf (seen p)) × FromFile (isForConsumers (now table)) (seen p) ⌝ }
     ensures { λ r. ⌜ Prints r (now (out .entry)) (now (out .exit)) (verdict (tablePassed (seen p) (now (table .entry)))) (sheet.textFor (tableLocated (seen p) (now (table .entry)))) ⌝ }
     ensures few { λ r. ⌜ r .length ≤ longestSheet ⌝ }
 {
@@ -368,12 +371,12 @@ fn by_plan<'a>(
     )
 }
 
-// The sheet of two files of any bytes: each is read once. What stands behind the text is as it was.
+// The sheet of two files of any bytes: each is read once, the plan in the table's edition. What stands behind the text is as it was.
 pub fn write(plan: &[u8], table: &[u8], out: &mut [u8]) -> Written
     ensures { λ r. ⌜ Writes r (now (out .entry)) (now (out .exit)) (now (plan .entry)) (now (table .entry)) ⌝ }
     ensures few { λ r. ⌜ r .length ≤ longestSheet ⌝ }
 {
-    let reading = planrules::read(plan);
+    let reading = read_in(plan, is_for_consumers(table));
     let answer = reading.answer;
     if let Verdict::Refused(why) = answer {
         return refused(why, out);

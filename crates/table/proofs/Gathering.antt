@@ -11,10 +11,11 @@ use Rattle.laws.specs.Res.{Res, ok, refuse}
 use Rattle.laws.proofs.Lists.{length-snoc, both-left, both-right}
 use Rattle.laws.proofs.Res.{refuse≢ok, ok-injective}
 use Rattle.rules.specs.Limits.{mostNodes, mostFrames}
-use Rattle.rules.specs.Records.{Rec, fields, bodyLength, decoded, recordOf, tableFollows, before, records}
-use Rattle.rules.specs.Plan.{isKind, things, only}
+use Rattle.rules.specs.Records.{Rec, fields, bodyLength, decoded, recordOf, headKind, isHead, tableFollows, before, records}
+use Rattle.rules.specs.Plan.{isKind, things}
 use Rattle.rules.specs.Frames.{ControlRow}
-use Rattle.rules.specs.Checker.{Row, nameOf, rowOf, TableRead, tableOf, controlRowOf, dataRowOf}
+use Rattle.rules.specs.Checker.{Row, nameOf, rowOf, TableRead, isHeadRecord, headOf, tableOf, controlRowOf, dataRowOf}
+use Rattle.rules.proofs.Heads.{IsHead, basicHead, consumersHead, head-means, head-fields}
 use Rattle.records.specs.Reader.{nextAt}
 use Rattle.records.specs.declared.Sort.the-variants.{Table}
 use Rattle.records.specs.declared.Step.{Step}
@@ -41,10 +42,10 @@ data Rows : List Rec → Type 0 where
   control : (b : List ℕ) {rs : List Rec} → Rows rs → Rows (rec 17 b ∷ rs)
   row : (b : List ℕ) {rs : List Rec} → Rows rs → Rows (rec 18 b ∷ rs)
 
--- the records of a table (rule 2.6): the header, then rows
+-- the records of a table (rule 2.6): a head, then rows
 data Tabled : List Rec → Type 0 where
   nothing : Tabled []
-  headed : (b : List ℕ) {rs : List Rec} → Rows rs → Tabled (rec 16 b ∷ rs)
+  headed : {head : ℕ} → IsHead head → (b : List ℕ) {rs : List Rec} → Rows rs → Tabled (rec head b ∷ rs)
 
 -- a table with rows more, and with the rows of some records more
 abbrev moreOf : TableRead → List ControlRow → List Row → TableRead
@@ -91,12 +92,16 @@ rows-gathered t (row b {rs} h) =
     ap (λ (m : memory.Table). withRecords m rs) (row-more t b) ∙ rows-gathered (moreOf t [] (rowOf (dataRowOf b) ∷ [])) h
     ∙ rw (append-assoc (t .rows) (rowOf (dataRowOf b) ∷ []) (map rowOf (map dataRowOf (things 18 rs))), append-nothing (t .control))
 
+-- the table of a head alone
+abbrev headTable : List ℕ → TableRead
+headTable b = record { period = getD b 0 0; controls = getD b 1 0; datas = getD b 2 0; control = []; rows = [] }
+
 -- Gathered from nothing, the records of a table make that table.
 table-gathered : {rs : List Rec} → Tabled rs → withRecords emptyTable rs ≡ layOut (tableOf rs)
-unfolding emptyTable layOut noTable tableOf only things isKind extended withRecord withHeader tableFrom headerOf
+unfolding emptyTable layOut noTable tableOf headOf isHeadRecord isHead headKind things isKind extended withRecord withHeader tableFrom headerOf
 table-gathered nothing = refl
-table-gathered (headed b {rs} h) =
-    rows-gathered (record { period = getD b 0 0; controls = getD b 1 0; datas = getD b 2 0; control = []; rows = [] }) h
+table-gathered (headed basicHead b {rs} h) = rows-gathered (headTable b) h
+table-gathered (headed consumersHead b {rs} h) = rows-gathered (headTable b) h
 
 -- ---- over a file
 
@@ -106,22 +111,23 @@ before-ok r (ok tail) rs e go = go tail refl (sym (ok-injective e))
 before-ok r (refuse m p) rs e go = refuse≢ok e
 
 module _ (previous kind : ℕ) (e : tableFollows previous kind ≡ true) where
-  header-first : previous ≡ 0 → kind ≡ 16
+  head-first : previous ≡ 0 → IsHead kind
   unfolding tableFollows
-  header-first h = eqb-true kind 16 (rw h at e)
+  head-first h = head-means kind .says (rw h at e)
 
-  -- behind the header only rows stand
+  -- behind the head only rows stand
   row-kind : (previous ≡ 0 → ⊥) → eqb kind 0 ≡ false → (17 ≤ kind) × (kind ≤ 18)
   unfolding tableFollows
   row-kind f z =
-      let all : (eqb kind 0 || (leb 17 kind && (leb previous kind && leb kind 18))) ≡ true = rw (ne-eqb previous 0 f) at e in
-      let both : (leb 17 kind && (leb previous kind && leb kind 18)) ≡ true = rw z at all in (
-        leb-true 17 kind (both-left (leb 17 kind) (leb previous kind && leb kind 18) both),
-        leb-true kind 18 (both-right (leb previous kind) (leb kind 18) (both-right (leb 17 kind) (leb previous kind && leb kind 18) both)),
+      let goesOn = isHead previous || leb previous kind in
+      let all : (eqb kind 0 || (leb 17 kind && (goesOn && leb kind 18))) ≡ true = rw (ne-eqb previous 0 f) at e in
+      let both : (leb 17 kind && (goesOn && leb kind 18)) ≡ true = rw z at all in (
+        leb-true 17 kind (both-left (leb 17 kind) (goesOn && leb kind 18) both),
+        leb-true kind 18 (both-right goesOn (leb kind 18) (both-right (leb 17 kind) (goesOn && leb kind 18) both)),
       )
 
-  rows-behind : {rs : List Rec} (b : List ℕ) → 16 ≤ previous → eqb kind 0 ≡ false → Rows rs → Rows (rec kind b ∷ rs)
-  rows-behind {rs} b h z more = here (row-kind (λ q. omega arith) z) (eqb kind 17) refl
+  rows-behind : {rs : List Rec} (b : List ℕ) → (previous ≡ 0 → ⊥) → eqb kind 0 ≡ false → Rows rs → Rows (rec kind b ∷ rs)
+  rows-behind {rs} b h z more = here (row-kind h z) (eqb kind 17) refl
     where
       here : (17 ≤ kind) × (kind ≤ 18) → (c : Bool) → eqb kind 17 ≡ c → Rows (rec kind b ∷ rs)
       here k true q = subst (λ (k : ℕ). Rows (rec k b ∷ rs)) (sym (eqb-true kind 17 q)) (control b more)
@@ -129,12 +135,12 @@ module _ (previous kind : ℕ) (e : tableFollows previous kind ≡ true) where
           let s : 18 ≡ kind = omega (arith, eqb-false kind 17 q) in
           subst (λ (k : ℕ). Rows (rec k b ∷ rs)) s (row b more)
 
-  -- what is no row is the header
-  header-else : eqb kind 0 ≡ false → (kind ≡ 18 → ⊥) → (kind ≡ 17 → ⊥) → kind ≡ 16
-  header-else z n m = here (eqb previous 0) refl
+  -- what is no row is the head
+  head-else : eqb kind 0 ≡ false → (kind ≡ 18 → ⊥) → (kind ≡ 17 → ⊥) → IsHead kind
+  head-else z n m = here (eqb previous 0) refl
     where
-      here : (b : Bool) → eqb previous 0 ≡ b → kind ≡ 16
-      here true q = header-first (eqb-true previous 0 q)
+      here : (b : Bool) → eqb previous 0 ≡ b → IsHead kind
+      here true q = head-first (eqb-true previous 0 q)
       here false q = absurd (let k = row-kind (eqb-false previous 0 q) z in omega (arith, k .0, k .1, n, m))
 
 module _ (s : List ℕ) where
@@ -149,7 +155,7 @@ module _ (s : List ℕ) where
   by-step previous at rs P end here End q e = subst P (ok-injective e) end
   by-step previous at rs P end here (Wrong place) q e = refuse≢ok e
 
-  rows-from : (n previous at : ℕ) (rs : List Rec) → length s ≤ n + at → 16 ≤ previous → at ≤ length s
+  rows-from : (n previous at : ℕ) (rs : List Rec) → length s ≤ n + at → (previous ≡ 0 → ⊥) → at ≤ length s
       → from Table 20 s previous at ≡ ok rs → Rows rs
   unfolding recordOf
   rows-from zero previous at rs m h w e =
@@ -159,18 +165,17 @@ module _ (s : List ℕ) where
       by-step previous at rs Rows none
       (λ kind body next tail f r.
       rows-behind previous kind (f .in-order) (decoded (fields kind) (drop body s)) h (f .no-end)
-      (rows-from n kind next tail (omega (arith, f .further)) (let k = row-kind previous kind (f .in-order) (λ q. omega arith) (f .no-end) in omega (arith, k .0)) (f .fits) r))
+      (rows-from n kind next tail (omega (arith, f .further)) (eqb-false kind 0 (f .no-end)) (f .fits) r))
       (nextAt Table s previous at) refl (sym (one-step Table 20 s previous at w) ∙ e)
 
-  -- The records of a table: the header, then rows.
+  -- The records of a table: a head, then rows.
   file-tabled : (rs : List Rec) → records tableFollows 20 s ≡ ok rs → Tabled rs
   unfolding recordOf records from
   file-tabled rs e =
       by-step 0 0 rs Tabled nothing
       (λ kind body next tail f r.
-      let k : kind ≡ 16 = header-first 0 kind (f .in-order) refl in
-      subst (λ (j : ℕ). Tabled (rec j (decoded (fields j) (drop body s)) ∷ tail)) (sym k)
-      (headed (decoded (fields 16) (drop body s)) (rows-from (length s) kind next tail (omega arith) (omega arith) (f .fits) r)))
+      headed (head-first 0 kind (f .in-order) refl) (decoded (fields kind) (drop body s))
+      (rows-from (length s) kind next tail (omega arith) (eqb-false kind 0 (f .no-end)) (f .fits) r))
       (nextAt Table s 0 0) refl (sym (one-step Table 20 s 0 0 (omega arith)) ∙ e)
 
   -- What is gathered of a file is what reading it comes to.
@@ -242,8 +247,14 @@ module _ {s : List ℕ} {whole : ReadTable} {previous at : ℕ} {head : Header} 
     pub control-fits : kind ≡ 17 → body + bodyLength 17 ≤ length s
     control-fits = body-fits
 
+    its-head : (kind ≡ 18 → ⊥) → (kind ≡ 17 → ⊥) → IsHead kind
+    its-head f m = head-else previous kind (facts .in-order) (facts .no-end) f m
+
     pub header-fits : (kind ≡ 18 → ⊥) → (kind ≡ 17 → ⊥) → body + bodyLength 16 ≤ length s
-    header-fits f m = body-fits (header-else previous kind (facts .in-order) (facts .no-end) f m)
+    unfolding bodyLength
+    header-fits f m =
+        let same = head-fields (its-head f m) in
+        rw (head-fields basicHead) (rw same at (body-fits refl))
 
     turned : {m : memory.Table} → withRecord held (recordOf kind (drop body s)) ≡ m → whole ≡ gatheredFrom m (from Table 20 s kind next)
     turned q =
@@ -281,11 +292,11 @@ module _ {s : List ℕ} {whole : ReadTable} {previous at : ℕ} {head : Header} 
         → SoFar s whole kind next head′ controls rows controlNodes controlStarts controlStops tasks deadlines starts stops
     unfolding withRecord withHeader tableFrom headerRead recordOf
     header-turn n m e =
-        let k : kind ≡ 16 = header-else previous kind (facts .in-order) (facts .no-end) n m in
+        let its : fields kind ≡ fields 16 = head-fields (its-head n m) ∙ sym (head-fields basicHead) in
         record {
           inside = facts .fits;
           counted = omega (arith, h .counted, facts .further);
-          gathered = turned (rw (k, sym e));
+          gathered = turned (rw (ne-eqb kind 18 n, ne-eqb kind 17 m, its, sym e));
         }
 
 -- ---- the end of reading

@@ -1,11 +1,11 @@
 -- Stores one behind the other are the store of what they make together: numbers a record, rows of one length, a table.
 use mathlib.Core.Path.{_≡_, refl, sym, ap, _∙_}
 use mathlib.Core.List.{List, [], _∷_, _++_, map, append-assoc}
-use native.Mathlib.Nat.{zero-add}
+use native.Mathlib.Nat.{zero-add, mod-eq-of-lt}
 use native.Mathlib.Omega.{arith}
 use lib.ListN.{length, length-append}
 use lib.Seq.{sets}
-use Prim.Native.Nat.{ℕ, _+_, _*_}
+use Prim.Native.Nat.{ℕ, _+_, _*_, _<_}
 use Rattle.laws.specs.Lists.{tab, joined}
 use Rattle.laws.specs.Numbers.{bytes}
 use Rattle.laws.proofs.Laid.{sets-append}
@@ -14,8 +14,9 @@ use Rattle.laws.proofs.Little.{length-bytes}
 use Rattle.rules.specs.Records.{Field, width, kinds, fields, bodyLength}
 use Rattle.rules.specs.Table.{DataRow, encoded, recordBytes, headerBytes, controlBytes, dataBytes, recordLength}
 use Rattle.rules.specs.Frames.{ControlRow}
-use Rattle.rules.proofs.TableLength.{length-rows, length-controls, length-datas, length-header}
-use Rattle.table.specs.Rows.{tableIn}
+use Rattle.rules.proofs.Heads.{IsHead, head-fields}
+use Rattle.rules.proofs.TableLength.{length-rows, length-controls, length-datas}
+use Rattle.table.specs.Rows.{headIn, tableIn}
 
 -- two lists laid one behind the other, the second at a place that is known to be the next
 sets-next : {A : Type 0} (l : List A) (i : ℕ) {j : ℕ} (xs ys : List A) → j ≡ i + length xs → sets (sets l i xs) j ys ≡ sets l i (xs ++ ys)
@@ -39,13 +40,20 @@ stored-from (f ∷ fs) (x ∷ xs) body offset b =
     ∙ sets-next b (body + offset) (bytes (width f) x) (encoded fs xs) (omega arith)
 
 -- the kind, and behind it the body
+pub one-byte : (x : ℕ) → x < 256 → bytes 1 x ≡ x ∷ []
+one-byte x h = ap (λ (b : ℕ). b ∷ []) (mod-eq-of-lt h)
+
+pub fields-put : (kind : ℕ) (fs : List Field) (xs : List ℕ) (at : ℕ) (b : List ℕ) → bytes 1 kind ≡ kind ∷ []
+    → storedFrom fs xs (at + 1) 0 (sets b at (bytes 1 kind)) ≡ sets b at (kind ∷ encoded fs xs)
+fields-put kind fs xs at b e =
+    ap (λ (first : List ℕ). storedFrom fs xs (at + 1) 0 (sets b at first)) e
+    ∙ stored-from fs xs (at + 1) 0 (sets b at (kind ∷ []))
+    ∙ sets-next b at (kind ∷ []) (encoded fs xs) (omega arith)
+
 pub record-put : (kind : ℕ) (xs : List ℕ) (at : ℕ) (b : List ℕ) → bytes 1 kind ≡ kind ∷ []
     → storedFrom (fields kind) xs (at + 1) 0 (sets b at (bytes 1 kind)) ≡ sets b at (recordBytes kind xs)
 unfolding recordBytes
-record-put kind xs at b e =
-    ap (λ (first : List ℕ). storedFrom (fields kind) xs (at + 1) 0 (sets b at first)) e
-    ∙ stored-from (fields kind) xs (at + 1) 0 (sets b at (kind ∷ []))
-    ∙ sets-next b at (kind ∷ []) (encoded (fields kind) xs) (omega arith)
+record-put kind = fields-put kind (fields kind)
 
 -- ---- rows of one length
 
@@ -91,17 +99,26 @@ glued b H C D E p q r s =
     rw (s, r, q, p, sets-next b 0 H C (sym (zero-add (length H))), sets-next b 0 (H ++ C) D c, sets-next b 0 ((H ++ C) ++ D) E d)
     (ap (sets b 0) (append-assoc (H ++ C) D E ∙ append-assoc H C (D ++ E)))
 
-pub table-put : (b : List ℕ) (period controls rows : ℕ) (control : ℕ → ControlRow) (row : ℕ → DataRow) {b₁ b₂ b₃ b₄ : List ℕ}
-    → b₁ ≡ sets b 0 (headerBytes period controls rows) → b₂ ≡ sets b₁ (recordLength 16) (joined (map controlBytes (tab control 0 controls)))
+pub length-head : (head period controls datas : ℕ) → length (headIn head period controls datas) ≡ recordLength 16
+unfolding headIn recordLength bodyLength fields kinds
+length-head head period controls datas = refl
+
+-- where it is the kind of a head, the rules' words are the same
+pub head-in : {head : ℕ} → IsHead head → (period controls datas : ℕ) → headIn head period controls datas ≡ headerBytes head period controls datas
+unfolding headIn headerBytes recordBytes
+head-in h period controls datas = rw (head-fields h)
+
+pub table-put : (b : List ℕ) (head period controls rows : ℕ) (control : ℕ → ControlRow) (row : ℕ → DataRow) {b₁ b₂ b₃ b₄ : List ℕ}
+    → b₁ ≡ sets b 0 (headIn head period controls rows) → b₂ ≡ sets b₁ (recordLength 16) (joined (map controlBytes (tab control 0 controls)))
     → b₃ ≡ sets b₂ (recordLength 16 + recordLength 17 * controls) (joined (map dataBytes (tab row 0 rows)))
     → b₄ ≡ sets b₃ (recordLength 16 + recordLength 17 * controls + recordLength 18 * rows) (0 ∷ [])
-    → b₄ ≡ sets b 0 (tableIn period (tab control 0 controls) (tab row 0 rows) controls rows)
+    → b₄ ≡ sets b 0 (tableIn head period (tab control 0 controls) (tab row 0 rows) controls rows)
 unfolding tableIn
-table-put b period controls rows control row {b₂ = b₂} {b₃ = b₃} p q r s =
-    let h = length-header period controls rows in
+table-put b head period controls rows control row {b₂ = b₂} {b₃ = b₃} p q r s =
+    let h = length-head head period controls rows in
     let c : length (joined (map controlBytes (tab control 0 controls))) ≡ recordLength 17 * controls
     = length-controls (tab control 0 controls) ∙ ap (λ (k : ℕ). recordLength 17 * k) (length-tab control 0 controls) in
     let d : length (joined (map dataBytes (tab row 0 rows))) ≡ recordLength 18 * rows
     = length-datas (tab row 0 rows) ∙ ap (λ (k : ℕ). recordLength 18 * k) (length-tab row 0 rows) in
-    glued b (headerBytes period controls rows) (joined (map controlBytes (tab control 0 controls))) (joined (map dataBytes (tab row 0 rows))) (0 ∷ [])
+    glued b (headIn head period controls rows) (joined (map controlBytes (tab control 0 controls))) (joined (map dataBytes (tab row 0 rows))) (0 ∷ [])
     {b₂ = b₂} {b₃ = b₃} p (rw h q) (rw (h, c) r) (rw (h, c, d) s)

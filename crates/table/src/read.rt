@@ -6,6 +6,7 @@ ghost use Rattle.laws.specs.Loops.{placed};
 ghost use Rattle.rules.specs.Limits.{mostNodes, mostFrames};
 ghost use Rattle.rules.specs.Records as rules;
 ghost use Rattle.rules.specs.Records.{tableFollows};
+ghost use Rattle.rules.specs.Checker.{isForConsumers};
 ghost use Rattle.table.specs.Memory.{headerRead, controlRead, rowRead, emptyTable, tableFrom, gatheredFrom, readingOf, readWith, reported};
 use crate::Header;
 use crate::Heading;
@@ -18,6 +19,13 @@ use units::Frame;
 use units::NodeNo;
 use units::Offset;
 use units::Ticks;
+
+// Rule 21.1: the first byte of a table says its edition, whatever follows.
+pub fn is_for_consumers(table: &[u8]) -> bool
+    ensures { λ r. ⌜ r ≡ isForConsumers (now (table .entry)) ⌝ }
+{
+    read8(table, 0) == fields::header::CONSUMERS_KIND
+}
 
 // How gathering ended: at the file's end, or at the place where the record rules are broken.
 pub enum Outcome {

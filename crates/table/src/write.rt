@@ -5,8 +5,8 @@ ghost use mathlib.Core.List.{_∷_, [], map};
 ghost use lib.Seq.{sets};
 ghost use Rattle.laws.specs.Lists.{tab, joined};
 ghost use Rattle.rules.specs.Limits.{mostFrames, mostNodes};
-ghost use Rattle.rules.specs.Table.{recordBytes, headerBytes, controlBytes, dataBytes, tableLength};
-ghost use Rattle.table.specs.Rows.{controlIn, dataIn, tableIn};
+ghost use Rattle.rules.specs.Table.{recordBytes, controlBytes, dataBytes, tableLength};
+ghost use Rattle.table.specs.Rows.{controlIn, dataIn, headIn, tableIn};
 use little::put8;
 use little::put16;
 use little::put32;
@@ -26,10 +26,10 @@ pub fn table_length(controls: usize, rows: usize) -> usize
         + fields::end::RECORD
 }
 
-fn put_header(buf: &mut [u8], period: Ticks, controls: u8, datas: u16)
-    ensures { λ _. ⌜ now (buf .exit) ≡ sets (now (buf .entry)) 0 (headerBytes (period .0) controls datas) ⌝ }
+fn put_header(buf: &mut [u8], head: u8, period: Ticks, controls: u8, datas: u16)
+    ensures { λ _. ⌜ now (buf .exit) ≡ sets (now (buf .entry)) 0 (headIn head (period .0) controls datas) ⌝ }
 {
-    put8(&mut *buf, 0, fields::header::KIND);
+    put8(&mut *buf, 0, head);
     put32(&mut *buf, fields::BODY + fields::header::PERIOD, period.0);
     put8(&mut *buf, fields::BODY + fields::header::CONTROLS, controls);
     put16(&mut *buf, fields::BODY + fields::header::DATAS, datas);
@@ -108,9 +108,10 @@ fn put_rows(
     }
 }
 
-// The whole table at the front of the buffer. The data rows stand in the arrays as they are to stand in the table.
+// The whole table at the front of the buffer, with a head of the kind `head`. The data rows stand in the arrays as they are to stand in the table.
 pub fn write_table<'a>(
     buf: &mut [u8],
+    head: u8,
     period: Ticks,
     control_nodes: &'a [u8; NodeNo::MOST],
     control_starts: &'a [u32; NodeNo::MOST],
@@ -123,9 +124,9 @@ pub fn write_table<'a>(
     rows: usize,
 )
     requires { ⌜ (controls ≤ mostNodes) × (rows ≤ mostFrames) ⌝ }
-    ensures { λ _. ⌜ now (buf .exit) ≡ sets (now (buf .entry)) 0 (tableIn (period .0) (tab (controlIn (now («control_nodes» .entry)) (now («control_starts» .entry)) (now («control_stops» .entry))) 0 controls) (tab (dataIn (now («row_tasks» .entry)) (now («row_deadlines» .entry)) (now («row_starts» .entry)) (now («row_stops» .entry))) 0 rows) controls rows) ⌝ }
+    ensures { λ _. ⌜ now (buf .exit) ≡ sets (now (buf .entry)) 0 (tableIn head (period .0) (tab (controlIn (now («control_nodes» .entry)) (now («control_starts» .entry)) (now («control_stops» .entry))) 0 controls) (tab (dataIn (now («row_tasks» .entry)) (now («row_deadlines» .entry)) (now («row_starts» .entry)) (now («row_stops» .entry))) 0 rows) controls rows) ⌝ }
 {
-    put_header(&mut *buf, period, controls as u8, rows as u16);
+    put_header(&mut *buf, head, period, controls as u8, rows as u16);
     put_controls(
         &mut *buf,
         fields::header::RECORD,

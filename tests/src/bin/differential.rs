@@ -9,16 +9,18 @@ use reference::generate::{
 };
 use reference::plan;
 use reference::program::{Program, Reference};
-use reference::{FrameRow, MOST_FRAMES, Reason, Refusal, vectors};
+use reference::{Edition, FrameRow, MOST_FRAMES, Reason, Refusal, vectors};
 use std::collections::BTreeMap;
 use std::time::Instant;
 
-const MAKE_CASES: u64 = 40_000;
-const CHECK_CASES: u64 = 40_000;
+/// Of each edition.
+const MAKE_CASES: u64 = 30_000;
+const CHECK_CASES: u64 = 30_000;
+const PLAY_CASES: u64 = 1_000;
+const SHEET_CASES: u64 = 15_000;
+const SHEET_TEXT_CASES: u64 = 15_000;
+/// In all.
 const NOISE_CASES: u64 = 10_000;
-const PLAY_CASES: u64 = 1_200;
-const SHEET_CASES: u64 = 20_000;
-const SHEET_TEXT_CASES: u64 = 20_000;
 const PLAN_CASES: u64 = 20_000;
 const PLAN_TEXT_CASES: u64 = 20_000;
 const MOST_TICKS: usize = 400;
@@ -31,7 +33,7 @@ const WHOLE_CYCLE: usize = 1_500;
 
 /// The numbers that a run must reach, 0 for "not refused".
 fn numbers() -> impl Iterator<Item = u32> {
-    (0..=13).chain(19..=28).chain(40..=44).chain(60..=61)
+    (0..=13).chain(19..=28).chain(40..=44).chain(60..=62)
 }
 
 /// The reasons that a run must reach. Some words only begin lines, and no line lacks its beginning.
@@ -57,11 +59,11 @@ impl Comparison {
         *self.reached.entry(number).or_default() += 1;
     }
 
-    fn make(&mut self, case: &str, plan: &[u8], rows: &[FrameRow], buffer: &[u8]) {
+    fn make(&mut self, case: &str, plan: &[u8], edition: u8, rows: &[FrameRow], buffer: &[u8]) {
         let (mut proved_rows, mut proved_buffer) = (rows.to_vec(), buffer.to_vec());
-        let proved = self.proved.make(plan, &mut proved_rows, &mut proved_buffer);
+        let proved = self.proved.make(plan, edition, &mut proved_rows, &mut proved_buffer);
         let (mut rows, mut buffer) = (rows.to_vec(), buffer.to_vec());
-        let rust = self.rust.make(plan, &mut rows, &mut buffer);
+        let rust = self.rust.make(plan, edition, &mut rows, &mut buffer);
         assert_eq!(proved, rust, "make, {case}: {plan:02x?}");
         assert_eq!(proved_rows, rows, "make, rows, {case}: {plan:02x?}");
         assert_eq!(proved_buffer, buffer, "make, table, {case}: {plan:02x?}");
@@ -187,21 +189,35 @@ fn any_bytes(rng: &mut Rng, count: usize) -> Vec<u8> {
     std::iter::repeat_with(|| rng.number().to_le_bytes()).flatten().take(count).collect()
 }
 
+/// So many seeds of each edition: how a case is called, its edition, its random numbers.
+fn seeds(count: u64) -> impl Iterator<Item = (String, Edition, Rng)> {
+    let case = |(edition, seed)| (format!("{edition:?}, seed {seed}"), edition, Rng::new(seed));
+    generate::seeds(count).map(case)
+}
+
 fn make_cases(comparison: &mut Comparison) {
-    for seed in 0..MAKE_CASES {
-        let rng = &mut Rng::new(seed);
-        let MakeCase { plan, rows, room } = generate::make_case(rng);
+    for (case, edition, mut rng) in seeds(MAKE_CASES) {
+        let MakeCase { plan, edition, rows, room } = generate::make_case(&mut rng, edition);
+        let (rows, buffer) = (any_rows(&mut rng, rows), any_bytes(&mut rng, room));
+        comparison.make(&case, &plan, edition as u8, &rows, &buffer);
+    }
+}
+
+/// A number that no edition has is refused behind 19 and before all others.
+fn no_editions(comparison: &mut Comparison) {
+    let rng = &mut Rng::new(0);
+    for edition in (0..=u8::MAX).filter(|&number| Edition::numbered(number).is_none()) {
+        let MakeCase { plan, rows, room, .. } = generate::make_case(rng, Edition::Basic);
         let (rows, buffer) = (any_rows(rng, rows), any_bytes(rng, room));
-        comparison.make(&format!("seed {seed}"), &plan, &rows, &buffer);
+        comparison.make(&format!("edition {edition}"), &plan, edition, &rows, &buffer);
     }
 }
 
 fn check_cases(comparison: &mut Comparison) {
-    for seed in 0..CHECK_CASES {
-        let rng = &mut Rng::new(seed);
-        let CheckCase { plan, table, rows } = generate::check_case(rng);
-        let rows = any_rows(rng, rows);
-        comparison.check(&format!("seed {seed}"), &plan, &table, &rows);
+    for (case, edition, mut rng) in seeds(CHECK_CASES) {
+        let CheckCase { plan, table, rows } = generate::check_case(&mut rng, edition);
+        let rows = any_rows(&mut rng, rows);
+        comparison.check(&case, &plan, &table, &rows);
     }
 }
 
@@ -210,46 +226,47 @@ fn noise_cases(comparison: &mut Comparison) {
     let rows = [FrameRow::default(); MOST_FRAMES];
     for seed in 0..NOISE_CASES {
         let rng = &mut Rng::new(seed);
-        let mut file: Vec<u8> = (0..rng.below(200)).map(|_| rng.below(20) as u8).collect();
+        let mut file: Vec<u8> = (0..rng.below(200)).map(|_| rng.below(22) as u8).collect();
         if rng.one_in(2) {
-            let mut plan = generate::plan_file(rng);
+            let edition = rng.pick(&Edition::ALL);
+            let mut plan = generate::plan_file(rng, edition);
             file.iter().for_each(|_| generate::damage_bytes(rng, &mut plan));
             file = plan;
         }
         let case = format!("noise {seed}");
-        comparison.make(&case, &file, &rows, &[0; PLENTY]);
+        comparison.make(&case, &file, rng.below(2) as u8, &rows, &[0; PLENTY]);
         comparison.check(&case, &job_j().bytes(), &file, &rows);
     }
     for (kind, length) in [(3, 2), (7, 3), (6, 5)] {
         let records = [kind].repeat(length * 100_000);
         let file = [&job_a().bytes()[..19], &records, &[0]].concat();
-        comparison.make("many records", &file, &rows, &[]);
+        comparison.make("many records", &file, 0, &rows, &[]);
     }
-    let rows_of_a_table = [[16; 8].as_slice(), &[18; 14 * 100_000], &[0]].concat();
-    comparison.check("many records", &job_a().bytes(), &rows_of_a_table, &rows);
+    for edition in Edition::ALL {
+        let header = [edition.kind(); 8];
+        let rows_of_a_table = [header.as_slice(), &[18; 14 * 100_000], &[0]].concat();
+        comparison.check("many records", &job_a().bytes(), &rows_of_a_table, &rows);
+    }
 }
 
 fn play_cases(comparison: &mut Comparison) {
-    for seed in 0..PLAY_CASES {
-        let rng = &mut Rng::new(seed);
-        let case = generate::play_case(rng);
-        comparison.play(&format!("seed {seed}"), rng, &case);
+    for (name, edition, mut rng) in seeds(PLAY_CASES) {
+        let case = generate::play_case(&mut rng, edition);
+        comparison.play(&name, &mut rng, &case);
     }
 }
 
 fn sheet_cases(comparison: &mut Comparison) {
-    for seed in 0..SHEET_CASES {
-        let rng = &mut Rng::new(seed);
-        let case = generate::sheet_case(rng);
-        comparison.sheet(&format!("seed {seed}"), rng.number() as u8, &case);
+    for (name, edition, mut rng) in seeds(SHEET_CASES) {
+        let case = generate::sheet_case(&mut rng, edition);
+        comparison.sheet(&name, rng.number() as u8, &case);
     }
 }
 
 fn sheet_text_cases(comparison: &mut Comparison) {
-    for seed in 0..SHEET_TEXT_CASES {
-        let rng = &mut Rng::new(seed);
-        let TextCase { text, room } = generate::sheet_text_case(rng);
-        comparison.sheet_table(&format!("seed {seed}"), &text, &any_bytes(rng, room));
+    for (name, edition, mut rng) in seeds(SHEET_TEXT_CASES) {
+        let TextCase { text, room } = generate::sheet_text_case(&mut rng, edition);
+        comparison.sheet_table(&name, &text, &any_bytes(&mut rng, room));
     }
 }
 
@@ -316,7 +333,7 @@ fn words_of_numbers(comparison: &mut Comparison) {
         assert!(words.len() < room && least == room, "{number}: {words} {least}");
         assert_eq!(answers.insert(words, number), None, "{number}");
     }
-    for number in [14, 18, 29, 39, 45, 59, 62, 256, 268, u32::MAX] {
+    for number in [14, 18, 29, 39, 45, 59, 63, 256, 268, u32::MAX] {
         let (words, _) = words_of(&mut comparison.proved, Words::OfNumber, number);
         assert!(!answers.contains_key(&words), "{number}: {words}");
     }
@@ -351,6 +368,7 @@ fn main() {
         vectors::requests(&mut comparison.proved);
     });
     run("plans made", &mut comparison, make_cases);
+    run("no editions", &mut comparison, no_editions);
     run("tables checked", &mut comparison, check_cases);
     run("noise", &mut comparison, noise_cases);
     run("histories played", &mut comparison, play_cases);

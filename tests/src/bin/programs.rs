@@ -5,8 +5,8 @@
 use reference::generate::{Made, job_a, text_of};
 use reference::plan_text::LONGEST_PLAN_READ;
 use reference::text::LONGEST_TEXT;
-use reference::vectors::{ASK_01, CHECK, MAKE, bytes, named};
-use reference::{MOST_FRAMES, text_plan};
+use reference::vectors::{ASK_01, ASK_04, CHECK, MAKE, bytes, named};
+use reference::{Edition, LONGEST_SHEET, MOST_FRAMES, sheet, text_plan};
 use std::collections::BTreeMap;
 use std::fs::{self, File};
 use std::io::{Error, Result};
@@ -19,6 +19,7 @@ const LONGEST_FILE: usize = 65_536;
 struct Case {
     name: String,
     program: &'static str,
+    options: &'static [&'static str],
     /// Named on the command line.
     files: Vec<Vec<u8>>,
     input: Vec<u8>,
@@ -27,8 +28,12 @@ struct Case {
 
 impl Case {
     fn new(name: &str, program: &'static str, written: impl Into<Vec<u8>>) -> Case {
-        let (files, input) = (Vec::new(), Vec::new());
-        Case { name: name.to_string(), program, files, input, written: written.into() }
+        let (name, written) = (name.to_string(), written.into());
+        Case { name, program, options: &[], files: Vec::new(), input: Vec::new(), written }
+    }
+
+    fn options(self, options: &'static [&'static str]) -> Case {
+        Case { options, ..self }
     }
 
     fn files(self, plan: impl Into<Vec<u8>>, table: impl Into<Vec<u8>>) -> Case {
@@ -79,18 +84,86 @@ fn tables() -> Vec<Case> {
     let checked = CHECK.lines().map(words).filter(|([_, _, rows], _)| *rows == frames);
     let mut cases = Vec::new();
     for (number, ([plan, ..], answer)) in made.enumerate().step_by(ONE_IN) {
-        let written = match answer.strip_prefix("table ") {
-            Some(table) => bytes(table.split_once(' ').expect("rows").0),
-            None => format!("{answer}\n").into_bytes(),
-        };
-        cases.push(Case::new(&format!("made {number}"), "bustable", written).input(bytes(plan)));
+        cases.push(made_case(&format!("made {number}"), plan, answer));
     }
     for (number, ([plan, table, _], answer)) in checked.enumerate().step_by(ONE_IN) {
-        let line = answer.split(" rows").next().expect("a line");
-        let case = Case::new(&format!("checked {number}"), "checktable", format!("{line}\n"));
-        cases.push(case.files(bytes(plan), bytes(table)));
+        cases.push(checked_case(&format!("checked {number}"), plan, table, answer));
     }
     cases
+}
+
+fn made_case(name: &str, plan: &str, answer: &str) -> Case {
+    let written = match answer.strip_prefix("table ") {
+        Some(table) => bytes(table.split_once(' ').expect("rows").0),
+        None => format!("{answer}\n").into_bytes(),
+    };
+    Case::new(name, "bustable", written).input(bytes(plan))
+}
+
+fn checked_case(name: &str, plan: &str, table: &str, answer: &str) -> Case {
+    let line = answer.split(" rows").next().expect("a line");
+    let case = Case::new(name, "checktable", format!("{line}\n"));
+    case.files(bytes(plan), bytes(table))
+}
+
+/// Both editions: all that is made and played, and some of what is checked. What passes is printed as a sheet and read
+/// back, with the Rust program's text.
+fn editions() -> Vec<Case> {
+    let frames = MOST_FRAMES.to_string();
+    let mut cases: Vec<Case> = Vec::new();
+    for (number, [_, word, rest]) in named(ASK_04).into_iter().enumerate() {
+        let name = format!("edition {number}");
+        let (given, answer) = rest.split_once(" -> ").unwrap_or((rest, ""));
+        match (word, &given.split(' ').collect::<Vec<_>>()[..]) {
+            ("make", ["basic", "none", plan, rows, "-"]) if *rows == frames => {
+                cases.push(made_case(&name, plan, answer));
+            }
+            ("make", ["consumers", "none", plan, rows, "-"]) if *rows == frames => {
+                cases.push(made_case(&name, plan, answer).options(&["--consumers"]));
+            }
+            ("check", [plan, table, rows]) if *rows == frames && number % ONE_IN == 0 => {
+                cases.push(checked_case(&name, plan, table, answer));
+                if answer.starts_with("passed") {
+                    cases.extend(sheet_cases(&name, bytes(plan), bytes(table)));
+                }
+            }
+            ("begin", [plan, table, modes @ ..]) => cases.push(
+                Case::new(&name, "playstation", format!("{answer}\n"))
+                    .files(bytes(plan), bytes(table))
+                    .input(format!("begin {}\n", modes.join(" "))),
+            ),
+            ("tick" | "quiet", _) => {
+                let history = cases.last_mut().expect("a history has begun");
+                history.input.extend(format!("{word} {given}\n").bytes());
+                history.written.extend(said_then(&history.written, answer));
+            }
+            _ => {}
+        }
+    }
+    cases
+}
+
+/// The line of a tick: of the same places as before, that line again. Quiet ticks, at which nothing changes, have none.
+fn said_then(before: &[u8], answer: &str) -> Vec<u8> {
+    let lines = std::str::from_utf8(before).expect("lines").lines();
+    let line = match answer {
+        "" => return Vec::new(),
+        "shown same" => {
+            lines.rev().find(|line| line.starts_with("shown ")).unwrap_or("shown -").to_string()
+        }
+        _ => answer.to_string(),
+    };
+    format!("{line}\n").into_bytes()
+}
+
+fn sheet_cases(name: &str, plan: Vec<u8>, table: Vec<u8>) -> [Case; 2] {
+    let mut text = vec![0; LONGEST_SHEET];
+    let printed = sheet(&plan, &table, &mut text);
+    text.truncate(printed.length);
+    [
+        Case::new(name, "tablesheet", text.clone()).files(plan, table.clone()),
+        Case::new(name, "sheettable", table).input(text),
+    ]
 }
 
 /// Beginnings and ends of histories: docs/HISTORY.md has what stands between them.
@@ -113,7 +186,7 @@ fn histories() -> Vec<Case> {
 
 /// Job A's plan and table.
 fn made_a() -> (Vec<u8>, Vec<u8>) {
-    let made = Made::of(&job_a().bytes()).expect("job A is made");
+    let made = Made::of(&job_a().bytes(), Edition::Basic).expect("job A is made");
     (made.plan, made.table.bytes())
 }
 
@@ -193,7 +266,7 @@ fn run_one(
     };
     // `env` runs the words behind it, be there something to run under or not.
     let mut command = Command::new("env");
-    command.args(under).arg(programs.join(case.program));
+    command.args(under).arg(programs.join(case.program)).args(case.options);
     for (name, bytes) in ["plan", "table"].into_iter().zip(&case.files) {
         command.arg(file(name, bytes)?);
     }
@@ -213,7 +286,7 @@ fn shown(bytes: &[u8]) -> String {
 fn run(words: &[String], folder: &Path) -> Result<BTreeMap<&'static str, usize>> {
     let (programs, under) = words.split_first().expect("the folder of the programs");
     let mut passed = BTreeMap::new();
-    for case in [texts(), tables(), histories(), limits()].iter().flatten() {
+    for case in [texts(), tables(), editions(), histories(), limits()].iter().flatten() {
         let Case { name, program, written, .. } = case;
         let (output, status) = run_one(Path::new(programs), under, folder, case)?;
         if (&output, status) != (written, case.status()) {

@@ -7,7 +7,7 @@ use super::tables::Made;
 use crate::checker::DataRow;
 use crate::plan::{Connection, Mode};
 use crate::records::{BODY_LENGTHS, BUS_WITH_BYTE_BITS, NODES, record_length};
-use crate::{MOST_CONNECTIONS, MOST_INVOCATIONS, MOST_MODES, MOST_MODULES, MOST_TASKS};
+use crate::{Edition, MOST_CONNECTIONS, MOST_INVOCATIONS, MOST_MODES, MOST_MODULES, MOST_TASKS};
 
 /// Flips, cuts, insertions; whole records taken out, doubled or given another kind; a bus record in front
 /// of another record or in its place.
@@ -61,14 +61,15 @@ fn record_starts(file: &[u8]) -> Vec<usize> {
 }
 
 /// Breaks rule 2 to 12 of a plan, as a rule without breaking one before it.
-pub fn break_plan_rule(rng: &mut Rng, draft: &mut Draft, rule: u32) {
+pub fn break_plan_rule(rng: &mut Rng, edition: Edition, draft: &mut Draft, rule: u32) {
     match rule {
         2 => wrong_count(rng, draft),
         3 => unknown_name(rng, draft),
         4 => number_out_of_range(rng, draft),
         5 => broken_sentence(rng, draft),
+        6 if edition == Edition::Consumers && rng.one_in(2) => never_read(draft),
         6 => keep_on_nodes(rng, draft),
-        7 => foreign_period(rng, draft),
+        7 => foreign_period(rng, edition, draft),
         8 => draft.bits.resolution = rng.between(2, 1_000),
         9 => many_frames(rng, draft),
         10 => {
@@ -211,9 +212,28 @@ fn keep_on_nodes(rng: &mut Rng, draft: &mut Draft) {
     }
 }
 
+/// No consumer on another node ever runs.
+fn never_read(draft: &mut Draft) {
+    let mut read = 0u32;
+    for of in &draft.connections {
+        let nodes = [of.producer, of.consumer].map(|task| {
+            let task = draft.tasks.get(usize::from(task))?;
+            draft.modules.get(usize::from(task.module)).map(|module| module.node)
+        });
+        if nodes[0] != nodes[1] {
+            read |= 1u32.checked_shl(of.consumer.into()).unwrap_or(0);
+        }
+    }
+    draft.invocations.retain(|run| read.checked_shr(run.task.into()).unwrap_or(0) & 1 == 0);
+}
+
 /// A mode that invokes nothing but counts for G.
-fn foreign_period(rng: &mut Rng, draft: &mut Draft) {
-    let module = draft.tasks.first().map_or(0, |task| task.module);
+fn foreign_period(rng: &mut Rng, edition: Edition, draft: &mut Draft) {
+    let counts = match edition {
+        Edition::Basic => draft.tasks.first(),
+        Edition::Consumers => draft.tasks.get(rng.below(draft.tasks.len().max(1))),
+    };
+    let module = counts.map_or(0, |task| task.module);
     let period = rng.pick(&[1, 7, 999_983, 65_536, 500_000]);
     if draft.modes.len() < MOST_MODES {
         draft.modes.push(Mode { module, period, switch_period: period });

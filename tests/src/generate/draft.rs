@@ -1,11 +1,12 @@
 //! Plans and tables as they are written, good or not.
 
+use crate::Edition;
 use crate::bus::ControlRow;
 use crate::checker::{DataRow, read_control_row, read_data_row};
 use crate::plan::{Bits, Connection, Invocation, Mode, Module, Task};
 use crate::records::{
     BUS, BUS_WITH_BYTE_BITS, CONNECTION, CONTROL_ROW, DATA_ROW, END, INVOCATION, MODE, MODULE,
-    NODES, TABLE, TABLE_FILE, TASK, outline,
+    NODES, TABLE_FILE, TASK, outline,
 };
 
 #[derive(Clone, Debug, Default)]
@@ -70,6 +71,8 @@ pub fn bus_record(bits: &Bits) -> Vec<u8> {
 
 #[derive(Clone, Debug, Default, PartialEq, Eq)]
 pub struct TableDraft {
+    /// What the header says.
+    pub edition: Edition,
     pub period: u32,
     pub control_count: u8,
     pub data_count: u16,
@@ -79,7 +82,7 @@ pub struct TableDraft {
 
 impl TableDraft {
     pub fn bytes(&self) -> Vec<u8> {
-        let mut file = vec![TABLE];
+        let mut file = vec![self.edition.kind()];
         file.extend(self.period.to_le_bytes());
         file.push(self.control_count);
         file.extend(self.data_count.to_le_bytes());
@@ -103,6 +106,7 @@ impl TableDraft {
         let cut = outline(file, &TABLE_FILE).ok()?;
         let &[_, p0, p1, p2, p3, control_count, d0, d1] = cut.once[0] else { return None };
         Some(TableDraft {
+            edition: Edition::of_table(file),
             period: u32::from_le_bytes([p0, p1, p2, p3]),
             control_count,
             data_count: u16::from_le_bytes([d0, d1]),
@@ -137,6 +141,13 @@ pub fn job_a() -> Draft {
         ],
         connections: vec![Connection { producer: 0, consumer: 1 }],
     }
+}
+
+/// Job A whose consumer reads in the middle of a cycle too.
+pub fn job_a_read_twice() -> Draft {
+    let mut draft = job_a();
+    draft.invocations[2].rate = 2;
+    draft
 }
 
 /// Job J (docs/RULES.md, rule 10.J): X, Y, Z, and the task that consumes them.

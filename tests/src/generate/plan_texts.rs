@@ -7,12 +7,12 @@ use super::texts::{Sort, any_number};
 use crate::records::{
     BUS, BUS_WITH_BYTE_BITS, CONNECTION, END, INVOCATION, MODE, MODULE, NODES, TASK, record_length,
 };
-use crate::{Refusal, plan_text};
+use crate::{Edition, Refusal, plan_text};
 
 /// Plans of `plan_file`, and records with any numbers, whole or damaged.
 pub fn any_plan(rng: &mut Rng) -> Vec<u8> {
     if rng.one_in(3) {
-        return plan_file(rng);
+        return plan_file(rng, Edition::Basic);
     }
     let mut plan = any_records(rng);
     if rng.one_in(4) {

@@ -4,7 +4,7 @@ use super::draft::{Draft, job_a};
 use super::random::Rng;
 use crate::plan::{Bits, Connection, Invocation, LONGEST_PERIOD, Mode, Module, Task};
 use crate::{
-    FrameRow, MOST_CONNECTIONS, MOST_FRAMES, MOST_INVOCATIONS, MOST_MODES, MOST_MODULES,
+    Edition, FrameRow, MOST_CONNECTIONS, MOST_FRAMES, MOST_INVOCATIONS, MOST_MODES, MOST_MODULES,
     MOST_NODES, MOST_TASKS, bus, plan,
 };
 
@@ -70,18 +70,20 @@ impl Size {
 
 /// A plan that keeps rules 1 to 5. Modules that may send have periods built from the base, and
 /// their tasks may be read on other nodes; the others have any periods.
-pub fn valid_plan(rng: &mut Rng, size: &Size) -> Draft {
+pub fn valid_plan(rng: &mut Rng, edition: Edition, size: &Size) -> Draft {
     let mut draft = Draft { nodes: size.nodes as u8, ..Draft::default() };
     draft.modules = modules(rng, size);
+    // Task 0 may be read by task 1.
+    let first = if edition == Edition::Basic { 1 } else { 2 };
     let senders: Vec<bool> =
-        (0..size.modules).map(|module| module == 0 || !rng.one_in(3)).collect();
-    draft.modes = modes(rng, size, &senders);
+        (0..size.modules).map(|module| module < first || !rng.one_in(3)).collect();
+    draft.modes = modes(rng, edition, size, &senders);
     draft.tasks = tasks(rng, size);
     draft.invocations = invocations(rng, size, &draft, &senders);
     shorten_worst_times(rng, &mut draft);
-    draft.connections = connections(rng, size, &draft, &senders);
+    draft.connections = connections(rng, edition, size, &draft, &senders);
     draft.bits = loose_bits();
-    draft.bits = fitting_bits(rng, &draft);
+    draft.bits = fitting_bits(rng, edition, &draft);
     draft
 }
 
@@ -95,12 +97,16 @@ fn modules(rng: &mut Rng, size: &Size) -> Vec<Module> {
     modules
 }
 
-fn modes(rng: &mut Rng, size: &Size, senders: &[bool]) -> Vec<Mode> {
+fn modes(rng: &mut Rng, edition: Edition, size: &Size, senders: &[bool]) -> Vec<Mode> {
     let mut modes: Vec<Mode> = (0..size.modes)
         .map(|number| {
             let module = if number < size.modules { number } else { rng.below(size.modules) };
             let longest = LONGEST_PERIOD.min(2 * size.base);
-            let unit = if senders[module] { size.base } else { rng.between(1, longest) };
+            let unit = match edition {
+                _ if senders[module] => size.base,
+                Edition::Consumers if rng.one_in(2) => part_of(rng, size.base),
+                _ => rng.between(1, longest),
+            };
             let switch_period = times_within(rng, unit);
             let period = times_within(rng, switch_period);
             Mode { module: module as u8, period, switch_period }
@@ -108,6 +114,12 @@ fn modes(rng: &mut Rng, size: &Size, senders: &[bool]) -> Vec<Mode> {
         .collect();
     rng.shuffle(&mut modes);
     modes
+}
+
+/// Modes of readers could begin where a cycle of so many ticks is not at its end.
+fn part_of(rng: &mut Rng, base: u32) -> u32 {
+    let parts = rng.pick(&[2, 3, 4]);
+    if base.is_multiple_of(parts) { base / parts } else { base }
 }
 
 /// A small multiple that is no longer than a period may be.
@@ -163,15 +175,23 @@ fn shorten_worst_times(rng: &mut Rng, draft: &mut Draft) {
     }
 }
 
-/// Different pairs of two tasks, of one node where the producer may not send. The first pair, from task 0
-/// to task 1, is always among them.
-fn connections(rng: &mut Rng, size: &Size, draft: &Draft, senders: &[bool]) -> Vec<Connection> {
+/// Different pairs of two tasks, of one node where the producer may not send; for the sake of consumers as
+/// a rule also where the consumer may not. The first pair, from task 0 to task 1, is always among them.
+fn connections(
+    rng: &mut Rng,
+    edition: Edition,
+    size: &Size,
+    draft: &Draft,
+    senders: &[bool],
+) -> Vec<Connection> {
     let may_send = |task: usize| senders[usize::from(draft.tasks[task].module)];
+    let any_reads = edition == Edition::Basic || rng.one_in(8);
     let mut pairs: Vec<(usize, usize)> = (0..size.tasks)
         .flat_map(|producer| (0..size.tasks).map(move |consumer| (producer, consumer)))
         .filter(|(producer, consumer)| producer != consumer)
         .filter(|&(producer, consumer)| {
-            may_send(producer) || draft.node_of_task(producer) == draft.node_of_task(consumer)
+            may_send(producer) && (any_reads || may_send(consumer))
+                || draft.node_of_task(producer) == draft.node_of_task(consumer)
         })
         .collect();
     rng.shuffle(pairs.get_mut(1..).unwrap_or_default());
@@ -201,9 +221,9 @@ fn any_byte_bits(rng: &mut Rng) -> Option<u8> {
 }
 
 /// A bus that is loaded from little to a bit too much.
-fn fitting_bits(rng: &mut Rng, draft: &Draft) -> Bits {
+fn fitting_bits(rng: &mut Rng, edition: Edition, draft: &Draft) -> Bits {
     let mut rows = [FrameRow::default(); MOST_FRAMES];
-    let asked = plan::read(&draft.bytes()).and_then(|plan| bus::derive(&plan, &mut rows));
+    let asked = plan::read(&draft.bytes()).and_then(|plan| bus::derive(&plan, edition, &mut rows));
     let Ok(asked) = asked else { return draft.bits };
     let rows = (asked.frames + asked.control.len()) as u32;
     let room = asked.period / rows;
@@ -228,19 +248,19 @@ fn resolution_within(rng: &mut Rng, period: u32, time: u32) -> u32 {
 }
 
 /// A plan at a limit or just beside it.
-pub fn near_limit_plan(rng: &mut Rng) -> Draft {
+pub fn near_limit_plan(rng: &mut Rng, edition: Edition) -> Draft {
     match rng.below(8) {
-        0 => frames_near_limit(rng),
+        0 => frames_near_limit(rng, edition),
         1 => {
             let size = Size::full(rng);
-            valid_plan(rng, &size)
+            valid_plan(rng, edition, &size)
         }
-        2 => extreme_bits(rng),
-        3 => tight_window(rng),
+        2 => extreme_bits(rng, edition),
+        3 => tight_window(rng, edition),
         4 => control_near_period(rng),
-        5 => long_common_multiple(rng),
-        6 => any_quick_runs(rng),
-        _ => counts_near_limits(rng),
+        5 => long_common_multiple(rng, edition),
+        6 => any_quick_runs(rng, edition),
+        _ => counts_near_limits(rng, edition),
     }
 }
 
@@ -259,6 +279,25 @@ pub fn plan_with_rates(period: u32, rates: &[u16]) -> Draft {
     let consumer = rates.len() as u8;
     draft.connections = (0..consumer).map(|producer| Connection { producer, consumer }).collect();
     draft
+}
+
+/// The same plan, where the task of node 1 runs so many times in the period.
+pub fn read_often(plan: Draft, rate: u16) -> Draft {
+    let mut draft = plan;
+    let task = draft.tasks.len() as u8 - 1;
+    draft.invocations.push(Invocation { mode: 1, task, rate });
+    draft
+}
+
+/// For the sake of consumers: the same plan, read as often as one of its tasks runs.
+fn read_in(rng: &mut Rng, edition: Edition, plan: Draft) -> Draft {
+    match edition {
+        Edition::Basic => plan,
+        Edition::Consumers => {
+            let rate = rng.pick(&plan.invocations).rate;
+            read_often(plan, rate)
+        }
+    }
 }
 
 /// The same plan with its tasks on all nodes, one module on each; task 0 reads what others send, and
@@ -298,19 +337,35 @@ pub fn also_in_modes(plan: Draft, rates: &[u16]) -> Draft {
 
 /// Any number of frames above 256, most often as many as may be or a few more or less; on one node or on
 /// all, with a bus that has room or one that is loaded.
-fn frames_near_limit(rng: &mut Rng) -> Draft {
+fn frames_near_limit(rng: &mut Rng, edition: Edition) -> Draft {
     let most = MOST_FRAMES as u32;
     let frames =
         if rng.one_in(3) { rng.between(257, most) } else { rng.between(most - 2, most + 2) };
-    let rates = rates_for(rng, frames);
+    let mut rates = rates_for(rng, frames);
+    let read = rates.iter().copied().max().unwrap_or(1);
+    if edition == Edition::Consumers && rng.one_in(2) {
+        run_more_often(rng, &mut rates, read);
+    }
     let mut draft = plan_with_rates(DIVISIBLE, &rates).with_byte_bits(any_byte_bits(rng));
+    if edition == Edition::Consumers {
+        draft = read_often(draft, read);
+    }
     if rng.one_in(2) {
         draft = on_all_nodes(draft);
     }
     if rng.one_in(2) {
-        draft.bits = fitting_bits(rng, &draft);
+        draft.bits = fitting_bits(rng, edition, &draft);
     }
     draft
+}
+
+/// What runs as often as it is read, or more often, has a frame for each read.
+fn run_more_often(rng: &mut Rng, rates: &mut [u16], read: u16) {
+    let above: Vec<u16> =
+        (read..=u16::MAX).filter(|&rate| DIVISIBLE.is_multiple_of(u32::from(rate))).collect();
+    for rate in rates.iter_mut().filter(|rate| **rate == read) {
+        *rate = rng.pick(&above);
+    }
 }
 
 /// Rates of at most thirty-one tasks that come to so many frames. The first is 1: so P is the period.
@@ -343,8 +398,8 @@ pub fn any_bits(rng: &mut Rng) -> Bits {
     }
 }
 
-fn extreme_bits(rng: &mut Rng) -> Draft {
-    let mut draft = plan_with_rates(DIVISIBLE, &[1, 2, 3]);
+fn extreme_bits(rng: &mut Rng, edition: Edition) -> Draft {
+    let mut draft = read_in(rng, edition, plan_with_rates(DIVISIBLE, &[1, 2, 3]));
     draft.bits = any_bits(rng);
     draft.bits.resolution = rng.pick(&[1, 1, 3, 7, 13, 720, 1_000]);
     draft.tasks[0].size = rng.between(1, 8) as u8;
@@ -352,8 +407,11 @@ fn extreme_bits(rng: &mut Rng) -> Draft {
 }
 
 /// Job B: the sending time just fits between worst time and deadline, or just not.
-fn tight_window(rng: &mut Rng) -> Draft {
+fn tight_window(rng: &mut Rng, edition: Edition) -> Draft {
     let mut draft = job_a().with_byte_bits(any_byte_bits(rng));
+    if edition == Edition::Consumers {
+        draft.invocations[2].rate = rng.pick(&[1, 2, 3, 6]);
+    }
     draft.bits.resolution = rng.pick(&[1, 1, 2, 4, 8]);
     draft.bits.gap_bits = rng.pick(&[0, 10, 1_000]);
     let size = u32::from(draft.tasks[0].size);
@@ -377,21 +435,23 @@ fn control_near_period(rng: &mut Rng) -> Draft {
 }
 
 /// Periods whose common multiple does not fit into a machine number.
-fn long_common_multiple(rng: &mut Rng) -> Draft {
+fn long_common_multiple(rng: &mut Rng, edition: Edition) -> Draft {
     let primes = [999_983, 999_979, 999_961, 999_959, 999_953, 999_931, 65_537, 65_536];
     let mut draft = plan_with_rates(DIVISIBLE, &[1; 8]).with_byte_bits(any_byte_bits(rng));
     draft.nodes = 2;
     draft.modules = (0..9).map(|module| Module { node: u8::from(module == 8) }).collect();
     draft.modes = (0..9)
         .map(|module| {
-            let period = if module == 8 { 1 } else { rng.pick(&primes) };
+            let counts = module < 8 || edition == Edition::Consumers;
+            let period = if counts { rng.pick(&primes) } else { 1 };
             Mode { module, period, switch_period: period }
         })
         .collect();
     for (module, task) in (0..).zip(&mut draft.tasks) {
         task.module = module;
     }
-    draft.invocations = (0..8).map(|task| Invocation { mode: task, task, rate: 1 }).collect();
+    let runs = if edition == Edition::Basic { 0..8 } else { 0..9 };
+    draft.invocations = runs.map(|task| Invocation { mode: task, task, rate: 1 }).collect();
     draft
 }
 
@@ -403,7 +463,7 @@ pub fn quick_runs(period: u32, rates: &[u16]) -> Draft {
 
 /// Plans of up to two million messages: one task or up to thirty-one of them, with runs from one tick
 /// in 65,535, and 16 in a million, up to the whole period; and such with few enough for a table.
-fn any_quick_runs(rng: &mut Rng) -> Draft {
+fn any_quick_runs(rng: &mut Rng, edition: Edition) -> Draft {
     let period = rng.pick(&[65_535, 65_535, 65_520, 720_720, LONGEST_PERIOD, LONGEST_PERIOD]);
     let tasks = rng.pick(&[1, 1, 2, 5, MOST_TASKS - 1]);
     let most_often = rng.pick(&[u16::MAX, u16::MAX, (MOST_FRAMES / tasks) as u16]);
@@ -413,22 +473,27 @@ fn any_quick_runs(rng: &mut Rng) -> Draft {
     let all_alike = rng.one_in(3);
     let mut rate = || if all_alike { quickest } else { rng.pick(&rates) };
     let rates: Vec<u16> = (0..tasks).map(|_| rate()).collect();
-    quick_runs(period, &rates).with_byte_bits(any_byte_bits(rng))
+    let draft = read_in(rng, edition, quick_runs(period, &rates));
+    draft.with_byte_bits(any_byte_bits(rng))
 }
 
 /// As many frames as may be, or almost, in a cycle that is short enough to be played: all tasks send in
 /// every run of little more ticks than there are tasks.
-pub fn crowded_cycle(rng: &mut Rng) -> Draft {
+pub fn crowded_cycle(rng: &mut Rng, edition: Edition) -> Draft {
     let tasks = rng.pick(&[8, 16, MOST_TASKS - 1]);
     let often = MOST_FRAMES / tasks;
     let period = ((tasks + 2) * often) as u32;
-    quick_runs(period, &vec![often as u16; tasks]).with_byte_bits(any_byte_bits(rng))
+    let mut draft = quick_runs(period, &vec![often as u16; tasks]);
+    if edition == Edition::Consumers {
+        draft = read_often(draft, often as u16);
+    }
+    draft.with_byte_bits(any_byte_bits(rng))
 }
 
 /// A full plan with one list a thing shorter or longer.
-fn counts_near_limits(rng: &mut Rng) -> Draft {
+fn counts_near_limits(rng: &mut Rng, edition: Edition) -> Draft {
     let size = Size::full(rng);
-    let mut draft = valid_plan(rng, &size);
+    let mut draft = valid_plan(rng, edition, &size);
     let longer = rng.one_in(2);
     match rng.below(5) {
         0 => resize(&mut draft.modules, longer),

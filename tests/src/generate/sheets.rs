@@ -5,7 +5,7 @@ use super::plans::Size;
 use super::random::Rng;
 use super::tables::{made_plan, move_rows};
 use super::texts::{Sort, any_number};
-use crate::{LONGEST_SHEET, MOST_FRAMES, MOST_NODES, sheet};
+use crate::{Edition, LONGEST_SHEET, MOST_FRAMES, MOST_NODES, sheet};
 
 const SORT: Sort = Sort {
     words: &["refused", "at", "cycle", "control", "data", "message", "consumers", "Control"],
@@ -23,6 +23,8 @@ const SORT: Sort = Sort {
         b"cycle\n",
         b"cycle 5 5\n",
         b"cycle 5 consumers\n",
+        b"cycle 5 consumers 5\n",
+        b"cycle consumers\n",
         b"control 1 - - - 2 3 0 0 - -\n",
         b"data 0 2 0 4 5 6 0 0 0 -0\n",
         b"message 0 2 0 4 - - - - 0 0\n",
@@ -30,20 +32,20 @@ const SORT: Sort = Sort {
 };
 
 /// What `tablesheet` may write, and texts that a person or an editor has made of it.
-pub fn any_sheet(rng: &mut Rng) -> Vec<u8> {
+pub fn any_sheet(rng: &mut Rng, edition: Edition) -> Vec<u8> {
     let mut text = match rng.below(8) {
-        0 => any_rows(rng),
+        0 => any_rows(rng, edition),
         1 => SORT.any_words(rng),
-        _ => printed(rng),
+        _ => printed(rng, edition),
     };
     SORT.damage(rng, &mut text);
     text
 }
 
 /// The sheet of a table that passes or fails in one of 25 to 28.
-pub fn printed(rng: &mut Rng) -> Vec<u8> {
+pub fn printed(rng: &mut Rng, edition: Edition) -> Vec<u8> {
     let size = Size::any(rng);
-    let mut made = made_plan(rng, &size);
+    let mut made = made_plan(rng, edition, &size);
     if rng.one_in(2) {
         move_rows(rng, &mut made);
     }
@@ -58,8 +60,12 @@ pub fn printed(rng: &mut Rng) -> Vec<u8> {
 }
 
 /// As short as can be, with any numbers, and as many rows as a sheet may have or one more.
-fn any_rows(rng: &mut Rng) -> Vec<u8> {
-    let mut text = format!("cycle {}\n", any_number(rng, LARGEST));
+fn any_rows(rng: &mut Rng, edition: Edition) -> Vec<u8> {
+    let said = match edition {
+        Edition::Basic => "",
+        Edition::Consumers => " consumers",
+    };
+    let mut text = format!("cycle {}{said}\n", any_number(rng, LARGEST));
     for _ in 0..rng.pick(&[0, 1, 1, 2, MOST_NODES, MOST_NODES, MOST_NODES + 1]) {
         let node = any_number(rng, u64::from(u8::MAX));
         let [start, stop] = std::array::from_fn(|_| any_number(rng, LARGEST));

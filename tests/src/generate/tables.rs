@@ -7,7 +7,7 @@ use super::random::Rng;
 use crate::bus::{self, Bus};
 use crate::checker::{DataRow, frame_of};
 use crate::plan::{self, Plan};
-use crate::{FrameRow, MOST_FRAMES, make};
+use crate::{Edition, FrameRow, MOST_FRAMES, make};
 
 /// A plan with its table and what the plan asks of the bus.
 #[derive(Clone, Debug)]
@@ -20,12 +20,12 @@ pub struct Made {
 }
 
 impl Made {
-    pub fn of(plan: &[u8]) -> Option<Made> {
+    pub fn of(plan: &[u8], edition: Edition) -> Option<Made> {
         let mut rows = [FrameRow::default(); MOST_FRAMES];
         let read_plan = plan::read(plan).ok()?;
-        let bus = bus::derive(&read_plan, &mut rows).ok()?;
+        let bus = bus::derive(&read_plan, edition, &mut rows).ok()?;
         let mut table = [0; PLENTY];
-        let length = make(plan, &mut rows, &mut table).ok()?;
+        let length = make(plan, edition, &mut rows, &mut table).ok()?;
         let frames = rows[..bus.frames].to_vec();
         let table = TableDraft::read(&table[..length])?;
         Some(Made { plan: plan.to_vec(), read_plan, bus, frames, table })
@@ -40,23 +40,28 @@ impl Made {
 const TRIES: usize = 40;
 
 /// A plan of this size, or near a limit, that has a table.
-pub fn made_plan(rng: &mut Rng, size: &Size) -> Made {
+pub fn made_plan(rng: &mut Rng, edition: Edition, size: &Size) -> Made {
     let near_limits = size.base > 1_000 && rng.one_in(4);
     let mut try_one = || -> Option<Made> {
-        let draft: Draft = if near_limits { near_limit_plan(rng) } else { valid_plan(rng, size) };
-        Made::of(&draft.bytes())
+        let draft: Draft = if near_limits {
+            near_limit_plan(rng, edition)
+        } else {
+            valid_plan(rng, edition, size)
+        };
+        Made::of(&draft.bytes(), edition)
     };
     let found = (0..TRIES).find_map(|_| try_one());
-    found.or_else(|| Made::of(&job_a().bytes())).expect("job A has a table")
+    found.or_else(|| Made::of(&job_a().bytes(), edition)).expect("job A has a table")
 }
 
 /// A plan whose cycle is short enough to be played, now and then one of very many frames.
-pub fn playable_plan(rng: &mut Rng) -> Made {
+pub fn playable_plan(rng: &mut Rng, edition: Edition) -> Made {
     if rng.one_in(32) {
-        return Made::of(&crowded_cycle(rng).bytes()).expect("each run has a tick for each frame");
+        let crowded = crowded_cycle(rng, edition).bytes();
+        return Made::of(&crowded, edition).expect("each run has a tick for each frame");
     }
     let size = Size::short(rng);
-    made_plan(rng, &size)
+    made_plan(rng, edition, &size)
 }
 
 /// Moves every data row to any start that keeps the rules, and exchanges neighbours where they fit.

@@ -2,8 +2,8 @@
 
 use crate::generate::PLENTY;
 use crate::plan;
-use crate::vectors::bytes;
-use crate::{FrameRow, MOST_FRAMES, Refusal, check, make};
+use crate::vectors::{bytes, edition_of};
+use crate::{Edition, FrameRow, MOST_FRAMES, Refusal, check, make};
 
 /// What stands in a lent buffer.
 const OLD: u8 = 165;
@@ -13,6 +13,7 @@ pub enum What {
     Read = 0,
     Make = 1,
     Check = 2,
+    MakeForConsumers = 3,
 }
 
 pub struct Case {
@@ -52,11 +53,11 @@ impl Case {
     pub fn make(plan: &[u8], rows: usize, room: usize) -> Case {
         let mut lent = vec![FrameRow::default(); rows];
         let mut buffer = vec![OLD; room];
-        let line = match make(plan, &mut lent, &mut buffer) {
+        let line = match make(plan, Edition::Basic, &mut lent, &mut buffer) {
             Ok(length) => format!("table {} rows{}", hex(&buffer[..length]), frames(&lent)),
             Err(refusal) => refused(refusal),
         };
-        Case::made(plan, rows, room, &line)
+        Case::made(plan, Edition::Basic, rows, room, &line)
     }
 
     pub fn check(plan: &[u8], table: &[u8], rows: usize) -> Case {
@@ -70,14 +71,18 @@ impl Case {
 
     /// A plan whose table is made, with its answer: behind it stand how many bytes of the buffer are
     /// kept, and how many of the rows by value are zero.
-    pub fn made(plan: &[u8], rows: usize, room: usize, answer: &str) -> Case {
+    pub fn made(plan: &[u8], edition: Edition, rows: usize, room: usize, answer: &str) -> Case {
         let mut words = answer.split(' ');
         let (length, frames) = match words.next() {
             Some("table") => (words.next().expect("a table").len() / 2, words.skip(1).count()),
             _ => (0, 0),
         };
         let line = format!("{answer} kept {} zero {}", room - length, MOST_FRAMES - frames);
-        Case { rows, room, line, ..Case::new(What::Make, plan) }
+        let what = match edition {
+            Edition::Basic => What::Make,
+            Edition::Consumers => What::MakeForConsumers,
+        };
+        Case { rows, room, line, ..Case::new(what, plan) }
     }
 
     /// A table that is checked, with its answer.
@@ -126,11 +131,12 @@ fn vector(line: &str) -> ([&str; 3], &str) {
     (words.try_into().expect("three words"), answer)
 }
 
-/// A vector `PLAN ROWS ROOM -> ..`; plenty of room where it is left open.
+/// A vector `PLAN ROWS ROOM -> ..`, with its edition in front if it says one; plenty of room where it is left open.
 pub fn made(line: &str) -> Case {
+    let (edition, line) = edition_of(line);
     let ([plan, rows, room], answer) = vector(line);
     let room = room.parse().unwrap_or(PLENTY);
-    Case::made(&bytes(plan), rows.parse().expect("a number of rows"), room, answer)
+    Case::made(&bytes(plan), edition, rows.parse().expect("a number of rows"), room, answer)
 }
 
 /// A vector `PLAN TABLE ROWS -> ..`.

@@ -1,8 +1,8 @@
 //! The jobs of docs/RULES.md that need no played station.
 
 use super::cases::Case;
-use crate::MOST_FRAMES;
 use crate::generate::{Draft, Made, PLENTY, job_a, job_j};
+use crate::{Edition, MOST_FRAMES};
 
 pub fn all() -> Vec<Case> {
     let mut jobs = made();
@@ -39,7 +39,8 @@ fn made() -> Vec<Case> {
 
 /// Job A's table with another start and stop in a data row, counted from 0.
 pub fn moved(row: usize, start: u32, stop: u32) -> Case {
-    let Made { plan, mut table, .. } = Made::of(&job_a().bytes()).expect("job A is made");
+    let Made { plan, mut table, .. } =
+        Made::of(&job_a().bytes(), Edition::Basic).expect("job A is made");
     (table.data[row].start, table.data[row].stop) = (start, stop);
     Case::check(&plan, &table.bytes(), MOST_FRAMES)
 }

@@ -2,13 +2,13 @@
 //! and its last row against each rule.
 
 use super::cases::Case;
-use crate::MOST_FRAMES;
 use crate::checker::DataRow;
 use crate::generate::{Draft, Made, TableDraft, also_in_modes, longest_table, plan_with_rates};
 use crate::maker::LONGEST_TABLE;
+use crate::{Edition, MOST_FRAMES};
 
 pub fn all() -> Vec<Case> {
-    let longest = Made::of(&longest_table().bytes()).expect("the plan is made");
+    let longest = Made::of(&longest_table().bytes(), Edition::Basic).expect("the plan is made");
     let too_short = Case::make(&longest.plan, MOST_FRAMES, LONGEST_TABLE - 1);
     let mut cases = counted();
     cases.push(too_short.called("one byte too few"));

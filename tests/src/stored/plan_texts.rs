@@ -4,7 +4,7 @@
 use super::sheets::sheet_of;
 use super::{Stored, stored, table_of};
 use crate::generate::{job_a, text_of};
-use crate::text_plan;
+use crate::{Edition, text_plan};
 
 /// A station with four boards; its comments explain each line.
 const WIPING_STATION: &[u8] = include_bytes!("../../../docs/examples/wiping-station.plan.txt");
@@ -12,7 +12,7 @@ const WIPING_STATION: &[u8] = include_bytes!("../../../docs/examples/wiping-stat
 pub fn all() -> Vec<Stored> {
     let printed = text_of(&job_a().bytes()).expect("job A keeps the record rules");
     let plan = plan_of(WIPING_STATION);
-    let sheet = sheet_of(&plan, &table_of(&plan));
+    let sheet = sheet_of(&plan, &table_of(&plan, Edition::Basic));
     vec![
         stored("docs/examples/job-a.plan.txt", printed),
         stored("docs/examples/wiping-station.plan", plan),

@@ -1,17 +1,25 @@
 //! The vectors of the requests: plans whose tables are made, and tables that are checked.
 
 use super::cases::{Case, checked, made};
-use crate::vectors::{REQUESTS, named};
+use crate::vectors::{ASK_04, REQUESTS, named};
 
+/// Called by the comment in front of each; request 4's have a file of their own.
 pub fn all() -> Vec<Case> {
-    REQUESTS.iter().flat_map(|text| named(text)).filter_map(case).collect()
+    let others = REQUESTS.iter().filter(|text| **text != ASK_04);
+    let called = |line: [&str; 3]| case(line).map(|case| case.called(line[0]));
+    others.flat_map(|text| named(text)).filter_map(called).collect()
 }
 
-/// Called by the comment in front of it. Histories are not stored: no station is played.
-fn case([comment, word, given]: [&str; 3]) -> Option<Case> {
+/// Request 4's, which have no names.
+pub fn editions() -> Vec<Case> {
+    named(ASK_04).into_iter().filter_map(case).collect()
+}
+
+/// Histories are not stored: no station is played.
+fn case([_, word, given]: [&str; 3]) -> Option<Case> {
     match word {
-        "make" => Some(made(given).called(comment)),
-        "check" => Some(checked(given).called(comment)),
+        "make" => Some(made(given)),
+        "check" => Some(checked(given)),
         _ => None,
     }
 }

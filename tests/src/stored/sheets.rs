@@ -2,10 +2,11 @@
 
 use super::{Stored, stored};
 use crate::generate::{Made, job_a};
-use crate::{LONGEST_SHEET, sheet};
+use crate::{Edition, LONGEST_SHEET, sheet};
 
 pub fn all() -> Vec<Stored> {
-    let Made { plan, mut table, .. } = Made::of(&job_a().bytes()).expect("job A is made");
+    let Made { plan, mut table, .. } =
+        Made::of(&job_a().bytes(), Edition::Basic).expect("job A is made");
     let passed = sheet_of(&plan, &table.bytes());
     (table.data[0].start, table.data[0].stop) = (999, 1_095);
     let early = table.bytes();

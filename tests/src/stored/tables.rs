@@ -2,9 +2,9 @@
 
 use super::cases::{Case, checked};
 use super::jobs;
-use crate::MOST_FRAMES;
 use crate::generate::{Made, Rng, check_case, job_a};
 use crate::vectors::CHECK;
+use crate::{Edition, MOST_FRAMES};
 
 const SEED: u64 = 5;
 const SEEDED: usize = 60;
@@ -21,7 +21,8 @@ pub fn all() -> Vec<Case> {
 
 /// Job A's table cut, grown and with each byte changed; too few rows, and more than enough.
 fn damaged() -> Vec<Case> {
-    let Made { plan, table, .. } = Made::of(&job_a().bytes()).expect("job A is made");
+    let Made { plan, table, .. } =
+        Made::of(&job_a().bytes(), Edition::Basic).expect("job A is made");
     let table = table.bytes();
     let mut cases = Vec::new();
     for rows in [MOST_FRAMES, MOST_FRAMES - 1, 256, 255, 0, MOST_FRAMES + 1] {
@@ -39,6 +40,6 @@ fn damaged() -> Vec<Case> {
 }
 
 fn seeded(rng: &mut Rng) -> Case {
-    let case = check_case(rng);
+    let case = check_case(rng, Edition::Basic);
     Case::check(&case.plan, &case.table, case.rows)
 }

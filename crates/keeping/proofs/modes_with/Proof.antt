@@ -7,17 +7,18 @@ use Rattle.keeping.proofs.modes_with.Statement.{statement}
 use Rattle.keeping.proofs.modes_with.Tie as tie
 
 abbrev Inv-loop : tie.InvT-loop
-Inv-loop runs task deadline bits₀ left₀ bits left = Built (hasMessage runs task deadline) left bits
+Inv-loop runs counts periods task deadline bits₀ left₀ bits left = Built (hasMessage runs counts periods task deadline) left bits
 
 abbrev μ-loop : tie.MeasureT-loop
-μ-loop runs task deadline bits₀ left₀ bits left = left
+μ-loop runs counts periods task deadline bits₀ left₀ bits left = left
 
 loop-holds : tie.Need-loop-holds Inv-loop μ-loop
 loop-holds c = built-none
 
 has-message-requires : tie.Need-has-message-requires Inv-loop μ-loop
 has-message-requires c κs =
-    (c .before .before .pre, omega (arith, c .before .loop .inv .few, c .loop-test .taken))
+    let start = c .before .before in
+    (start .pre .0, omega (arith, c .before .loop .inv .few, c .loop-test .taken), start .pre .1)
 
 with-bit-requires : tie.Need-with-bit-requires Inv-loop μ-loop
 with-bit-requires c κs = built-room (c .before .before .loop .inv) (c .before .loop-test .taken)

@@ -9,10 +9,10 @@ use Rattle.keeping.proofs.pair_modes.Statement.{statement}
 use Rattle.keeping.proofs.pair_modes.Tie as tie
 
 abbrev Inv-loop : tie.InvT-loop
-Inv-loop runs pairs tasks deadlines modes₀ q₀ modes q = (q ≤ pairs) × Filled (replicate mostFrames 0) (modesAt runs tasks deadlines) q modes
+Inv-loop runs counts periods pairs tasks deadlines modes₀ q₀ modes q = (q ≤ pairs) × Filled (replicate mostFrames 0) (modesAt runs counts periods tasks deadlines) q modes
 
 abbrev μ-loop : tie.MeasureT-loop
-μ-loop runs pairs tasks deadlines modes₀ q₀ modes q = pairs - q
+μ-loop runs counts periods pairs tasks deadlines modes₀ q₀ modes q = pairs - q
 
 loop-holds : tie.Need-loop-holds Inv-loop μ-loop
 loop-holds c = (search needs, filled-none)

@@ -9,20 +9,20 @@ of-plan-requires c κs =
     let c1 = c .before .before .before in
     let c2 = c1 .before .before in
     let start = c2 .before .before in
-    (sound-kept (start .args .s .now) (c2 .read .result) (c2 .read .ensures) (c1 .enum-told .given .1), start .pre)
+    (sound-kept (start .args .consumers) (start .args .s .now) (c2 .read-in .result) (c2 .read-in .ensures) (c1 .enum-told .given .1), start .pre)
 
 returns : tie.Need-returns
 returns c =
     let c1 = c .before .before .before .before in
     let c2 = c1 .before .before in
-    sound-laid (c2 .before .before .args .s .now) (c2 .read .result) (c2 .read .ensures) _ (c1 .enum-told .given .1)
+    sound-laid (c2 .before .before .args .consumers) (c2 .before .before .args .s .now) (c2 .read-in .result) (c2 .read-in .ensures) _ (c1 .enum-told .given .1)
     (c .of-plan .ensures)
 
 returns-2 : tie.Need-returns-2
 returns-2 c =
     let c1 = c .before .before .before .before in
     let start = c1 .before .before in
-    refused-laid (start .args .s .now) (c1 .read .result) (c1 .read .ensures) _ _
+    refused-laid (start .args .consumers) (start .args .s .now) (c1 .read-in .result) (c1 .read-in .ensures) _ _
     (c .before .before .answer .given .1) (c .refused .ensures) (start .pre)
 
 pub lay-out-spec : {M : Type 1} → statement M

@@ -22,7 +22,7 @@ part-number-in-end c =
 
 returns : tie.Need-returns
 unfolding takenAt
-returns c = rw (← c .before .before .next-word .ensures, c .enum-told .given .1)
+returns c = rw (← c .before .before .before .next-word .ensures, c .before .enum-told .given .1) (c .missing .ensures)
 
 returns-2 : tie.Need-returns-2
 unfolding takenAt
@@ -40,5 +40,5 @@ returns-3 c =
 pub number-at-spec : {M : Type 1} → statement M
 number-at-spec =
     tie.close
-    (tie.spec (λ c κs. search needs) (λ c. search needs) (λ c. search needs) sub-number-in part-number-in-start part-number-in-end
+    (tie.spec (λ c κs. search needs) (λ c. search needs) (λ c κs. search needs) (λ c. search needs) sub-number-in part-number-in-start part-number-in-end
     (λ c κs. search needs) (λ c. search needs) (λ c. search needs) returns returns-2 returns-3)

@@ -1,4 +1,4 @@
--- Five forms, each by its own test; `numberIn` computes once the form is known.
+-- Six forms, each by its own test; `numberIn` computes once the form is known.
 use Rattle.sheet.specs.Back.{numberIn}
 use borrow.Author.Needs.{needs}
 use Rattle.sheetreader.proofs.number_in.Statement.{statement}
@@ -24,11 +24,15 @@ returns-4 c = rw (c .before .before .enum-told3 .given .1, ← c .before .unsign
 
 returns-5 : tie.Need-returns-5
 unfolding numberIn
-returns-5 c = rw (c .enum-told4 .given .1)
+returns-5 c = rw (c .before .before .enum-told4 .given .1) (c .literal3 .ensures)
+
+returns-6 : tie.Need-returns-6
+unfolding numberIn
+returns-6 c = rw (c .enum-told5 .given .1)
 
 pub number-in-spec : {M : Type 1} → statement M
 number-in-spec =
     tie.close
     (tie.spec (λ c. search needs) (λ c. search needs) (λ c κs. search needs) (λ c. search needs) (λ c. search needs) (λ c κs. search needs)
     (λ c. search needs) (λ c κs. search needs) (λ c κs. search needs) (λ c. search needs) (λ c κs. search needs) (λ c κs. search needs)
-    (λ c. search needs) returns returns-2 returns-3 returns-4 returns-5)
+    (λ c. search needs) (λ c. search needs) (λ c κs. search needs) (λ c. search needs) returns returns-2 returns-3 returns-4 returns-5 returns-6)

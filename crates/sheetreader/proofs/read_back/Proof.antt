@@ -1,5 +1,6 @@
 -- Two cases of what was gathered: a line that cannot be read (`unreadable-back`), or the table of what was read (`sheet-back`).
 use mathlib.Core.Path.{refl}
+use mathlib.Core.Bool.{false}
 use denote.Ref.{now}
 use Rattle.sheetreader.specs.Memory.{laid}
 use Rattle.sheetreader.proofs.Bytes.{sheet-back, sheet-few, unreadable-back}
@@ -27,7 +28,7 @@ returns c =
     let c2 = c1 .before .before .before .before .before .before .before .before .before .before in
     let g = c1 .gather in
     let l = g .last .1 in
-    let m = laid (record { stage = 0; period = record { 0 = 0 }; controls = 0; rows = 0 }) (l .0) (l .1 .0) (l .1 .1 .0) (l .1 .1 .1 .0)
+    let m = laid (record { stage = 0; consumers = false; period = record { 0 = 0 }; controls = 0; rows = 0 }) (l .0) (l .1 .0) (l .1 .1 .0) (l .1 .1 .1 .0)
     (l .1 .1 .1 .1 .0) (l .1 .1 .1 .1 .1 .0) (l .1 .1 .1 .1 .1 .1 .0) in
     let text = now (c2 .args .text) in
     rw (← unreadable-back m text (g .ensures) (c .before .read .given .1)) (refl, refl)

@@ -24,6 +24,7 @@ put-datas-requires c κs = (
 )
 
 returns : tie.Need-returns
+unfolding seen
 returns c =
     let a = c .before .before .before .before .before .before .before .before .before .before .before .before .before .before .before .before .before .before .before .before .before .before .before .before .before .before .before .args in (
       sheet-put (seen (a .p)) _ _ _ _ _ _ _ _ _ _ _ _ _

@@ -1,4 +1,4 @@
--- Each of the 28 arms is told which case `self` is, with the place bound; `count` and `place` promise the rest.
+-- Each of the 29 arms is told which case `self` is, with the place bound; `count` and `place` promise the rest.
 use borrow.Author.Needs.{needs}
 use Rattle.answers.proofs.Refusal.place.Statement.{statement}
 use Rattle.answers.proofs.Refusal.place.Tie as tie
@@ -87,6 +87,9 @@ returns-27 c = rw (c .before .before .self19 .given .1, c .place4 .ensures)
 returns-28 : tie.Need-returns-28
 returns-28 c = rw (c .before .before .self20 .given .1, c .place5 .ensures)
 
+returns-29 : tie.Need-returns-29
+returns-29 c = rw (c .before .self21 .given .1)
+
 pub place-spec : {M : Type 1} → statement M
 place-spec =
     tie.close
@@ -95,6 +98,6 @@ place-spec =
     (λ c. search needs) (λ c. search needs) (λ c κs. search needs) (λ c. search needs) (λ c. search needs) (λ c. search needs)
     (λ c. search needs) (λ c. search needs) (λ c. search needs) (λ c. search needs) (λ c. search needs) (λ c. search needs)
     (λ c. search needs) (λ c. search needs) (λ c κs. search needs) (λ c. search needs) (λ c κs. search needs) (λ c. search needs)
-    (λ c κs. search needs) (λ c. search needs) (λ c κs. search needs) (λ c. search needs) (λ c κs. search needs) returns returns-2 returns-3 returns-4
+    (λ c κs. search needs) (λ c. search needs) (λ c κs. search needs) (λ c. search needs) (λ c κs. search needs) (λ c. search needs) (λ c. search needs) returns returns-2 returns-3 returns-4
     returns-5 returns-6 returns-7 returns-8 returns-9 returns-10 returns-11 returns-12 returns-13 returns-14 returns-15 returns-16
-    returns-17 returns-18 returns-19 returns-20 returns-21 returns-22 returns-23 returns-24 returns-25 returns-26 returns-27 returns-28)
+    returns-17 returns-18 returns-19 returns-20 returns-21 returns-22 returns-23 returns-24 returns-25 returns-26 returns-27 returns-28 returns-29)

@@ -7,17 +7,17 @@ use lib.ListN.{length, getD, take}
 use lib.Seq.{take-all}
 use Rattle.plan.specs.Memory.{seen, modeSeen, modeLaid}
 use Rattle.rules.specs.Plan.{noMode}
-use Rattle.rules.specs.Traffic.{switchGrid}
 use Rattle.bus.proofs.Things.{mode-here}
-use Rattle.bus.proofs.Multiples.{gridAmong, grid-turn}
+use Rattle.bus.specs.Period.{gridAmong, gridMarked}
+use Rattle.bus.proofs.Multiples.{grid-turn}
 use Rattle.bus.proofs.period.switch_grid.Statement.{statement}
 use Rattle.bus.proofs.period.switch_grid.Tie as tie
 
 abbrev Inv-loop : tie.InvT-loop
-Inv-loop p sending n grid₀ i₀ grid i = (i ≤ n) × (grid .0 ≡ gridAmong (seen p) (take i (seen p .modes)))
+Inv-loop p marks n grid₀ i₀ grid i = (i ≤ n) × (grid .0 ≡ gridAmong marks (take i (seen p .modes)))
 
 abbrev μ-loop : tie.MeasureT-loop
-μ-loop p sending n grid₀ i₀ grid i = n - i
+μ-loop p marks n grid₀ i₀ grid i = n - i
 
 loop-holds : tie.Need-loop-holds Inv-loop μ-loop
 unfolding gridAmong
@@ -31,13 +31,13 @@ loop-again c =
     let l = c1 .loop in
     let h : l .i < length (q .modes) = omega arith in (
       omega arith,
-      grid-turn q (q .modes) (l .i) (modeSeen (getD (c1 .before .before .args .t1 .modes) (l .i) (modeLaid noMode))) h
+      grid-turn (c1 .before .before .args .t2) (q .modes) (l .i) (modeSeen (getD (c1 .before .before .args .t1 .modes) (l .i) (modeLaid noMode))) h
           (mode-here (c1 .before .before .args .t1) (l .i) h)
-          (c .before .place .result) (c1 .before .before .pre) (omega arith) (c .before .place .ensures .0) (l .inv .1) (c .with-mode .ensures),
+          (c .before .place .ensures .0) (l .inv .1) (c .with-mode .ensures),
     )
 
 returns : tie.Need-returns Inv-loop μ-loop
-unfolding switchGrid gridAmong
+unfolding gridMarked
 returns c =
     let c1 = c .before .before .before in
     let q = seen (c1 .args .t1) in

@@ -1,4 +1,4 @@
--- The test decides the `cond`; where the mode's module sends, the promises of both `gcd` calls are rewritten.
+-- The test decides the `cond`; where the mode counts, the promises of both `gcd` calls are rewritten.
 use borrow.Author.Needs.{needs}
 use mathlib.Core.Path.{_∙_}
 use Rattle.bus.proofs.period.with_mode.Statement.{statement}

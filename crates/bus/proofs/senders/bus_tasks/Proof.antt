@@ -10,7 +10,7 @@ use Rattle.rules.specs.Plan.{noConnection}
 use Rattle.rules.specs.Traffic.{isBusTask}
 use Rattle.bus.specs.Senders.{byNumber, invokedBy, busTaskBy}
 use Rattle.bus.proofs.Things.{connection-here}
-use Rattle.bus.proofs.Marks.{bus-tasks-none, bus-tasks-turn}
+use Rattle.bus.proofs.Turns.{bus-tasks-none, bus-tasks-turn}
 use borrow.Author.Needs.{needs}
 use Rattle.bus.proofs.senders.bus_tasks.Statement.{statement}
 use Rattle.bus.proofs.senders.bus_tasks.Tie as tie

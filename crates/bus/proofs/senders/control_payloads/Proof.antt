@@ -7,7 +7,7 @@ use Rattle.plan.specs.Memory.{seen}
 use Rattle.rules.specs.Plan.{Plan}
 use Rattle.rules.specs.Traffic.{isSending, moduleNode, sendersOn, controlPayload}
 use Rattle.bus.specs.Senders.{byNumber, payloadBy}
-use Rattle.bus.proofs.Marks.{payloads-none, payloads-turn, payload-fits}
+use Rattle.bus.proofs.Turns.{payloads-none, payloads-turn, payload-fits}
 use borrow.Author.Needs.{needs}
 use Rattle.bus.proofs.senders.control_payloads.Statement.{statement}
 use Rattle.bus.proofs.senders.control_payloads.Tie as tie

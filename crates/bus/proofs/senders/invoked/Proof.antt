@@ -10,7 +10,7 @@ use Rattle.plan.specs.declared.Plan.{Plan}
 use Rattle.rules.specs.Plan.{noInvocation}
 use Rattle.bus.specs.Senders.{byNumber, invokedBy}
 use Rattle.bus.proofs.Things.{invocation-here}
-use Rattle.bus.proofs.Marks.{invoked-none, invoked-more}
+use Rattle.bus.proofs.Turns.{invoked-none, invoked-more}
 use Rattle.bus.proofs.senders.invoked.Statement.{statement}
 use Rattle.bus.proofs.senders.invoked.Tie as tie
 

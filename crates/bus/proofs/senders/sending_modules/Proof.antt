@@ -7,7 +7,7 @@ use Rattle.plan.specs.Memory.{seen}
 use Rattle.rules.specs.Plan.{Plan}
 use Rattle.rules.specs.Traffic.{busTasks, isBusTask, isSending}
 use Rattle.bus.specs.Senders.{byNumber, taskHome, sendingBy}
-use Rattle.bus.proofs.Marks.{sending-none, sending-turn}
+use Rattle.bus.proofs.Turns.{sending-none, sending-turn}
 use borrow.Author.Needs.{needs}
 use Rattle.bus.proofs.senders.sending_modules.Statement.{statement}
 use Rattle.bus.proofs.senders.sending_modules.Tie as tie

@@ -10,7 +10,7 @@ use Rattle.rules.specs.Plan.{Plan}
 use Rattle.rules.specs.Traffic.{moduleNode, taskNode}
 use Rattle.bus.specs.Senders.{byNumber, taskHome}
 use Rattle.bus.proofs.Tables.{filled}
-use Rattle.bus.proofs.Marks.{node-there, node-behind}
+use Rattle.bus.proofs.Turns.{node-there, node-behind}
 use borrow.Author.Needs.{needs}
 use Rattle.bus.proofs.senders.task_nodes.Statement.{statement}
 use Rattle.bus.proofs.senders.task_nodes.Tie as tie

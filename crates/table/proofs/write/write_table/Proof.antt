@@ -15,7 +15,7 @@ returns c =
     let c3 = c2 .before .before .before .before in
     let c4 = c3 .before .before .before in
     let a = c4 .args in
-    table-put (a .buf .now) (a .period .0) (a .controls) (a .rows) (controlIn (a .control-nodes .now) (a .control-starts .now) (a .control-stops .now))
+    table-put (a .buf .now) (a .head) (a .period .0) (a .controls) (a .rows) (controlIn (a .control-nodes .now) (a .control-starts .now) (a .control-stops .now))
     (dataIn (a .row-tasks .now) (a .row-deadlines .now) (a .row-starts .now) (a .row-stops .now)) (c3 .put-header .ensures)
     (c2 .put-controls .ensures) (c1 .put-rows .ensures) (c .before .before .put8 .ensures)
 

@@ -1,4 +1,4 @@
--- Invariant: the columns hold the runs of the first i invocations (`Laid`); a bus task is `laid-more`, another `laid-kept`.
+-- Invariant: the columns hold the runs of the first i invocations (`Laid`); a marked task is `laid-more`, another `laid-kept`.
 use borrow.Author.Needs.{needs}
 use mathlib.Core.Path.{refl}
 use mathlib.Core.Logic.{⊎-elim}
@@ -6,31 +6,30 @@ use native.Mathlib.Omega.{arith}
 use Prim.Native.Nat.{_≤_, _<_, _-_}
 use lib.ListN.{length, getD, take}
 use Rattle.plan.specs.Memory.{seen}
-use Rattle.bus.specs.Runs.{runsAmong}
+use Rattle.bus.specs.Runs.{runsAmong, runsMarked}
 use lib.Seq.{take-all}
 use Rattle.plan.specs.Memory.{invocationSeen, invocationLaid}
-use Rattle.rules.specs.Traffic.{busRuns}
 use Rattle.bus.proofs.Things.{invocation-here}
 use Rattle.rules.specs.Plan.{noInvocation}
-use Rattle.bus.proofs.Columns.{among-few, bus-task-is, period-is, worst-is}
+use Rattle.bus.proofs.Columns.{among-few, mark-is, period-is, worst-is}
 use Rattle.bus.proofs.Columns.{Laid, laid-none, laid-few, laid-more, laid-kept, laid-is}
 use Rattle.bus.proofs.runs.Runs.of.Statement.{statement}
 use Rattle.bus.proofs.runs.Runs.of.Tie as tie
 
 abbrev Inv-loop : tie.InvT-loop
-Inv-loop p bus n lasting times modes₀ tasks₀ periods₀ worsts₀ count₀ i₀ modes tasks periods worsts count i = (i ≤ n) × Laid (runsAmong (seen p) (take i (seen p .invocations))) count modes tasks periods worsts
+Inv-loop p marks n lasting times modes₀ tasks₀ periods₀ worsts₀ count₀ i₀ modes tasks periods worsts count i = (i ≤ n) × Laid (runsAmong (seen p) marks (take i (seen p .invocations))) count modes tasks periods worsts
 
 abbrev μ-loop : tie.MeasureT-loop
-μ-loop p bus n lasting times modes₀ tasks₀ periods₀ worsts₀ count₀ i₀ modes tasks periods worsts count i = n - i
+μ-loop p marks n lasting times modes₀ tasks₀ periods₀ worsts₀ count₀ i₀ modes tasks periods worsts count i = n - i
 
 few : (c : tie.In-loop Inv-loop μ-loop) → c .before .loop .count ≤ c .before .loop .i
 few c =
     let q = seen (c .before .before .before .before .before .args .t1) in
     let l = c .before .loop in
-    laid-few q (q .invocations) (l .i) (l .count) (l .modes) (l .tasks) (l .periods) (l .worsts) (omega arith) (l .inv .1)
+    laid-few q (c .before .before .before .before .before .args .t2) (q .invocations) (l .i) (l .count) (l .modes) (l .tasks) (l .periods) (l .worsts) (omega arith) (l .inv .1)
 
 loop-holds : tie.Need-loop-holds Inv-loop μ-loop
-loop-holds c = (search needs, laid-none (seen (c .before .before .before .args .t1)))
+loop-holds c = (search needs, laid-none (seen (c .before .before .before .args .t1)) (c .before .before .before .args .t2))
 
 array-write-modes : tie.Need-array-write-modes Inv-loop μ-loop
 array-write-modes c = omega (arith, few (c .before .before .before))
@@ -58,6 +57,7 @@ unfolding invocationSeen invocationLaid
 loop-again c =
     let s = c .before .before .before .before .before .before .before in
     let q = seen (s .args .t1) in
+    let marks = s .args .t2 in
     let l = c .before .before .before .loop in
     let is = q .invocations in
     let h : l .i < length is = omega arith in
@@ -69,26 +69,27 @@ loop-again c =
     (λ w. (
       omega arith,
       rw (w .3, w .4, w .5, w .6, w .7)
-          (laid-more q is (l .i) (l .count) (l .modes) (l .tasks) (l .periods) (l .worsts) h (l .inv .1) e (bus-task-is q x t (s .pre) (omega arith) u (w .0 .taken)) refl refl
+          (laid-more q marks is (l .i) (l .count) (l .modes) (l .tasks) (l .periods) (l .worsts) h (l .inv .1) e (mark-is x marks u (w .0 .taken)) refl refl
           (period-is q x (w .1 .result) (c .before .before .before .before .before .mode-periods .ensures) (omega arith) (w .1 .ensures .0) (w .2 .ensures))
           (worst-is q x t (c .before .before .before .before .task-worsts .ensures) (omega arith) u)),
     ))
     (λ w. (
       omega arith,
       rw (w .1, w .2, w .3, w .4, w .5)
-          (laid-kept q is (l .i) (l .count) (l .modes) (l .tasks) (l .periods) (l .worsts) h (l .inv .1) e (bus-task-is q x t (s .pre) (omega arith) u (w .0 .left))),
+          (laid-kept q marks is (l .i) (l .count) (l .modes) (l .tasks) (l .periods) (l .worsts) h (l .inv .1) e (mark-is x marks u (w .0 .left))),
     ))
     (c .if1 .came)
 
 returns : tie.Need-returns Inv-loop μ-loop
-unfolding busRuns runsAmong
+unfolding runsMarked
 returns c =
     let q = seen (c .before .before .before .before .before .args .t1) in
+    let runs = runsMarked q (c .before .before .before .before .before .args .t2) in
     let l = c .before .loop in
     let w : length (q .invocations) ≤ l .i = omega arith in
-    let h : Laid (busRuns q) (l .count) (l .modes) (l .tasks) (l .periods) (l .worsts) = rw (take-all (l .i) (q .invocations) w) at (l .inv .1) in
-    let k : length (busRuns q) ≤ length (q .invocations) = among-few q (q .invocations) in
-    (laid-is (busRuns q) _ h, omega (arith, h .counted))
+    let h : Laid runs (l .count) (l .modes) (l .tasks) (l .periods) (l .worsts) = rw (take-all (l .i) (q .invocations) w) at (l .inv .1) in
+    let k : length runs ≤ length (q .invocations) = among-few q (c .before .before .before .before .before .args .t2) (q .invocations) in
+    (laid-is runs _ h, omega (arith, h .counted))
 
 pub of-spec : {M : Type 1} → statement M
 of-spec =

@@ -9,21 +9,21 @@ use lib.Dec.{eqb}
 use lib.ListN.{length, getD, set, take, replicate, length-append, List·getD-eq-default}
 use Prim.Native.Nat.{ℕ, _+_, _≤_, _<_}
 use Rattle.laws.specs.Lists.{consIf, keep, any, upTo}
-use Rattle.laws.proofs.Lists.{any-more, any-append, keep-upTo-more, length-keep, length-upTo}
+use Rattle.laws.proofs.Lists.{and-true, or-false, any-more, any-append, keep-upTo-more, length-keep, length-upTo}
 use Rattle.rules.specs.Plan.{Plan, Task, Invocation, Connection, noTask, noInvocation, noConnection, theTask}
 use Rattle.rules.specs.Traffic.{invokes, leaves, taskNode, isBusTask, isSending, livesIn, standsOn, moduleNode}
 use Rattle.bus.specs.Senders.{byNumber, taskHome, invokedBy, busTaskBy, sendingBy, payloadBy}
 use Rattle.bus.proofs.Tables.{stored, all-alike, at-number}
 
-or-false : (b : Bool) → (b || false) ≡ b
-or-false true = refl
-or-false false = refl
+pub and-false : (b : Bool) → (b && false) ≡ false
+and-false true = refl
+and-false false = refl
 
-or-true : (b : Bool) → (b || true) ≡ true
+pub or-true : (b : Bool) → (b || true) ≡ true
 or-true true = refl
 or-true false = refl
 
-other : (k j : ℕ) → (j ≡ k → ⊥) → eqb k j ≡ false
+pub other : (k j : ℕ) → (j ≡ k → ⊥) → eqb k j ≡ false
 other k j n = ne-eqb k j (λ e. n (sym e))
 
 -- ---- invoked tasks
@@ -48,10 +48,6 @@ module _ (l : List Invocation) (i : ℕ) (k : ℕ) where
 pub bus-tasks-none : (p : Plan) → replicate 256 false ≡ byNumber (busTaskBy p [])
 unfolding busTaskBy
 bus-tasks-none p = all-alike (busTaskBy p []) false (λ k. and-false (invokedBy (p .invocations) k))
-  where
-    and-false : (b : Bool) → (b && false) ≡ false
-    and-false true = refl
-    and-false false = refl
 
 -- what one connection adds at its producer
 abbrev pub leaving : Plan → ℕ → ℕ → Bool
@@ -95,14 +91,6 @@ module _ (p : Plan) (t : ℕ) where
     where
       k : ℕ
       k = theTask p t .home
-
-      and-false : (b : Bool) → (b && false) ≡ false
-      and-false true = refl
-      and-false false = refl
-
-      and-true : (b : Bool) → (b && true) ≡ b
-      and-true true = refl
-      and-true false = refl
 
       one : (j : ℕ) → sendingBy p (t + 1) j ≡ (sendingBy p t j || (isBusTask p t && eqb k j))
       one j =
