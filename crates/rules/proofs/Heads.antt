@@ -70,8 +70,3 @@ pub edition-of : (consumers : Bool) (rest : List ℕ) → isForConsumers (headKi
 unfolding isForConsumers headKind
 edition-of false rest = refl
 edition-of true rest = refl
-
-pub head-edition : {head : ℕ} → IsHead head → (rest : List ℕ) → headKind (isForConsumers (head ∷ rest)) ≡ head
-unfolding isForConsumers headKind
-head-edition basicHead rest = refl
-head-edition consumersHead rest = refl

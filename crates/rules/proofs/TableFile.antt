@@ -22,9 +22,9 @@ use Rattle.rules.specs.Plan.{nth, isKind, zeroRecord, things}
 use Rattle.rules.specs.Frames.{ControlRow}
 use Rattle.rules.specs.Obeys.{AreRecords, theEnd, oneMore}
 use Rattle.rules.specs.Table.{encoded, recordBytes, DataRow, headerBytes, controlBytes, dataBytes, tableOfRows}
-use Rattle.rules.specs.Checker.{controlRowOf, dataRowOf, headOf, isForConsumers}
+use Rattle.rules.specs.Checker.{controlRowOf, dataRowOf, headOf}
 use Rattle.rules.proofs.RecordsExact.{records-exact}
-use Rattle.rules.proofs.Heads.{IsHead, basicHead, consumersHead, head-means, head-fields, no-row, head-read, head-edition}
+use Rattle.rules.proofs.Heads.{IsHead, basicHead, consumersHead, head-means, head-fields, no-row, head-read}
 use Rattle.rules.proofs.TableBytes.{Fit, fit-none, fit, ControlFits, DataFits}
 
 -- ---- one body
@@ -296,8 +296,3 @@ module _ {file : List ℕ} {rs : List Rec} (f : FileIs file rs) (controls : cont
       f .is
       ∙ ap₂ (λ (n m : ℕ). headerBytes (kindOfHead rs) (periodOfHead rs) n m
       ++ (joined (map controlBytes (controlOf rs)) ++ (joined (map dataBytes (datasOf rs)) ++ (0 ∷ [])))) controls datas
-
--- the head is of the file's edition
-pub file-head : {file : List ℕ} {rs : List Rec} → FileIs file rs → headKind (isForConsumers file) ≡ kindOfHead rs
-unfolding headerBytes recordBytes
-file-head f = rw (f .is) (head-edition (f .isHead) _)
