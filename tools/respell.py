@@ -14,7 +14,7 @@ import os
 import re
 import sys
 
-TOKEN = re.compile(r"[A-Za-z_][\w\-'₀-₉²]*")
+TOKEN = re.compile(r"(?<![\w'])[A-Za-z_][\w\-'₀-₉²]*")
 DECLARED = re.compile(r"^(\s*)(?:unfoldable |abbrev )?(pub )?(?:unfoldable |abbrev )?([a-z][\w\-'₀-₉]*) :(?!:)")
 # Lemmas whose names would be those of the definitions that they speak of.
 LEMMAS = "by_end goes_on head_in held_by last_row load_rule no_place one_more pairs_of read_at row_from run_ends run_on some_at stored_on".split()

@@ -1,4 +1,5 @@
 // Checks a table file by a plan file, both named on the command line, and writes one line: `passed`, `refused N at P`, or `too long`.
+#![tactic(auto)]
 ghost use Rattle.std.specs.Prelude.{◌≡◌, ◌≤◌, length};
 ghost use Rattle.std.proofs.lemmas.List.Edits.{sets};
 ghost use Rattle.io.specs.Counts.{IsPrefixLen};

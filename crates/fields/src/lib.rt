@@ -1,6 +1,7 @@
 // The fields of each kind of record (rule 2.4): its kind, where in the body each number begins, and how long the body is. A number
 // begins where the one before it ends. Whoever reads or writes a body takes these from here; its contract says them by
 // `Records.fields`, so that a wrong one is refused there.
+#![tactic(auto)]
 
 // How many bytes a number takes.
 const U8: usize = 1;

@@ -1,5 +1,6 @@
 // A history is heard: each line is read as soon as it has come, what it says is done, and its answer is written to standard output
 // (docs/HISTORY.md). No contract can say what a write writes; what is written is pinned where it is put into a buffer.
+#![tactic(auto)]
 ghost use Rattle.std.specs.Prelude.{true, cond, leb, ◌≡◌, ◌≤◌, drop, length, take};
 ghost use Rattle.std.proofs.lemmas.List.Edits.{sets};
 ghost use Rattle.rules.specs.Station as rules;

@@ -1,4 +1,5 @@
 // Input as the programs take it: an open file or a named one, read into a lent buffer until that is full or the input ends.
+#![tactic(auto)]
 ghost use Rattle.std.specs.Prelude.{◌≡◌, length, take};
 ghost use Rattle.input.specs.Room.{zeros};
 ghost use Rattle.input.specs.Within.{Further, Within};

@@ -45,6 +45,7 @@ module _ {A : Type 0} where
     pub all_member : {l : List A} {x : A} → All P l → Memᴰ x l → P x
     all_member (also p r) (mathlib.Core.List.Memᴰ.head e) = subst P (sym e) p
     all_member (also p r) (mathlib.Core.List.Memᴰ.tail m) = all_member r m
+    all_member empty x6 = elim x6 [ ]
 
     pub all_of_members : (l : List A) → ((x : A) → Memᴰ x l → P x) → All P l
     all_of_members [] h = empty
@@ -243,6 +244,7 @@ module _ {A B : Type 0} (f : A → B) where
   pub source : (l : List A) {y : B} → Memᴰ y (map f l) → Source f l y
   source (x ∷ l) (mathlib.Core.List.Memᴰ.head e) = record { one = x; among = mathlib.Core.List.Memᴰ.head refl; gives = sym e }
   source (x ∷ l) (mathlib.Core.List.Memᴰ.tail m) = source_later (source l m)
+  source [] {y = y} x' = elim x' [ ]
 
   pub member_map : {x : A} {l : List A} → Memᴰ x l → Memᴰ (f x) (map f l)
   member_map (mathlib.Core.List.Memᴰ.head e) = mathlib.Core.List.Memᴰ.head (ap f e)

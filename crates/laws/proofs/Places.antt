@@ -27,6 +27,7 @@ module _ {A : Type 0} where
   pub member_joined : {x : A} {l : List A} (ls : List (List A)) → Memᴰ x l → Memᴰ l ls → Memᴰ x (joined ls)
   member_joined {x} (m ∷ ls) i (Memᴰ.head e) = Memᴰ.append_left (joined ls) (subst (Memᴰ x) e i)
   member_joined (m ∷ ls) i (Memᴰ.tail j) = Memᴰ.append_right m (member_joined ls i j)
+  member_joined {x = x} {l = l} mathlib.Core.List.[] i x3 = elim x3 [ ]
 
   pub pairs-tab : {R : A → A → Type 0} (f : ℕ → A) (lo n : ℕ) → ((j k : ℕ) → lo ≤ j → j < k → k < lo + n → R (f j) (f k)) → Pairs R (tab f lo n)
   pairs-tab f lo zero h = alone

@@ -1,5 +1,6 @@
 // What every program does alike: its first look at the arguments, the write of its answer, messages on standard error, and the number that
 // it ends with. Nothing here says which bytes were read or written: C does that.
+#![tactic(auto)]
 ghost use Rattle.std.specs.Prelude.{length, ◌++◌, ◌≡◌, ◌+◌, ◌≤◌};
 ghost use Rattle.std.proofs.lemmas.List.Edits.{sets};
 ghost use Rattle.io.specs.Counts.{IsPrefixLen};

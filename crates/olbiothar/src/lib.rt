@@ -3,6 +3,7 @@
 // No function has a precondition; an answer is a number and a place, for C has no enums that carry values.
 // The lent frame rows are a slice of structs, and a tick changes a lent station in place. The prover's walk covers no function over a
 // reference to a struct, so these are thin: covered functions answer by value, and the passes of `rows` bring it into the lent rows.
+#![tactic(auto)]
 mod texts;
 
 ghost use Rattle.std.specs.Prelude.{◌≡◌};

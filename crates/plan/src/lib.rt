@@ -1,4 +1,5 @@
 // A plan in memory: flat, by value, arrays of structs with counts.
+#![tactic(auto)]
 ghost use Rattle.std.specs.Prelude.{◌≡◌};
 ghost use Rattle.plan.specs.Memory.{empty_plan};
 

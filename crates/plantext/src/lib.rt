@@ -1,4 +1,5 @@
 // Reads a plan from standard input and writes it as text, or one line: `refused 1 at P`, or `too long`.
+#![tactic(auto)]
 ghost use Rattle.std.specs.Prelude.{◌≡◌, ◌≤◌, ◌<◌, length};
 ghost use Rattle.std.proofs.lemmas.List.Edits.{sets};
 ghost use Rattle.io.specs.Counts.{IsPrefixLen};

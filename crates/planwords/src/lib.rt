@@ -1,5 +1,6 @@
 // A plan as text: the words of its lines, what each kind of record has in its line, and why a line cannot be read. What is printed and what is
 // read are definitions (specs/PlanText.antt, specs/TextPlan.antt), and the theorems about them stand here; the crates above write and read.
+#![tactic(auto)]
 
 // The words of the lines, in the order in which the kinds have them.
 #[derive(Drop)]

@@ -1,5 +1,6 @@
 // Plays a history, which comes on standard input, on a station that begins with a plan file and a table file, both named on the command
 // line, and answers each line when it has come (docs/HISTORY.md).
+#![tactic(auto)]
 ghost use Rattle.std.specs.Prelude.{◌≡◌, ◌≤◌, length};
 ghost use Rattle.std.proofs.lemmas.List.Edits.{sets};
 ghost use Rattle.io.specs.Counts.{IsPrefixLen};

@@ -1,4 +1,5 @@
 // The programs, each as a function for C: programs/main.c is compiled once for each, and calls the one that it is told.
+#![tactic(auto)]
 
 #[unsafe(no_mangle)]
 pub extern "C" fn olbiothar_run_bustable() -> i32 {

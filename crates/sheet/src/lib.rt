@@ -1,5 +1,6 @@
 // The sheet of a table: what its cells may hold, which lines it has, and what a reader asks of their words. The text of a sheet and what is
 // read from one are definitions (specs/Sheet.antt, specs/Back.antt), and the theorems about them stand here; the crates above write and read.
+#![tactic(auto)]
 
 // A cell of a row: `-`, a number, or a number below zero, by how much it is.
 #[derive(Drop)]

@@ -1,4 +1,5 @@
 // What a tick is given, and the run of a task that it meets: whether a result is awaited, whether it fits, whether the run ends.
+#![tactic(auto)]
 ghost use Rattle.std.specs.Prelude.{◌≡◌, not, ◌||◌, ltb, ◌-◌, ◌^◌};
 ghost use Rattle.rules.specs.Station.{fits_in};
 ghost use Rattle.stationruns.specs.Inputs.{given_if, no_input};
@@ -147,12 +148,12 @@ pub fn is_awaited(given: bool, run: Run, in_plan: bool, had: bool, worst: Ticks)
 const ABOVE: [u64; 8] = [
     1,
     0x100,
-    0x1_0000,
-    0x100_0000,
-    0x1_0000_0000,
-    0x100_0000_0000,
-    0x1_0000_0000_0000,
-    0x100_0000_0000_0000,
+    0x10000,
+    0x1000000,
+    0x100000000,
+    0x10000000000,
+    0x1000000000000,
+    0x100000000000000,
 ];
 
 // Whether a value has at most this many bytes.

@@ -1,4 +1,5 @@
 // Writes the sheet of a table file by a plan file, both named on the command line, with the line of a refusal on top or alone; or `too long`.
+#![tactic(auto)]
 ghost use Rattle.std.specs.Prelude.{◌≡◌, ◌≤◌, length};
 ghost use Rattle.std.proofs.lemmas.List.Edits.{sets};
 ghost use Rattle.answers.specs.Refusals.{heard};

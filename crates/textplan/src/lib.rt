@@ -1,4 +1,5 @@
 // Reads a plan's text from standard input and writes the plan's bytes, or one line: `unreadable line L: REASON`, or `too long`.
+#![tactic(auto)]
 ghost use Rattle.std.specs.Prelude.{◌≡◌, ◌≤◌, length};
 ghost use Rattle.std.proofs.lemmas.List.Edits.{sets};
 ghost use Rattle.io.specs.Counts.{IsPrefixLen};

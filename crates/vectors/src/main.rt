@@ -2,6 +2,7 @@
 // In a file a case is six numbers of four bytes each, then a text that stands in front of its line, a plan and a table. The numbers:
 // what to do (0: read the plan; 1: make its table; 2: check the table by the plan; 3: make its table for consumers), how many frame rows are lent, how many bytes are
 // lent for a table, and the lengths of text, plan and table. tests/src/stored.rs writes the files, and what each line must be.
+#![tactic(auto)]
 ghost use Rattle.std.specs.Prelude.{◌<◌, ◌≤◌, ◌≡◌, length};
 
 use answers::Verdict;

@@ -16,7 +16,7 @@ use Rattle.stationruns.proofs.has_bytes.Tie as tie
 -- the table of the source
 limits : List ℕ
 limits =
-    1 ∷ 0x100 ∷ 0x1_0000 ∷ 0x100_0000 ∷ 0x1_0000_0000 ∷ 0x100_0000_0000 ∷ 0x1_0000_0000_0000 ∷ 0x100_0000_0000_0000
+    1 ∷ 0x100 ∷ 0x10000 ∷ 0x1000000 ∷ 0x100000000 ∷ 0x10000000000 ∷ 0x1000000000000 ∷ 0x100000000000000
     ∷ []
 
 is_limit : ℕ → Bool
