@@ -1,5 +1,6 @@
 // Every refusal of docs/RULES.md as one enum, each case with its place in the kind of number that the place is.
 #![tactic(auto)]
+
 ghost use Rattle.std.specs.Prelude.{◌≡◌};
 ghost use Rattle.answers.specs.Refusals.{number_of, place_of};
 

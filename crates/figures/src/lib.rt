@@ -1,5 +1,6 @@
 // Numbers and tests, total: where a divisor is 0 they give what the definitions do, so that no caller has to show anything.
 #![tactic(auto)]
+
 ghost use Rattle.std.specs.Prelude.{◌≡◌, not, ◌&&◌, ◌||◌, ◌/◌, ◌%◌, ◌<◌, min, max};
 ghost use Rattle.laws.specs.Numbers as laws;
 

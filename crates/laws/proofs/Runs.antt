@@ -31,8 +31,8 @@ module _ (T a : ℕ) (pos : 0 < T) where
           inside l (omega (arith, next))
 
   -- a run ends where its length divides the age
-  pub run_ends : 0 < a → T ∣ a → within_run a T ≡ T
-  run_ends h d =
+  pub run_ends_lem : 0 < a → T ∣ a → within_run a T ≡ T
+  run_ends_lem h d =
       let z : a % T ≡ 0 = mod-eq-zero_of_dvd T d in
       next_case h (λ l e. absurd (omega arith)) (λ e f. e)
 

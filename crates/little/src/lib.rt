@@ -1,6 +1,7 @@
 // Little-endian numbers (rule 2.3), read from a lent file and stored into a lent buffer. Every place is allowed: a byte behind the end reads
 // as 0, and is not stored.
 #![tactic(auto)]
+
 ghost use Rattle.std.specs.Prelude.{◌≡◌, ◌+◌, ◌*◌, ◌≤◌, leb, length, get_or, take, drop, set};
 ghost use Rattle.std.proofs.lemmas.List.Edits.{sets};
 ghost use Rattle.laws.specs.Numbers.{number, bytes};

@@ -152,6 +152,7 @@ named-found (f ∷ fs) n e = named_here (is_pair_of n f) f fs n refl (λ q. name
 names_member : (l : Layout) {ns : List Named} {fs : List Pair} → NamesAll l ns fs → (n : Named) → Memᴰ n ns → (f : ℕ) × Names l n f
 names_member l (one_name {f} h r) n (Memᴰ.head e) = (f, subst (λ (n : Named). Names l n f) (sym e) h)
 names_member l (one_name h r) n (Memᴰ.tail m) = names_member l r n m
+names_member l no_name n x4 = elim x4 [ ]
 
 module _ (l : Layout) (sorted : Pairs Before l.pairs) (t : TableRead) where
   -- no second pair has the name

@@ -15,7 +15,7 @@ use Rattle.laws.proofs.LeftOut.{not-fresh, place_of, keep_at-all, keep_at-from, 
 use Rattle.rules.specs.Plan.{Connection, Plan, no_connection, the_mode, the_task, the_connection, period_of, is_own, same_ends, connection_keeps, read_plan}
 use Rattle.rules.specs.Traffic.{module_node, task_node, invokes, leaves, is_bus_task, bus_tasks, lives_in, is_sending, stands_on, senders_on, control_payload, traffic, thinned}
 use Rattle.rules.specs.Traffic.{is_sending_node, sending_nodes, of_bus_task, run_of, bus_runs, bus_period, with_mode, of_sender, switch_grid, basic}
-use Rattle.rules.specs.Frames.{ControlRow, sending_time, pairs, pair_size, bytes_in, is_mode_in, block, payload, row_time, control_from, control_rows, control_end, some_bus_task, message_fits, control_fits, payloads_fit, layout_of, layout}
+use Rattle.rules.specs.Frames.{ControlRow, sending_time, gap_time, pairs, pair_size, bytes_in, is_mode_in, block, payload, row_time, control_from, control_rows, control_end, some_bus_task, message_fits, control_fits, payloads_fit, layout_of, layout}
 use Rattle.rules.specs.History.{brings, consumes}
 use Rattle.rules.specs.ObeysPlan.{ConnectionFits}
 use Rattle.rules.specs.Doubtful.{undoubted, with_connections, without_doubtful}
@@ -138,7 +138,9 @@ module _ (p : Plan) where
   unfolding control_from without_doubtful with_connections
   same-rows-from start [] = refl
   same-rows-from start (n ∷ ns) =
-      rw same-control (ap (λ (rows : List ControlRow). record { node = n; start = start; stop = start + sending_time p.bus (control_payload p n) } ∷ rows) (same-rows-from _ ns))
+      rw same-control
+      (ap (λ (rows : List ControlRow). record { node = n; start = start; stop = start + sending_time p.bus (control_payload p n) } ∷ rows)
+      (same-rows-from (start + sending_time p.bus (control_payload p n) + gap_time p.bus) ns))
 
   same_rows : control_rows (without_doubtful p) ≡ control_rows p
   unfolding control_rows

@@ -229,6 +229,7 @@ one_of_a_pair (before {x} h p) a b (Memᴰ.head e) (Memᴰ.tail j) t d =
 one_of_a_pair (before {x} h p) a b (Memᴰ.tail i) (Memᴰ.head q) t d =
     absurd (before-not-same b a (sym t) (sym d) (subst (λ (f : Pair). Before f a) (sym q) (all_member h i)))
 one_of_a_pair (before {x} h p) a b (Memᴰ.tail i) (Memᴰ.tail j) t d = one_of_a_pair p a b i j t d
+one_of_a_pair alone a b x9 _ t d = elim x9 [ ]
 
 -- a pair's release is the greatest of its messages' releases
 pub release-greatest : {ms fs : List Pair} → IsPairsOf ms fs → (f m : Pair) → Memᴰ f fs → Memᴰ m ms → f.task ≡ m.task

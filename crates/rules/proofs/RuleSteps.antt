@@ -224,6 +224,7 @@ same_of_number (before a r) (Memᴰ.head e) (Memᴰ.tail m) q =
 same_of_number (before a r) (Memᴰ.tail m) (Memᴰ.head f) q =
     absurd (all_member a m (ap (λ (z : Numbered). z.number) (sym f) ∙ sym q))
 same_of_number (before a r) (Memᴰ.tail m) (Memᴰ.tail n) q = same_of_number r m n q
+same_of_number {y = y} alone x8 _ q = elim x8 [ ]
 
 taken_unique : {end : ℕ} {left : List Numbered} {x y : Numbered} → Pairs Other left → IsTaken end left x → IsTaken end left y → x ≡ y
 taken_unique {x = x} {y = y} apart a b =
@@ -257,6 +258,7 @@ without_is {x} (before a r) (here {y = y} {left = l} e q) =
 without_is {x} (before a r) (behind {y = y} {left = l} w) =
     let o : is_other x.number y ≡ true = other-number x x y refl (λ q. all_member a (without_member w) (sym q)) in
     keep_yes (is_other x.number) y l o ∙ ap (λ (m : List Numbered). y ∷ m) (without_is r w)
+without_is {x = x} {rest = rest} alone x4 = elim x4 [ ]
 
 without_some : {x : Numbered} {left : List Numbered} → Memᴰ x left → (rest : List Numbered) × Without x left rest
 without_some (Memᴰ.head {xs = l} e) = (l, here e refl)

@@ -10,7 +10,7 @@ use native.Mathlib.Omega.{arith}
 use Prim.Native.Nat.{ℕ, suc, ◌+◌, ◌-◌, ◌%◌, ◌≤◌, ◌<◌, ◌∣◌}
 use Rattle.laws.proofs.Lists.{true-false, tested}
 use Rattle.laws.proofs.Orders.{le-or-lt}
-use Rattle.laws.proofs.Runs.{within_run, run_ends, run_goes, run_anew, run-first, same-multiple, multiple-same}
+use Rattle.laws.proofs.Runs.{within_run, run_ends_lem, run_goes, run_anew, run-first, same-multiple, multiple-same}
 use Rattle.laws.proofs.Tests.{by_same, by_lt, by_divides, by_and}
 use Rattle.rules.specs.Playing.{task_places, Input, is_given}
 use Rattle.rules.specs.History.{first_in}
@@ -152,12 +152,12 @@ module _ (k : Kept) (first : ℕ → ℕ) (t : ℕ) where
 
     pub had_at-end : Ending k s t → (s.given t || is_given (i.result t)) ≡ true
     had_at-end e =
-        let r : run_age k s t ≡ T = run-age k s t ∙ run_ends T age e.invoked e.released e.whole in
+        let r : run_age k s t ≡ T = run-age k s t ∙ run_ends_lem T age e.invoked e.released e.whole in
         had_by e.invoked e.released (omega (arith, in-run e.invoked))
 
     pub result-at-end : Ending k s t → (tick k s i).out t ≡ board_result T (i ∷ past)
     result-at-end e =
-        let r : suc ((age - 1) % T) ≡ T = omega (arith, run_ends T age e.invoked e.released e.whole) in
+        let r : suc ((age - 1) % T) ≡ T = omega (arith, run_ends_lem T age e.invoked e.released e.whole) in
         result_now e.invoked e.released (had_at-end e) ∙ ap (λ (n : ℕ). board_result n (i ∷ past)) r
 
     -- ---- the step

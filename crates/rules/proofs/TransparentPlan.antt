@@ -130,6 +130,7 @@ module _ (p : Plan) where
   control-of start (x ∷ ns) (mathlib.Core.List.Memᴰ.tail m) =
       let r = control-of (start + sending_time p.bus (control_payload p x) + gap_time p.bus) ns m in
       record { row = suc r.row; there = suc-le-suc r.there; node = r.node }
+  control-of start mathlib.Core.List.[] {n = n} x' = elim x' [ ]
 
   senders_some : All (λ n. 0 < control_payload p n) (sending_nodes p)
   unfolding sending_nodes is_sending_node

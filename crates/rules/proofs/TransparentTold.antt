@@ -9,7 +9,7 @@ use native.Mathlib.Omega.{arith}
 use lib.ListN.{length}
 use Prim.Native.Nat.{ℕ, suc, ◌+◌, ◌-◌, ◌≤◌, ◌<◌, ◌∣◌, zero-le}
 use Rattle.laws.proofs.Lists.{true-false, tested}
-use Rattle.laws.proofs.Runs.{within_run, run-first, run_ends}
+use Rattle.laws.proofs.Runs.{within_run, run-first, run_ends_lem}
 use Rattle.laws.proofs.Tests.{Tests, by_iff, by_lt, by_divides, by_and}
 use Rattle.laws.specs.Res.{ok}
 use Rattle.rules.specs.Playing.{Input, is_given}
@@ -472,7 +472,7 @@ module _ (k : Kept) (first : ℕ → ℕ) (t : ℕ) where
             let same = period-is k first t fair s past h.own.timed in
             let ends = ends_same k first t fair s past h.own.timed ∙ q in
             let whole : run_age k s t ≡ period_now k.task_home k.run first t past =
-            run-age k s t ∙ run_ends (run_period k s t) (task_age k s t) e.invoked e.released e.whole ∙ sym same in
+            run-age k s t ∙ run_ends_lem (run_period k s t) (task_age k s t) e.invoked e.released e.whole ∙ sym same in
             let is : (tick k s i).out t ≡ value k.task_home k.run first t (i ∷ past) =
             result-at-end k first t fair s i past may h.own e
             ∙ ap (λ (x : ℕ). result_within k.task_home k.run first t x (i ∷ past)) (sym same)

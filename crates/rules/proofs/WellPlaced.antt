@@ -93,6 +93,7 @@ apart-first : (xs ys : List Numbered) → Pairs Differ (map number_of_pair (xs +
 apart-first (z ∷ xs) ys (before a d) x y (Memᴰ.head e) j q =
     all_member a (member_map number_of_pair (Memᴰ.append_right xs j)) (ap number_of_pair (sym e) ∙ q)
 apart-first (z ∷ xs) ys (before a d) x y (Memᴰ.tail i) j q = apart-first xs ys d x y i j q
+apart-first [] ys _ x y x7 j q = elim x7 [ ]
 
 differ_rest : (xs ys : List Numbered) → Pairs Differ (map number_of_pair (xs ++ ys)) → Pairs Differ (map number_of_pair ys)
 differ_rest [] ys d = d

@@ -1,0 +1,6 @@
+-- The promise of `rest` is rewritten: the test is the definition's own.
+use borrow.Author.Rules.{rules}
+use Rattle.figures.proofs.divides.Goals as goal
+
+pub returns : goal.returns
+returns c = rw c.rest.ensures

@@ -1,0 +1,11 @@
+-- A store within computes; one behind the end, by either test, changes nothing (`set_out`).
+use mathlib.Core.Path.{sym}
+use lib.Seq.{set_out}
+use borrow.Author.Rules.{rules}
+use Rattle.little.proofs.store.Goals as goal
+
+pub returns-else-k-buf : goal.returns-else-k-buf
+returns-else-k-buf c = sym (set_out _ _ _ (search rules))
+
+pub returns-else-at-buf : goal.returns-else-at-buf
+returns-else-at-buf c = sym (set_out _ _ _ (search rules))
