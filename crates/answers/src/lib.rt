@@ -6,7 +6,7 @@ ghost use Rattle.answers.specs.Refusals.{number_of, place_of};
 
 use units::{ByteCount, Frame, FrameNo, ModuleNo, Offset, RecordNo, TaskNo};
 
-#[derive(Drop)]
+#[derive(Clone, Copy)]
 pub enum Refusal {
     // 1 to 5: the plan's records and what they say.
     BadRecords(Offset),
@@ -47,7 +47,7 @@ pub enum Refusal {
 }
 
 // What was judged: nothing to refuse, or the first refusal that applies.
-#[derive(Drop)]
+#[derive(Clone, Copy)]
 pub enum Verdict {
     Fine,
     Refused(Refusal),

@@ -13,7 +13,7 @@ use plan::look::connection_count;
 use plan::{Connection, Plan};
 use units::TaskNo;
 
-#[derive(Drop)]
+#[derive(Clone, Copy)]
 struct Left {
     count: usize,
     connections: [Connection; Connection::MOST],

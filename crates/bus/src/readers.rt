@@ -20,13 +20,13 @@ use plan::{Invocation, Plan};
 use units::TaskNo;
 
 // Row t of `periods` stands at t * Invocation::MOST; its first `counts[t]` are the readers of task t, zeros behind.
-#[derive(Drop)]
+#[derive(Clone, Copy)]
 pub struct Readers {
     pub counts: [usize; TaskNo::MOST],
     pub periods: [u32; TaskNo::MOST * Invocation::MOST],
 }
 
-#[derive(Drop)]
+#[derive(Clone, Copy)]
 struct Row {
     count: usize,
     periods: [u32; Invocation::MOST],

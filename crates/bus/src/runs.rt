@@ -12,7 +12,7 @@ use plan::look::{invocation_count, mode_count, task_count};
 use plan::{Invocation, Plan};
 
 // An array for each number of a run, so that each can be lent.
-#[derive(Drop)]
+#[derive(Clone, Copy)]
 pub struct Runs {
     pub count: usize,
     pub modes: [u8; Invocation::MOST],

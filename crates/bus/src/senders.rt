@@ -11,7 +11,7 @@ use plan::Plan;
 use plan::look::{connection_count, invocation_count, module_count, task_count};
 
 // Whether each task is a bus task, whether each module sends, and the payload of each node's control frame.
-#[derive(Drop)]
+#[derive(Clone, Copy)]
 pub struct Senders {
     pub tasks: [bool; BYTES],
     pub modules: [bool; BYTES],

@@ -23,7 +23,7 @@ use table::read::{Outcome, is_for_consumers, read_table};
 use units::Frame;
 
 // What a check comes to, and how many frames stand in the lent arrays.
-#[derive(Drop)]
+#[derive(Clone, Copy)]
 pub struct CheckedRows {
     pub answer: Verdict,
     pub frames: usize,
@@ -146,7 +146,7 @@ pub fn check(
 }
 
 // An answer, and whether it refuses.
-#[derive(Drop)]
+#[derive(Clone, Copy)]
 pub struct Ruling {
     pub answer: Verdict,
     pub refused: bool,
@@ -190,7 +190,7 @@ pub fn settled(plan: &[u8], table: &[u8], lent: usize, answer: Verdict, early: b
 
 // What a check comes to, and what is handed on of a table that passes: the plan and its line, and in lent arrays each pair's task and
 // deadline and the start that the table gives to it, by number. Nothing is handed on where it is refused: the arrays are zeros.
-#[derive(Drop)]
+#[derive(Clone, Copy)]
 pub struct Passing {
     pub answer: Verdict,
     pub plan: Plan,

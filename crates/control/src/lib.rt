@@ -15,7 +15,7 @@ use times::{Span, gap_time, sending_time};
 use units::{ByteCount, NodeNo};
 
 // As many rows as there are sending nodes, then zeros.
-#[derive(Drop)]
+#[derive(Clone, Copy)]
 pub struct Control {
     pub count: usize,
     pub nodes: [u8; NodeNo::MOST],

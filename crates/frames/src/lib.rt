@@ -120,7 +120,7 @@ fn plant(
 }
 
 // What the messages of one task and deadline come to: one more than their greatest release; the root behind them; and how many they are.
-#[derive(Drop)]
+#[derive(Clone, Copy)]
 struct Met {
     best: Ticks,
     root: u32,
@@ -195,7 +195,7 @@ fn put(
 }
 
 // How many frames a walk found, one more than there are places where there are too many; and in how many steps. A step takes a message.
-#[derive(Drop)]
+#[derive(Clone, Copy)]
 pub struct Walked {
     pub count: usize,
     pub steps: usize,

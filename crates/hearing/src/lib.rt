@@ -27,7 +27,7 @@ use text::lines::line_end;
 pub const LONGEST: usize = 262144;
 
 // How far a history has come.
-#[derive(Drop)]
+#[derive(Clone, Copy)]
 pub enum Stage {
     // No line with a word has come.
     Waits,
@@ -38,14 +38,14 @@ pub enum Stage {
 }
 
 // A history as far as it was heard, and the station after it.
-#[derive(Drop)]
+#[derive(Clone, Copy)]
 pub struct Heard {
     pub stage: Stage,
     pub station: Station,
 }
 
 // A tick's answer, which stands at the front of a buffer with this length, and the station after it.
-#[derive(Drop)]
+#[derive(Clone, Copy)]
 pub struct Answered {
     pub refused: bool,
     pub length: usize,
@@ -53,21 +53,21 @@ pub struct Answered {
 }
 
 // The station after ticks; `fine`: all answers were written.
-#[derive(Drop)]
+#[derive(Clone, Copy)]
 pub struct Played {
     pub fine: bool,
     pub station: Station,
 }
 
 // What was heard; `fine`: all answers were written.
-#[derive(Drop)]
+#[derive(Clone, Copy)]
 pub struct Spoken {
     pub fine: bool,
     pub heard: Heard,
 }
 
 // What was heard of as many bytes; `fine`: all were read, and all answers were written.
-#[derive(Drop)]
+#[derive(Clone, Copy)]
 pub struct Attended {
     pub fine: bool,
     pub length: usize,

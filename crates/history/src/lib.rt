@@ -19,20 +19,20 @@ const LARGEST_VALUE: u64 = 18446744073709551615;
 const LARGEST_MODE: u64 = 255;
 
 // Two numbers with `=` between them.
-#[derive(Drop)]
+#[derive(Clone, Copy)]
 pub enum Pair {
     Named { place: u64, value: u64 },
     None,
 }
 
 // What a list gives: at each place a value, which counts where its flag is set. A list of modules uses the first places.
-#[derive(Drop)]
+#[derive(Clone, Copy)]
 pub struct Places {
     pub values: [u64; TaskNo::MOST],
     pub given: [u8; TaskNo::MOST],
 }
 
-#[derive(Drop)]
+#[derive(Clone, Copy)]
 pub enum What {
     // No word stands on the line.
     Blank,
@@ -43,7 +43,7 @@ pub enum What {
 }
 
 // A line, and what its lists give: nothing where it has none.
-#[derive(Drop)]
+#[derive(Clone, Copy)]
 pub struct Line {
     pub what: What,
     pub results: Places,
@@ -51,7 +51,7 @@ pub struct Line {
 }
 
 // What may stand next on a line.
-#[derive(Drop)]
+#[derive(Clone, Copy)]
 pub enum Next {
     FirstWord,
     ResultsWord,
@@ -72,7 +72,7 @@ pub enum Next {
 }
 
 // What was read of a line so far.
-#[derive(Drop)]
+#[derive(Clone, Copy)]
 pub struct Read {
     pub next: Next,
     pub line: Line,

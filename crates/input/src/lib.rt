@@ -6,7 +6,7 @@ ghost use Rattle.input.specs.Within.{Further, Within};
 
 use manners::{fail, own_name};
 
-#[derive(Drop)]
+#[derive(Clone, Copy)]
 pub enum Input {
     // So many bytes stand at the front of the buffer.
     Bytes(usize),

@@ -23,7 +23,7 @@ use table::{Header, Heading};
 use units::{Frame, NodeNo, RecordNo, TaskNo, Ticks};
 
 // What the bus asks of every row.
-#[derive(Drop)]
+#[derive(Clone, Copy)]
 pub struct Bounds {
     pub period: Ticks,
     pub resolution: Ticks,

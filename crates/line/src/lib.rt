@@ -39,7 +39,7 @@ use units::{Frame, NodeNo, TaskNo, Ticks};
 
 // `floor` is C; `times` is by task; of the control rows there are `controls`, zeros behind; of the frames, which stand in arrays apart,
 // `frames`.
-#[derive(Drop)]
+#[derive(Clone, Copy)]
 pub struct Line {
     pub period: Ticks,
     pub resolution: Ticks,
@@ -75,7 +75,7 @@ impl Line {
 }
 
 // What laying a plan out comes to, and the line beside it: none where the plan is refused.
-#[derive(Drop)]
+#[derive(Clone, Copy)]
 pub struct Laid {
     pub answer: Verdict,
     pub line: Line,

@@ -15,7 +15,7 @@ use placing::{Outcome, Rule};
 use table::write::table_length;
 use units::{ByteCount, Frame};
 
-#[derive(Drop)]
+#[derive(Clone, Copy)]
 pub enum Answer {
     // The length of the table at the front of the buffer.
     Made(usize),

@@ -27,7 +27,7 @@ pub fn edition_of(consumers: bool) -> u8
 }
 
 // What making a table comes to, and how many frames stand in the lent arrays: none where the plan is refused.
-#[derive(Drop)]
+#[derive(Clone, Copy)]
 pub struct MadeRows {
     pub answer: Answer,
     pub frames: usize,

@@ -23,7 +23,7 @@ pub const REFUSED: i32 = 1;
 pub const FAILED: i32 = 2;
 
 // What a program answers: the length of what it writes, and how it ends. `status` is DONE or REFUSED, as a number without sign.
-#[derive(Drop)]
+#[derive(Clone, Copy)]
 pub struct Response {
     pub length: usize,
     pub status: u8,
@@ -49,7 +49,7 @@ impl Response {
     }
 }
 
-#[derive(Drop)]
+#[derive(Clone, Copy)]
 pub enum Start {
     Works,
     // The program has said all that there is to say.

@@ -98,7 +98,7 @@ fn scanned(plan: &[u8], table: &[u8], rows: &mut [Frame], unscanned: CheckedRows
 }
 
 // A beginning by value: the answer, whether the station begins, and the station.
-#[derive(Drop)]
+#[derive(Clone, Copy)]
 pub struct Begun {
     pub answer: Answer,
     pub begins: bool,
@@ -194,7 +194,7 @@ pub extern "C" fn olbiothar_task(station: &Station, t: u8) -> TaskNow
 
 // A sheet: what check says of plan and table, and how long the text is.
 #[repr(C)]
-#[derive(Drop)]
+#[derive(Clone, Copy)]
 pub struct SheetAnswer {
     pub checked: Answer,
     pub length: u64,

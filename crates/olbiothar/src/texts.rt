@@ -49,7 +49,7 @@ pub extern "C" fn olbiothar_plan_text(plan: &[u8], text: &mut [u8]) -> Answer
 
 // A plan from a text: the answer, and beside 60 the number of the reason.
 #[repr(C)]
-#[derive(Drop)]
+#[derive(Clone, Copy)]
 pub struct PlanAnswer {
     pub answer: Answer,
     pub reason: u32,

@@ -20,7 +20,7 @@ use units::{Frame, ModeNo, ModuleNo, TaskNo, Ticks};
 
 // Number 0: not refused; the place is then what was made, or 0. Else the refusal's number and its place.
 #[repr(C)]
-#[derive(Drop)]
+#[derive(Clone, Copy)]
 pub struct Answer {
     pub number: u32,
     pub place: u64,
@@ -61,7 +61,7 @@ pub fn made(answer: linetable::Answer) -> Answer
 
 // The row that starts: kind 17 or 18, the node or task that sends it, deadline (0 of a control row), start and stop. Kind 0: none starts.
 #[repr(C)]
-#[derive(Drop)]
+#[derive(Clone, Copy)]
 pub struct Row {
     pub kind: u8,
     pub sender: u8,
@@ -127,14 +127,14 @@ pub fn answer_said(said: Said) -> Answer
 
 // What a tick answers: the refusal or number 0, and the row that starts.
 #[repr(C)]
-#[derive(Drop)]
+#[derive(Clone, Copy)]
 pub struct TickAnswer {
     pub answer: Answer,
     pub row: Row,
 }
 
 // What a tick answers, and its part before the nodes.
-#[derive(Drop)]
+#[derive(Clone, Copy)]
 pub struct AnswerBeforeNodes {
     pub tick: TickAnswer,
     pub part: BeforeNodes,
@@ -178,7 +178,7 @@ pub fn answer_before_nodes<'a>(
 
 // What may be asked of a station. All is zero where it has not begun, or has no such module or task.
 #[repr(C)]
-#[derive(Drop)]
+#[derive(Clone, Copy)]
 pub struct TimeNow {
     pub begun: u8,
     pub clock: u32,
@@ -206,7 +206,7 @@ pub fn time_now(fixed: Fixed, play: Play) -> TimeNow
 
 // A module's node, the mode that runs, and the time since that mode began.
 #[repr(C)]
-#[derive(Drop)]
+#[derive(Clone, Copy)]
 pub struct ModuleNow {
     pub there: u8,
     pub node: u8,
@@ -247,7 +247,7 @@ pub fn module_now(fixed: Fixed, play: Play, m: u8) -> ModuleNow
 
 // A task's module, whether a result is awaited, and how many ticks may still pass without it.
 #[repr(C)]
-#[derive(Drop)]
+#[derive(Clone, Copy)]
 pub struct TaskNow {
     pub there: u8,
     pub home: u8,

@@ -50,7 +50,7 @@ pub fn flag_byte(flag: bool) -> u8
 }
 
 // What a scan found: the first place at fault, or with what is looked for; or that there is none.
-#[derive(Drop)]
+#[derive(Clone, Copy)]
 pub enum Found {
     At(usize),
     Nothing,

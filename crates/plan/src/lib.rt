@@ -1,5 +1,6 @@
 // A plan in memory: flat, by value, arrays of structs with counts.
 #![tactic(auto)]
+
 ghost use Rattle.std.specs.Prelude.{◌≡◌};
 ghost use Rattle.plan.specs.Memory.{empty_plan};
 
@@ -9,7 +10,7 @@ pub mod look;
 use units::{BitCount, ByteBits, ByteCount, ModeNo, ModuleNo, NodeNo, TaskNo, Ticks};
 
 // Rate in kbit/s.
-#[derive(Drop)]
+#[derive(Clone, Copy)]
 pub struct Bus {
     pub rate: u32,
     pub overhead: ByteCount,
@@ -32,7 +33,7 @@ impl Bus {
     pub const COARSEST: u32 = 1000;
 }
 
-#[derive(Drop)]
+#[derive(Clone, Copy)]
 pub struct Module {
     pub node: NodeNo,
 }
@@ -41,7 +42,7 @@ impl Module {
     pub const MOST: usize = ModuleNo::MOST;
 }
 
-#[derive(Drop)]
+#[derive(Clone, Copy)]
 pub struct Mode {
     pub home: ModuleNo,
     pub period: Ticks,
@@ -54,7 +55,7 @@ impl Mode {
     pub const LONGEST: u32 = Ticks::LONGEST;
 }
 
-#[derive(Drop)]
+#[derive(Clone, Copy)]
 pub struct Task {
     pub home: ModuleNo,
     pub size: ByteCount,
@@ -69,7 +70,7 @@ impl Task {
     pub const LONGEST: u32 = Ticks::LONGEST;
 }
 
-#[derive(Drop)]
+#[derive(Clone, Copy)]
 pub struct Invocation {
     pub mode: ModeNo,
     pub task: TaskNo,
@@ -82,7 +83,7 @@ impl Invocation {
     pub const MOST_OFTEN: u32 = 65_535;
 }
 
-#[derive(Drop)]
+#[derive(Clone, Copy)]
 pub struct Connection {
     pub producer: TaskNo,
     pub consumer: TaskNo,
@@ -94,7 +95,7 @@ impl Connection {
 
 // `counts` is by kind: 2 is the number of nodes, 3 to 7 how many things of that kind the file has. A thing without a place left is
 // counted and not stored. `consumers` is the edition in which the plan is sent.
-#[derive(Drop)]
+#[derive(Clone, Copy)]
 pub struct Plan {
     pub bus: Bus,
     pub counts: [usize; 8],

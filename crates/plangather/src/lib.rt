@@ -11,13 +11,13 @@ use records::{Sort, Step};
 use units::{ModeNo, ModuleNo, Offset, TaskNo};
 
 // How gathering ended: at the file's end, or at the place where the record rules are broken.
-#[derive(Drop)]
+#[derive(Clone, Copy)]
 pub enum Outcome {
     Whole,
     Broken(Offset),
 }
 
-#[derive(Drop)]
+#[derive(Clone, Copy)]
 pub struct Gathered {
     pub outcome: Outcome,
     pub plan: Plan,

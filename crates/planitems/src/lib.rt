@@ -149,7 +149,7 @@ const WORDS: [u8; 149] =
     *b"buskbit/soverhead-bytesleast-payloadlargest-payloadgap-bitsresolutionbits-per-bytenodesmoduleonnodemodeofperiodswitchtaskbytesworstruninrateconnectto";
 
 // A word's part of them.
-#[derive(Drop)]
+#[derive(Clone, Copy)]
 struct Span {
     from: usize,
     to: usize,

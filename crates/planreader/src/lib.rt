@@ -53,7 +53,7 @@ fn put_number(out: &mut [u8], at: usize, wide: u8, n: u64) -> usize
 // ---- words
 
 // What a word comes to at its place: a number of so many bytes, none for a word that says none; or what is wrong with it.
-#[derive(Drop)]
+#[derive(Clone, Copy)]
 enum Judged {
     Passes { wide: u8, value: u64 },
     Wrong(Reason),
@@ -105,7 +105,7 @@ fn lacking(item: Item) -> Reason
 }
 
 // The same of the first word from a place on, with the place behind it.
-#[derive(Drop)]
+#[derive(Clone, Copy)]
 enum Found {
     Passes { wide: u8, value: u64, next: usize },
     Wrong(Reason),
@@ -128,7 +128,7 @@ fn judge_at(s: &[u8], at: usize, item: Item) -> Found
 }
 
 // What a line's words behind the first come to: the place behind the bytes of their numbers, or the first reason.
-#[derive(Drop)]
+#[derive(Clone, Copy)]
 enum Matching {
     Fits(usize),
     Fails(Reason),
@@ -245,7 +245,7 @@ fn why_not(previous: u8, kind: u8) -> Reason
 
 // What a line comes to: the kind of the last record behind it and the place behind what was stored, which a blank line leaves as they are;
 // or why it cannot be read.
-#[derive(Drop)]
+#[derive(Clone, Copy)]
 enum Said {
     Goes { kind: u8, end: usize },
     Wrong(Reason),
@@ -297,7 +297,7 @@ fn line_said(line: &[u8], previous: u8, out: &mut [u8], at: usize) -> Said
 // ---- the whole text
 
 // What a text comes to: the length of its plan, or the first line that cannot be read.
-#[derive(Drop)]
+#[derive(Clone, Copy)]
 enum Reading {
     Plan(usize),
     Unreadable { line: u64, why: Reason },
@@ -347,7 +347,7 @@ fn gather(text: &[u8], out: &mut [u8]) -> Reading
 // What reading a text comes to: the length of the plan that stands at the front of the lent bytes; the first line that cannot be read, and why;
 // how many bytes the plan needs, where fewer are lent; or that the text is longer than what is read. But for the first case the lent bytes are
 // as they were.
-#[derive(Drop)]
+#[derive(Clone, Copy)]
 pub enum Back {
     Plan(usize),
     Unreadable { line: u64, why: Reason },

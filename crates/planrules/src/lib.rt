@@ -19,7 +19,7 @@ use plangather::Outcome;
 use units::RecordNo;
 
 // What reading a file comes to, and the plan beside it: with nothing in it where the file is refused.
-#[derive(Drop)]
+#[derive(Clone, Copy)]
 pub struct Reading {
     pub answer: Verdict,
     pub plan: Plan,

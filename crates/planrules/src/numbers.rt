@@ -14,7 +14,7 @@ use units::{ByteBits, RecordNo};
 
 // The first record that breaks refusal 3's rule, that what a number names is there, and the first that breaks refusal 4's, that
 // every other number is within its range.
-#[derive(Drop)]
+#[derive(Clone, Copy)]
 pub struct Firsts {
     pub named: Found,
     pub ranged: Found,

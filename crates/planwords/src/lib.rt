@@ -3,7 +3,7 @@
 #![tactic(auto)]
 
 // The words of the lines, in the order in which the kinds have them.
-#[derive(Drop)]
+#[derive(Clone, Copy)]
 pub enum Name {
     Bus,
     Kbit,
@@ -32,7 +32,7 @@ pub enum Name {
 }
 
 // What stands at a place of a line: a word; a number that has so many bytes in the record and is printed in so many columns; nothing.
-#[derive(Drop)]
+#[derive(Clone, Copy)]
 pub enum Item {
     Word(Name),
     Number { bytes: u8, columns: u8 },
@@ -40,7 +40,7 @@ pub enum Item {
 }
 
 // Why a line cannot be read.
-#[derive(Drop)]
+#[derive(Clone, Copy)]
 pub enum Reason {
     BusExpected,
     NodesExpected,

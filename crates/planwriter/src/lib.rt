@@ -25,7 +25,7 @@ const COLUMNS: usize = 47;
 
 // What a plan comes to as text: so many bytes, at the front of the lent ones; a place where the record rules are broken; so many bytes that are
 // needed, and more than were lent; a plan that is longer than is read. Only the first stores anything.
-#[derive(Drop)]
+#[derive(Clone, Copy)]
 pub enum Printing {
     Text(usize),
     Refused(usize),
@@ -34,7 +34,7 @@ pub enum Printing {
 }
 
 // The place behind the lines of a whole plan, or where the record rules are broken.
-#[derive(Drop)]
+#[derive(Clone, Copy)]
 enum Lines {
     Whole(usize),
     Broken(Offset),

@@ -91,7 +91,7 @@ const NAMED: [Name; NAMES as usize] = [
 ];
 
 // The reason that a number has.
-#[derive(Drop)]
+#[derive(Clone, Copy)]
 enum Found {
     Why(Reason),
     None,

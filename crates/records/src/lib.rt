@@ -11,14 +11,14 @@ use reader::Reader;
 use units::Offset;
 
 // The two sorts of files.
-#[derive(Drop)]
+#[derive(Clone, Copy)]
 pub enum Sort {
     Plan,
     Table,
 }
 
 // What stands at a place of a file.
-#[derive(Drop)]
+#[derive(Clone, Copy)]
 pub enum Step {
     // A record: its body begins at `body`, and the next record at `next`.
     Record { kind: u8, body: usize, next: usize },

@@ -7,7 +7,7 @@ ghost use Rattle.records.specs.Reader.{follows, next_at};
 use crate::{Sort, Step, kinds};
 use units::Offset;
 
-#[derive(Drop)]
+#[derive(Clone, Copy)]
 pub struct Reader<'a> {
     pub src: &'a [u8],
     pub at: usize,

@@ -1,5 +1,6 @@
 // What the arrays of placed frames give for the frame rows and for the table; and the passes that bring the rows into a lent list.
 #![tactic(auto)]
+
 ghost use Rattle.std.specs.Prelude.{◌≡◌, ◌+◌, ◌%◌, ◌≤◌, ◌<◌, length, get_or, replicate};
 ghost use Rattle.rules.specs.Limits.{most_frames, most_tasks};
 ghost use Rattle.rows.specs.Rows.{scattered, rows_in, table_rows};

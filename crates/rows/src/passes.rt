@@ -109,7 +109,7 @@ pub fn fill<'a>(
 }
 
 // What a step leaves of a row: whether something was found so far, and the row.
-#[derive(Drop)]
+#[derive(Clone, Copy)]
 struct Step {
     found: bool,
     row: Frame,

@@ -3,7 +3,7 @@
 #![tactic(auto)]
 
 // A cell of a row: `-`, a number, or a number below zero, by how much it is.
-#[derive(Drop)]
+#[derive(Clone, Copy)]
 pub enum Cell {
     Dash,
     Count(u64),
@@ -11,7 +11,7 @@ pub enum Cell {
 }
 
 // A line by its first word; a line without a word is blank.
-#[derive(Drop)]
+#[derive(Clone, Copy)]
 pub enum Kind {
     Refused,
     Cycle,
@@ -22,7 +22,7 @@ pub enum Kind {
 
 // What a word of a line has to be: `-`, `at`, a number up to a limit, a number with or without `-` in front; `consumers`, or no word; or no
 // word at all.
-#[derive(Drop)]
+#[derive(Clone, Copy)]
 pub enum Form {
     Dash,
     At,

@@ -45,7 +45,7 @@ const MOST_64: u64 = 18446744073709551615;
 
 // What was read so far, but for the numbers of the rows, which stand in arrays: how far the sheet has come (0: nothing; 1: a refusal; 2: the
 // cycle), the edition, the cycle, and how many rows there are.
-#[derive(Drop)]
+#[derive(Clone, Copy)]
 struct Held {
     stage: u8,
     consumers: bool,
@@ -165,7 +165,7 @@ fn number_in(form: Form, word: &[u8]) -> Whole
 // ---- lines
 
 // What the word from a place on says: its number and the place behind it, if it has the form.
-#[derive(Drop)]
+#[derive(Clone, Copy)]
 enum Taken {
     Number { value: u64, next: usize },
     Wrong,
@@ -198,7 +198,7 @@ fn number_at(s: &[u8], at: usize, form: Form) -> Taken
 }
 
 // The numbers of a line's words behind the first, zeros behind them; none where the words have not their forms.
-#[derive(Drop)]
+#[derive(Clone, Copy)]
 struct Numbers {
     fine: bool,
     values: [u64; WORDS],
@@ -264,7 +264,7 @@ fn may_stand(kind: Kind, held: Held) -> bool
 }
 
 // What a line says, where it may stand.
-#[derive(Drop)]
+#[derive(Clone, Copy)]
 enum Said {
     Unreadable,
     Blank,
@@ -473,7 +473,7 @@ fn take(
 }
 
 // What a text comes to: what was read, but for the rows' numbers; or the first line that cannot be read.
-#[derive(Drop)]
+#[derive(Clone, Copy)]
 enum Reading {
     Sheet(Held),
     Unreadable(u64),
@@ -537,7 +537,7 @@ fn gather(
 
 // What reading a sheet back comes to: the length of the table that stands at the front of the lent bytes; the first line that cannot be read;
 // or how many bytes the table needs, where fewer are lent. In the last two cases the lent bytes are as they were.
-#[derive(Drop)]
+#[derive(Clone, Copy)]
 pub enum Back {
     Table(usize),
     Unreadable(u64),

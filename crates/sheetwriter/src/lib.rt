@@ -36,7 +36,7 @@ use times::on_bus;
 use units::{ByteCount, Frame, FrameNo, NodeNo, TaskNo, Ticks};
 
 // What check says of plan and table, and how long the text is.
-#[derive(Drop)]
+#[derive(Clone, Copy)]
 pub struct Written {
     pub answer: Verdict,
     pub length: usize,

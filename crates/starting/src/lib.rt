@@ -21,7 +21,7 @@ use stationsteps::modes_after;
 use units::{ModeNo, ModuleNo};
 
 // The answer, and the station beside it: not begun, all zero, where the beginning is refused.
-#[derive(Drop)]
+#[derive(Clone, Copy)]
 pub struct Begun {
     pub answer: Verdict,
     pub station: Station,

@@ -22,7 +22,7 @@ use units::{Frame, ModeNo, ModuleNo, NodeNo, TaskNo, Ticks};
 // `pair_starts` and `pair_stops` of the row that the pair rides in, and `pair_modes`, whose bits are the modes that have its message. The
 // arrays of numbers are lent to the steps.
 #[repr(C)]
-#[derive(Drop)]
+#[derive(Clone, Copy)]
 pub struct Station {
     pub fixed: Fixed,
     pub runs: [u32; ModeNo::MOST * TaskNo::MOST],
@@ -35,7 +35,7 @@ pub struct Station {
     pub nodes: [Node; NodeNo::MOST],
 }
 
-#[derive(Drop)]
+#[derive(Clone, Copy)]
 pub struct Ticked {
     pub said: Said,
     pub station: Station,
@@ -43,7 +43,7 @@ pub struct Ticked {
 
 // What a tick makes of all but the nodes. Where it is not `idle` the nodes change, by task: a value `lands`, which is that of `loads`, as
 // they were before the tick; `due` are the modes that have a message with this deadline; a run `ends`.
-#[derive(Drop)]
+#[derive(Clone, Copy)]
 pub struct BeforeNodes {
     pub play: Play,
     pub idle: bool,
@@ -54,7 +54,7 @@ pub struct BeforeNodes {
 }
 
 // What a tick says, and its part before the nodes.
-#[derive(Drop)]
+#[derive(Clone, Copy)]
 pub struct TickBeforeNodes {
     pub said: Said,
     pub part: BeforeNodes,

@@ -15,14 +15,14 @@ use stationruns::Input;
 use stationsteps::{ages_after, had_after, modes_after, one_on, out_after};
 use units::{Frame, ModuleNo, NodeNo, TaskNo, Ticks};
 
-#[derive(Drop)]
+#[derive(Clone, Copy)]
 pub struct ControlRow {
     pub node: NodeNo,
     pub start: Ticks,
     pub stop: Ticks,
 }
 
-#[derive(Drop)]
+#[derive(Clone, Copy)]
 pub struct DataRow {
     pub task: TaskNo,
     pub deadline: Ticks,
@@ -30,7 +30,7 @@ pub struct DataRow {
     pub stop: Ticks,
 }
 
-#[derive(Drop)]
+#[derive(Clone, Copy)]
 pub enum Said {
     Control(ControlRow),
     Data(DataRow),
@@ -39,7 +39,7 @@ pub enum Said {
 }
 
 // What a tick says and what it makes of the play.
-#[derive(Drop)]
+#[derive(Clone, Copy)]
 pub struct Advanced {
     pub said: Said,
     pub play: Play,

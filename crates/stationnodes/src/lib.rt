@@ -13,7 +13,7 @@ use stationbus::tasks_at;
 use units::{Frame, ModuleNo, NodeNo, TaskNo, Ticks};
 
 #[repr(C)]
-#[derive(Drop)]
+#[derive(Clone, Copy)]
 pub struct Node {
     pub landed: [u64; TaskNo::MOST],
     pub shown: [u64; TaskNo::MOST],

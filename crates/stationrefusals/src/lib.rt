@@ -14,7 +14,7 @@ use units::{Frame, ModeNo, ModuleNo, NodeNo, TaskNo, Ticks};
 
 // Of each module: the node that it is on, and whether it is sending. A flag is set where its byte is not 0.
 #[repr(C)]
-#[derive(Drop)]
+#[derive(Clone, Copy)]
 pub struct Modules {
     pub count: u8,
     pub sites: [u8; ModuleNo::MOST],
@@ -23,7 +23,7 @@ pub struct Modules {
 
 // Of each mode: its module, its period and its switch period.
 #[repr(C)]
-#[derive(Drop)]
+#[derive(Clone, Copy)]
 pub struct Modes {
     pub count: u8,
     pub homes: [u8; ModeNo::MOST],
@@ -33,7 +33,7 @@ pub struct Modes {
 
 // Of each task: its module, the bytes of its message and its worst time.
 #[repr(C)]
-#[derive(Drop)]
+#[derive(Clone, Copy)]
 pub struct Tasks {
     pub count: u8,
     pub homes: [u8; TaskNo::MOST],
@@ -43,7 +43,7 @@ pub struct Tasks {
 
 // The control rows: node, start and stop.
 #[repr(C)]
-#[derive(Drop)]
+#[derive(Clone, Copy)]
 pub struct Controls {
     pub count: u8,
     pub nodes: [u8; NodeNo::MOST],
@@ -54,7 +54,7 @@ pub struct Controls {
 // What a station keeps of the plan and the table, but for the large arrays (the runs and the pairs), which are lent where they are
 // read. `pairs` is the number of pairs.
 #[repr(C)]
-#[derive(Drop)]
+#[derive(Clone, Copy)]
 pub struct Fixed {
     pub modules: Modules,
     pub modes: Modes,
@@ -68,7 +68,7 @@ pub struct Fixed {
 // bus; `givens` whether a task's run has had its result; `held` the mode bytes that the nodes hold, a place for each module, node after node; `full` and `loads`
 // by task, whether the data frame on the bus has a value of it, and which.
 #[repr(C)]
-#[derive(Drop)]
+#[derive(Clone, Copy)]
 pub struct Play {
     pub clock: Ticks,
     pub running: [u8; ModuleNo::MOST],

@@ -1,5 +1,6 @@
 // What a tick is given, and the run of a task that it meets: whether a result is awaited, whether it fits, whether the run ends.
 #![tactic(auto)]
+
 ghost use Rattle.std.specs.Prelude.{◌≡◌, not, ◌||◌, ltb, ◌-◌, ◌^◌};
 ghost use Rattle.rules.specs.Station.{fits_in};
 ghost use Rattle.stationruns.specs.Inputs.{given_if, no_input};
@@ -12,7 +13,7 @@ use units::{ByteCount, ModeNo, ModuleNo, TaskNo, Ticks};
 // What a tick is given: by task place a result, which counts where `given` is set, and by module place a mode to change to, which counts
 // where `changed` is set. A flag is set where its byte is not 0.
 #[repr(C)]
-#[derive(Drop)]
+#[derive(Clone, Copy)]
 pub struct Input {
     pub results: [u64; TaskNo::MOST],
     pub given: [u8; TaskNo::MOST],
@@ -36,14 +37,14 @@ impl Input {
 
 // What a beginning is given: by module place its starting mode, which counts where `given` is set.
 #[repr(C)]
-#[derive(Drop)]
+#[derive(Clone, Copy)]
 pub struct Starting {
     pub modes: [u8; ModuleNo::MOST],
     pub given: [u8; ModuleNo::MOST],
 }
 
 // A task's run: the period of its invocation in the mode that runs, 0 where there is none, and the time since that mode began.
-#[derive(Drop)]
+#[derive(Clone, Copy)]
 pub struct Run {
     pub period: Ticks,
     pub age: Ticks,

@@ -9,7 +9,7 @@ pub mod write;
 use units::{NodeNo, Ticks};
 
 // What a table's first record says.
-#[derive(Drop)]
+#[derive(Clone, Copy)]
 pub struct Header {
     pub period: Ticks,
     pub controls: usize,
@@ -30,7 +30,7 @@ impl Header {
 
 // What a table file says besides the numbers of its data rows, with an array for each number of a control row. `controls` and `rows`
 // count what the file has; a row without a place left is counted and not stored.
-#[derive(Drop)]
+#[derive(Clone, Copy)]
 pub struct Heading {
     pub header: Header,
     pub controls: usize,

@@ -20,13 +20,13 @@ pub fn is_for_consumers(table: &[u8]) -> bool
 }
 
 // How gathering ended: at the file's end, or at the place where the record rules are broken.
-#[derive(Drop)]
+#[derive(Clone, Copy)]
 pub enum Outcome {
     Whole,
     Broken(Offset),
 }
 
-#[derive(Drop)]
+#[derive(Clone, Copy)]
 pub struct Reading {
     pub outcome: Outcome,
     pub heading: Heading,
@@ -90,7 +90,7 @@ fn data_row(
     }
 }
 
-#[derive(Drop)]
+#[derive(Clone, Copy)]
 struct Gathered {
     outcome: Outcome,
     header: Header,

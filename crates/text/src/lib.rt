@@ -8,7 +8,7 @@ ghost use Rattle.text.specs.Text.{digits, decimal, marked, numbered_line, refuse
 pub mod lines;
 
 // A number read: its value and the place behind its digits.
-#[derive(Drop)]
+#[derive(Clone, Copy)]
 pub enum Number {
     Digits { value: u64, next: usize },
     None,

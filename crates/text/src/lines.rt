@@ -5,21 +5,21 @@ ghost use Rattle.text.specs.Lines.{behind_end, behind_word, is_blank, is_end, is
 use crate::{Number, read_decimal};
 
 // The place behind a part of a line, if that part is there.
-#[derive(Drop)]
+#[derive(Clone, Copy)]
 pub enum End {
     At(usize),
     Wrong,
 }
 
 // A word by its places: its first byte's, and the one behind its last.
-#[derive(Drop)]
+#[derive(Clone, Copy)]
 pub enum Word {
     Stands { from: usize, to: usize },
     None,
 }
 
 // The number that a text is.
-#[derive(Drop)]
+#[derive(Clone, Copy)]
 pub enum Whole {
     Value(u64),
     None,

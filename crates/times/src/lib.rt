@@ -11,15 +11,15 @@ use plan::Bus;
 use units::ByteCount;
 
 // A number of bits on the bus. Wider than `BitCount`: no value of a bus, however far from its ranges, makes it wrap.
-#[derive(Drop)]
+#[derive(Clone, Copy)]
 pub struct Bits(pub u64);
 
 // A length of time in ticks; for the same reason wider than `Ticks`.
-#[derive(Drop)]
+#[derive(Clone, Copy)]
 pub struct Span(pub u64);
 
 // What is sent, as bits and as ticks.
-#[derive(Drop)]
+#[derive(Clone, Copy)]
 pub struct Sending {
     pub bits: Bits,
     pub ticks: Span,

@@ -5,7 +5,7 @@ ghost use Rattle.std.specs.Prelude.{◌≡◌};
 
 // Time, in ticks of one microsecond.
 #[repr(C)]
-#[derive(Drop)]
+#[derive(Clone, Copy)]
 pub struct Ticks(pub u32);
 
 impl Ticks {
@@ -20,7 +20,7 @@ impl Ticks {
 }
 
 // A number of bytes: of a payload, an overhead, a file.
-#[derive(Drop)]
+#[derive(Clone, Copy)]
 pub struct ByteCount(pub u32);
 
 impl ByteCount {
@@ -50,11 +50,11 @@ impl ByteCount {
 }
 
 // A number of bits, as a plan gives it: the gap.
-#[derive(Drop)]
+#[derive(Clone, Copy)]
 pub struct BitCount(pub u32);
 
 // How many bits a byte takes on the bus.
-#[derive(Drop)]
+#[derive(Clone, Copy)]
 pub struct ByteBits(pub u8);
 
 impl ByteBits {
@@ -85,7 +85,7 @@ impl ByteBits {
 }
 
 // The number of a node, counted from 0.
-#[derive(Drop)]
+#[derive(Clone, Copy)]
 pub struct NodeNo(pub u8);
 
 impl NodeNo {
@@ -106,7 +106,7 @@ impl NodeNo {
 }
 
 // The number of a module, counted from 0 in the plan's order.
-#[derive(Drop)]
+#[derive(Clone, Copy)]
 pub struct ModuleNo(pub u8);
 
 impl ModuleNo {
@@ -127,7 +127,7 @@ impl ModuleNo {
 }
 
 // The number of a mode, counted from 0 in the plan's order over all modules.
-#[derive(Drop)]
+#[derive(Clone, Copy)]
 pub struct ModeNo(pub u8);
 
 impl ModeNo {
@@ -149,7 +149,7 @@ impl ModeNo {
 
 // The number of a task, counted from 0 in the plan's order over all modules.
 #[repr(C)]
-#[derive(Drop)]
+#[derive(Clone, Copy)]
 pub struct TaskNo(pub u8);
 
 impl TaskNo {
@@ -170,25 +170,25 @@ impl TaskNo {
 }
 
 // The number of a record in its file, counted from 0 over all kinds.
-#[derive(Drop)]
+#[derive(Clone, Copy)]
 pub struct RecordNo(pub usize);
 
 // The number of a frame: by deadline, then by task.
-#[derive(Drop)]
+#[derive(Clone, Copy)]
 pub struct FrameNo(pub usize);
 
 // A place in a file, in bytes from its front.
-#[derive(Drop)]
+#[derive(Clone, Copy)]
 pub struct Offset(pub usize);
 
 // The number of a task as it stands in a row: a word, so that a row has no gaps and many rows are cleared at once.
 #[repr(C)]
-#[derive(Drop)]
+#[derive(Clone, Copy)]
 pub struct TaskWord(pub u32);
 
 // A frame as the caller lends it a row: its task, release and deadline, and the start that a table gives it.
 #[repr(C)]
-#[derive(Drop)]
+#[derive(Clone, Copy)]
 pub struct Frame {
     pub task: TaskWord,
     pub release: Ticks,

@@ -3,11 +3,12 @@ use mathlib.Core.Path.{sym, ap, ◌∙◌}
 use Prim.Native.Nat.{ℕ, ◌+◌, ◌≤◌}
 use native.Mathlib.Nat.{add-zero}
 use lib.ListN.{length, get_or}
+use lib.Dec.{leb}
 use native.Mathlib.Omega.{arith}
 use Rattle.laws.proofs.Little.{number_added}
 use borrow.Author.Rules.{rules}
 use borrow.Author.Tests.{leb-true}
-use Rattle.std.proofs.Common.{List, Bool, leb}
+use Rattle.std.proofs.Common.{◌≡◌, List, Bool, true}
 use Rattle.little.proofs.read16.Goals as goal
 
 -- the bytes stand there
