@@ -181,7 +181,7 @@ CLAUSE = re.compile(r"^\s*(requires|ensures)\*?(?: ([a-z_]\w*))? \{", re.M)
 
 
 def contracts(root):
-    """crate::path::function: labels of requires and of ensures (None for a lone one)."""
+    """crate::path::function: labels of requires and of ensures (None for a lone one), and its parameters."""
     out = {}
     for c in os.listdir(os.path.join(root, "crates")):
         src = os.path.join(root, "crates", c, "src")
@@ -189,19 +189,24 @@ def contracts(root):
             for n in names:
                 if not n.endswith(".rt"):
                     continue
-                t = open(os.path.join(folder, n), encoding="utf-8").read()
+                t = re.sub(r"//.*", "", open(os.path.join(folder, n), encoding="utf-8").read())
                 mod = os.path.relpath(os.path.join(folder, n), src)[:-3].replace(os.sep, "::")
                 mod = [] if mod in ("lib", "main") else mod.split("::")
                 impl = None
-                for m in re.finditer(r"^impl(?:<[^>]*>)? (\w+)|^(?:    )?(?:pub )?(?:const |unsafe |extern \"C\" )*fn (\w+)[^{;]*?(?=\n\s*(?:requires|ensures)|\n?\{|\s*\{)", t, re.M):
+                for m in re.finditer(r"^impl(?:<[^>]*>)? (\w+)|^( *)(?:pub )?(?:const |unsafe |extern \"C\" )*fn (\w+)(?:<[^>(]*>)?\(", t, re.M):
                     if m.group(1):
                         impl = m.group(1)
                         continue
-                    if not m.group(0).startswith(" "):
+                    if not m.group(2):
                         impl = None
-                    start = m.end()
-                    # clauses up to the body: consecutive clause blocks
-                    pos, req, ens = start, [], []
+                    e = matching(t, m.end() - 1)
+                    params = []
+                    for x in split_top(t[m.end() : e]):
+                        x = x.strip()
+                        if x:
+                            params.append("self" if re.match(r"&?(?:'\w+ )?(mut )?self$", x) else re.sub(r"^mut ", "", x.split(":")[0].strip()))
+                    k = re.compile(r"[^\n{]*").match(t, e + 1)
+                    pos, req, ens = k.end(), [], []
                     while True:
                         k = re.compile(r"\s*(requires|ensures|ghost)(\*?)(?: ([a-z_]\w*))?(?::)? \{").match(t, pos)
                         if not k:
@@ -212,8 +217,8 @@ def contracts(root):
                         elif k.group(1) == "ensures":
                             ens.append(k.group(3))
                         pos = e + 1
-                    path = "::".join([c] + mod + ([impl] if impl else []) + [m.group(2)])
-                    out[path] = (req, ens)
+                    path = "::".join([c] + mod + ([impl] if impl else []) + [m.group(3)])
+                    out[path] = (req, ens, params)
     return out
 
 
@@ -275,14 +280,23 @@ def convert(crate, where, folder, old, text, it, laws):
     fields, callees = {}, {}
     for p in it["places"]:
         a, b = p[2]
-        if a and plain(a) != b and not re.search(r"-1$|told|known", b):
+        if a and not re.search(r"-1$|(enum|known|way)_told|slice_known", b):
             fields.setdefault(plain(a), b)
         if b and p[3]:
             callees[b] = p[3]
     loops = {plain(l[0][0]): (l[0][1], l[1], ch) for l, ch in zip(it["loops"], it["changed"])}
 
     own = "::".join([crate] + where.split("."))
-    own_req, own_ens = laws.get(own, ([], []))
+    own_req, own_ens, own_params = laws.get(own, ([], [], []))
+    spelled = {plain(x): x for x in own_params}
+    for l in it["loops"]:
+        spelled.update({plain(x): x for x in l[1]})
+    labels = {plain(p[2][1]): p[2][1] for p in it["places"] if p[2][1]}
+    arms = {}
+    for arm in it["arms"]:
+        if arm:
+            for field, label, path in arm[2]:
+                arms.setdefault((plain(label), tuple(path)), f"{arm[0]}.{field}")
 
     invs = [g for g in order if g.name and re.search(r": tie\.(invariant|decreases)-", g.sig)]
     inv_names = [g.name for g in invs]
@@ -302,15 +316,24 @@ def convert(crate, where, folder, old, text, it, laws):
         # steps
         # only right behind the record itself
         def step(m):
-            n = fields.get(plain(m.group(3)))
-            return m.group(1) + m.group(2) + "." + (n or m.group(3))
+            label = m.group(3)
+            path = [x for x in (m.group(4) or "").split(".") if x]
+            for k in range(len(path), 0, -1):
+                new = arms.get((plain(label), tuple(path[:k])))
+                if new and "-own" not in new:
+                    return m.group(1) + m.group(2) + "." + new + "".join("." + x for x in path[k:])
+            n = fields.get(plain(label)) or (label.endswith("_lem") and labels.get(plain(label[:-4])))
+            return m.group(1) + m.group(2) + "." + (n or label) + (m.group(4) or "")
 
-        t = re.sub(r"(?<![\w.'\-])(" + IDENT + r"|\([^()]*\))((?:\.before)*)\.(" + IDENT + r")", step, t)
+        t = re.sub(r"(?<![\w.'\-])(" + IDENT + r"|\([^()]*\))((?:\.before)*)\.(" + IDENT + r")((?:\.(?:given|ensures|[01])(?![\w\-]))*)", step, t)
+        t = t.replace(".well-formed", ".well_formed")
+        t = re.sub(r"\.(" + IDENT + r")", lambda m: "." + (spelled.get(plain(m.group(1)), m.group(1)) if "-" in m.group(1) else m.group(1)), t)
+        t = re.sub(r"\.args\.t([1-9])(?![\w\-])", lambda m: ".args." + own_params[int(m.group(1)) - 1] if int(m.group(1)) <= len(own_params) and m.group(0)[6:] not in own_params else m.group(0), t)
         # a chain of `before` in front of a field
         t = re.sub(r"(?:\.before)+(?=\.[A-Za-z_])", "", t)
         t = cite(t, r"(\.requires)", own_req)
         for b, callee in callees.items():
-            r, e = laws.get(callee, ([], []))
+            r, e, _ = laws.get(callee, ([], [], []))
             t = cite(t, r"(\." + re.escape(b) + r"\.ensures)", e)
         return t
 
@@ -364,9 +387,9 @@ def convert(crate, where, folder, old, text, it, laws):
             print(f"{old}: two answers for {new}")
         taken.add(new)
         body = "\n".join(g.clauses)
-        if re.search(r"enum-told|enum_told|known-told|known_told", body):
-            continue
         body = turn(renamed(body))
+        # the call of a function takes no lifetimes here
+        body = re.sub(r"(?m)^(" + re.escape(new) + r" c) κs =", r"\1 =", body)
         if len(own_ens) > 1 and new.startswith("returns"):
             body = tail_record(body, own_ens)
         if re.match(re.escape(new) + r" [\w₀-₉ ]+= search rules$", body):
@@ -407,9 +430,8 @@ def convert(crate, where, folder, old, text, it, laws):
             body = m.group(2)
             values = None
             if live is not None:
-                un = [v for v, c in zip(live, changed) if not c]
                 ch = [v for v, c in zip(live, changed) if c]
-                values = [f"l.{v}" for v in un] + [f"l.initial.{v}" for v in ch] + [f"l.{v}" for v in ch]
+                values = [f"l.initial.{v}" if c else f"l.{v}" for v, c in zip(live, changed)] + [f"l.{v}" for v in ch]
             if values is None or len(values) != len(params):
                 print(f"{old}: loop {loop}: parameters {params} for {live} {changed}")
             else:

@@ -1,5 +1,6 @@
 // Which frame each data row names: rule 7.23, and the start that a table gives to each frame.
 #![tactic(auto)]
+
 ghost use Rattle.std.specs.Prelude.{◌≡◌, replicate, ◌≤◌};
 ghost use Rattle.laws.specs.Lists.{first_bad, up_to};
 ghost use Rattle.laws.specs.Loops.{stores};

@@ -58,6 +58,7 @@ module _ (x : Numbered) where
   latest_top : {l : List Numbered} → All (Below x) l → Memᴰ x l → latest l ≡ x
   latest_top (also {x = y} q r) (Memᴰ.head e) = latest_of_top y q r (inl (sym e))
   latest_top (also {x = y} q r) (Memᴰ.tail m) = latest_of_top y q r (inr m)
+  latest_top empty x4 = elim x4 [ ]
 
 greatest-le : (b : ℕ) {l : List Numbered} → All (λ y. y.pair.deadline ≤ b) l → greatest_deadline l ≤ b
 unfolding greatest_deadline with_deadline

@@ -51,6 +51,7 @@ module _ (F : ℕ → Pair) where
   numbering_from lo (suc n) y (Memᴰ.tail m) =
       let t = numbering_from (suc lo) n y m in
       (t.0, t.1, (let a : suc lo ≤ t.0 = t.2 in omega arith), (let b : t.0 < suc lo + n = t.3 in omega arith))
+  numbering_from lo zero y x' = elim x' [ ]
 
   numbering_has : (lo n k : ℕ) → k < n → Memᴰ (numbered F (lo + k)) (numbered_from lo (tab F lo n))
   unfolding numbered_from

@@ -1,6 +1,7 @@
 // Records: the table of kinds, and the reader that gives one record of a lent file at a time (rules 2.9, 2.10). `next` and `body`
 // stand on that reader and have plain parameters, so whoever calls them needs no walk.
 #![tactic(auto)]
+
 ghost use Rattle.std.specs.Prelude.{◌≡◌, ◌-◌, ◌≤◌, length, take, drop};
 ghost use Rattle.records.specs.Reader.{next_at};
 

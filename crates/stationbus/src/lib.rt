@@ -1,6 +1,7 @@
 // The frames of a tick: which row starts or stops now, and which tasks have a pair in it; (b) the mode bytes that land, (f) what is sent.
 // Each step is on the array that it changes; what it reads is lent.
 #![tactic(auto)]
+
 ghost use Rattle.std.specs.Prelude.{◌≡◌, cond, false, ◌&&◌, leb, get_or, length, replicate, ℕ, ◌*◌, ◌^◌, ◌<◌};
 ghost use Rattle.std.specs.Int.Bits.{bit_or};
 ghost use Rattle.laws.specs.Lists.{all, up_to};

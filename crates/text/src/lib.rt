@@ -1,6 +1,7 @@
 // Text, as the programs write and read it: bytes in ASCII, stored into a lent buffer and read from lent bytes. A byte behind the
 // buffer's end is not stored, so that a buffer of any length may be lent.
 #![tactic(auto)]
+
 ghost use Rattle.std.specs.Prelude.{◌≡◌, ◌+◌, ◌-◌, ◌≤◌, length, get_or, set};
 ghost use Rattle.std.proofs.lemmas.List.Edits.{sets};
 ghost use Rattle.text.specs.Text.{digits, decimal, marked, numbered_line, refused_line, spaces, too_long_line, unreadable_line, passed_line, is_digit, read_decimal};

@@ -1,0 +1,25 @@
+-- The reads' promises are rewritten; `numbers-laid` says at which offsets the record's numbers stand.
+use borrow.Author.Rules.{rules}
+use mathlib.Core.Path.{sym, ap}
+use mathlib.Core.List.{List}
+use Prim.Native.Nat.{ℕ}
+use Rattle.rules.specs.Records.{fields, kinds, record_of}
+use Rattle.rules.specs.Plan.{bus_of}
+use Rattle.rules.proofs.BodyNumbers.{numbers-laid}
+use Rattle.plan.specs.Memory.{bus_laid, with_byte_bits}
+use Rattle.plan.proofs.bodies.bus_with.Goals as goal
+
+pub returns : goal.returns
+unfolding bus_laid with_byte_bits bus_of record_of fields kinds
+returns c =
+    let c1 = c.before in
+    let a = c1.args in
+    rw (
+      c1.read16-overhead.ensures,
+      c1.read16-least.ensures,
+      c1.read16-most.ensures,
+      c.read16-gap.ensures,
+      c.read32.ensures,
+      c.read32-2.ensures,
+    )
+    (ap (λ (b : List ℕ). bus_laid (with_byte_bits a.bits.0 (bus_of (record { kind = 1; numbers = b })))) (sym (numbers-laid a.body.now 0 1)))

@@ -1,0 +1,15 @@
+-- The lesser of count and array size is the length of what is seen (`part_length`); the array's type gives its size (`sizes`).
+use borrow.Author.Rules.{rules}
+use mathlib.Core.Path.{◌∙◌, sym}
+use native.Mathlib.Omega.{arith}
+use Rattle.plan.specs.Memory.{seen, count_seen, mode_seen}
+use Rattle.plan.proofs.Parts.{part_length}
+use Rattle.plan.proofs.Sizes.{sizes}
+use Rattle.plan.proofs.look.mode_count.Goals as goal
+
+pub returns : goal.returns
+unfolding seen count_seen
+returns c =
+    let p = c.args.p in
+    let h = sizes p _ c.well_formed.0 in
+    (c.lower.ensures ∙ sym (part_length mode_seen (count_seen p 4) p.modes 32 h.modes), omega arith)

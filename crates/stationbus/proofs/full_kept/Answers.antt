@@ -1,0 +1,17 @@
+use mathlib.Core.Path.{◌∙◌}
+use Prim.Native.Nat.{◌≤◌, ◌-◌}
+use Rattle.laws.proofs.Turns.{Filled, filled_none, filled_turn, filled_next, filled-end}
+use Rattle.stationbus.specs.Bus.{full_still}
+use borrow.Author.Rules.{rules}
+use Rattle.stationbus.proofs.full_kept.Goals as goal
+
+pub loop-t-init : goal.loop-t-init
+loop-t-init c = (search rules, filled_none)
+
+pub loop-t-preserved : goal.loop-t-preserved
+loop-t-preserved c =
+    let c1 = c.before in
+    (search rules, filled_turn c1.loop-t.invariant.1 (rw (c.is_set.ensures, filled_next c1.loop-t.invariant.1 0) at c.flag_byte.ensures))
+
+pub returns : goal.returns
+returns c = filled-end c.loop-t.invariant.1 c.loop-t.invariant.0 c.loop-t-test.false

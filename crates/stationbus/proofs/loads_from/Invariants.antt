@@ -1,0 +1,13 @@
+-- Invariant: the places so far are filled by `load_from` (`Filled`); a turn reads the next place, still as it was.
+use mathlib.Core.Path.{◌∙◌}
+use Prim.Native.Nat.{◌≤◌, ◌-◌}
+use Rattle.laws.proofs.Turns.{Filled, filled_none, filled_turn, filled_next, filled-end}
+use Rattle.stationbus.specs.Bus.{load_from, number_at, truth_at}
+use borrow.Author.Rules.{rules}
+use Rattle.stationbus.proofs.loads_from.Given as goal
+
+abbrev pub invariant-loop-t : goal.invariant-loop-t
+invariant-loop-t l = (l.t ≤ 32) × Filled l.initial.loads (load_from (truth_at l.starting) (number_at l.out) l.initial.loads) l.t l.loads
+
+abbrev pub decreases-loop-t : goal.decreases-loop-t
+decreases-loop-t l = 32 - l.t

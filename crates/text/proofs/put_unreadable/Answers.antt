@@ -1,0 +1,8 @@
+-- `unreadable_line` unfolds into the numbered line that `put_numbered` promises.
+use Rattle.text.specs.Text.{unreadable_line}
+use borrow.Author.Rules.{rules}
+use Rattle.text.proofs.put_unreadable.Goals as goal
+
+pub returns : goal.returns
+unfolding unreadable_line
+returns c = c.put_numbered.ensures
