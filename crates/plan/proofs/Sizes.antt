@@ -5,7 +5,7 @@ use mathlib.Core.List.{List}
 use mir.Val.{Val}
 use denote.Laws.{Is}
 use denote.Struct.Declared.{row}
-use lib.ListN.{length, length-map}
+use lib.ListN.{length}
 use Rattle.plan.specs.declared.Plan.{Plan}
 use Rattle.plan.specs.contracts.Plan as declared
 
@@ -20,10 +20,10 @@ pub record Sizes (p : Plan) : Type 0 where
 pub sizes : (p : Plan) (vs : List Val) → Is (row declared.the_type) p vs → Sizes p
 sizes p vs h =
     record {
-      counts = simp length-map at h.1.1.1.0.1.0.1;
-      modules = simp length-map at h.1.1.1.1.0.1.0.1;
-      modes = simp length-map at h.1.1.1.1.1.0.1.0.1;
-      tasks = simp length-map at h.1.1.1.1.1.1.0.1.0.1;
-      invocations = simp length-map at h.1.1.1.1.1.1.1.0.1.0.1;
-      connections = simp length-map at h.1.1.1.1.1.1.1.1.0.1.0.1;
+      counts = h.1.1.1.0.1.0.1;
+      modules = h.1.1.1.1.0.1.0.1;
+      modes = h.1.1.1.1.1.0.1.0.1;
+      tasks = h.1.1.1.1.1.1.0.1.0.1;
+      invocations = h.1.1.1.1.1.1.1.0.1.0.1;
+      connections = h.1.1.1.1.1.1.1.1.0.1.0.1;
     }
