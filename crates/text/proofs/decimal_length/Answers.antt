@@ -1,8 +1,4 @@
-use mathlib.Core.Path.{◌≡◌}
-use lib.ListN.{length}
-use Prim.Native.Nat.{◌+◌, ◌≤◌}
 use native.Mathlib.Omega.{arith}
-use Rattle.text.specs.Text.{decimal}
 use Rattle.text.proofs.Decimals.{decimal-long, decimal-most, decimal-one, decimal_more}
 use borrow.Author.Rules.{rules}
 use Rattle.text.proofs.decimal_length.Goals as goal

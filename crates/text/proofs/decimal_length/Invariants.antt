@@ -2,10 +2,7 @@
 use mathlib.Core.Path.{◌≡◌}
 use lib.ListN.{length}
 use Prim.Native.Nat.{◌+◌, ◌≤◌}
-use native.Mathlib.Omega.{arith}
 use Rattle.text.specs.Text.{decimal}
-use Rattle.text.proofs.Decimals.{decimal-long, decimal-most, decimal-one, decimal_more}
-use borrow.Author.Rules.{rules}
 use Rattle.text.proofs.decimal_length.Given as goal
 
 abbrev pub invariant-loop-rest : goal.invariant-loop-rest

@@ -1,5 +1,4 @@
 -- In each exit the test against 48 is rewritten into the definition (`lt-leb`, `le-leb`).
-use mathlib.Core.Bool.{◌&&◌}
 use borrow.Author.Tests.{lt-leb, le-leb}
 use borrow.Author.Rules.{rules}
 use Rattle.text.proofs.is_digit.Goals as goal

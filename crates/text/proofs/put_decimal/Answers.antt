@@ -7,7 +7,6 @@ use Prim.Native.Nat.{◌+◌, ◌≤◌}
 use Rattle.text.specs.Text.{digits, decimal}
 use Rattle.text.proofs.Decimals.{digits-most}
 use Rattle.text.proofs.Putting.{Put, zero-put, digits-put}
-use borrow.Author.Rules.{rules}
 use Rattle.text.proofs.put_decimal.Goals as goal
 
 pub returns-then-x-eq0 : goal.returns-then-x-eq0

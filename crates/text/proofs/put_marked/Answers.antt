@@ -2,7 +2,6 @@
 use Rattle.text.proofs.Putting.{marked-few}
 use Rattle.text.proofs.Putting.{both_put}
 use native.Mathlib.Omega.{arith}
-use borrow.Author.Rules.{rules}
 use Rattle.text.proofs.put_marked.Goals as goal
 
 pub returns : goal.returns

@@ -1,7 +1,6 @@
 -- `numbered_put` joins the marked number and the line feed; arithmetic counts the bytes.
 use Rattle.text.proofs.Putting.{numbered_put}
 use native.Mathlib.Omega.{arith}
-use borrow.Author.Rules.{rules}
 use Rattle.text.proofs.put_numbered.Goals as goal
 
 pub returns : goal.returns

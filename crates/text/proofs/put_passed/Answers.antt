@@ -1,6 +1,5 @@
 -- `passed_line` unfolds into the bytes that `put_bytes` promises.
 use Rattle.text.specs.Text.{passed_line}
-use borrow.Author.Rules.{rules}
 use Rattle.text.proofs.put_passed.Goals as goal
 
 pub returns : goal.returns

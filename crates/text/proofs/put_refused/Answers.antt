@@ -7,7 +7,6 @@ use Prim.Native.Nat.{◌+◌, ◌≤◌}
 use Rattle.text.specs.Text.{decimal, refused_line}
 use Rattle.text.proofs.Decimals.{decimal-most}
 use Rattle.text.proofs.Putting.{Put, refused-put}
-use borrow.Author.Rules.{rules}
 use Rattle.text.proofs.put_refused.Goals as goal
 
 pub put_bytes-place_at-requires : goal.put_bytes-place_at-requires
@@ -55,9 +54,9 @@ returns c =
     let c4 = c3.before in
     let c5 = c4.before in
     let a = c5.args in
-    let put : Put a.buf.now 0 (refused_line a.number a.place) c1.put_bytes.new.0 c1.put_bytes.result =
-    refused-put a.buf.now c5.put_bytes-number_at.new.0 c4.put_decimal-at_at.new.0 c3.put_bytes-place_at.new.0
-    c2.put_decimal-end.new.0 c1.put_bytes.new.0
+    let put : Put a.buf.now 0 (refused_line a.number a.place) c1.put_bytes.new.buf c1.put_bytes.result =
+    refused-put a.buf.now c5.put_bytes-number_at.new.buf c4.put_decimal-at_at.new.buf c3.put_bytes-place_at.new.buf
+    c2.put_decimal-end.new.buf c1.put_bytes.new.buf
     c5.put_bytes-number_at.result c4.put_decimal-at_at.result c3.put_bytes-place_at.result c2.put_decimal-end.result c1.put_bytes.result
     a.number a.place
     c5.put_bytes-number_at.ensures c4.put_decimal-at_at.ensures c3.put_bytes-place_at.ensures c2.put_decimal-end.ensures

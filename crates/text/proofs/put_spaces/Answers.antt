@@ -1,7 +1,6 @@
-use Prim.Native.Nat.{◌+◌, ◌-◌, ◌≤◌}
 use native.Mathlib.Nat.{add-zero}
 use native.Mathlib.Omega.{arith}
-use Rattle.text.proofs.Putting.{Putting, putting_none, putting_turn, putting_end, putting_length, one_space, spaces-texts}
+use Rattle.text.proofs.Putting.{putting_none, putting_turn, putting_end, putting_length, spaces-texts}
 use borrow.Author.Rules.{rules}
 use Rattle.text.proofs.put_spaces.Goals as goal
 

@@ -1,9 +1,6 @@
 -- Invariant: i spaces are put (`Putting`); a turn is `putting_turn`, and behind the last they are all (`spaces-texts`).
 use Prim.Native.Nat.{◌+◌, ◌-◌, ◌≤◌}
-use native.Mathlib.Nat.{add-zero}
-use native.Mathlib.Omega.{arith}
-use Rattle.text.proofs.Putting.{Putting, putting_none, putting_turn, putting_end, putting_length, one_space, spaces-texts}
-use borrow.Author.Rules.{rules}
+use Rattle.text.proofs.Putting.{Putting, one_space}
 use Rattle.text.proofs.put_spaces.Given as goal
 
 abbrev pub invariant-loop-i : goal.invariant-loop-i

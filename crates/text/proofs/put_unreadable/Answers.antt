@@ -1,6 +1,5 @@
 -- `unreadable_line` unfolds into the numbered line that `put_numbered` promises.
 use Rattle.text.specs.Text.{unreadable_line}
-use borrow.Author.Rules.{rules}
 use Rattle.text.proofs.put_unreadable.Goals as goal
 
 pub returns : goal.returns

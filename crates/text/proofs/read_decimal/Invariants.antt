@@ -1,13 +1,8 @@
 -- Invariant: the value so far and the run left give the whole number; a turn is `run_more`, and each exit is one law.
-use borrow.Author.Rules.{rules}
-use mathlib.Core.Bool.{true}
-use mathlib.Core.List.{[], ◌∷◌}
-use mathlib.Core.Path.{◌≡◌, refl, sym, ap, ◌∙◌}
-use native.Mathlib.Omega.{arith}
+use mathlib.Core.Path.{◌≡◌}
 use lib.ListN.{length, get_or, drop}
-use Prim.Native.Nat.{ℕ, suc, ◌+◌, ◌-◌, ◌*◌, ◌^◌, ◌≤◌, ◌<◌}
-use Rattle.text.specs.Text.{is_digit, digit_run, value_from, read_decimal}
-use Rattle.text.proofs.Reading.{digit_within, run_more, run_ends, no_digit, too_large, all_read}
+use Prim.Native.Nat.{◌+◌, ◌-◌, ◌^◌, ◌<◌}
+use Rattle.text.specs.Text.{digit_run, value_from}
 use Rattle.text.proofs.read_decimal.Given as goal
 
 abbrev pub invariant-loop-digit : goal.invariant-loop-digit

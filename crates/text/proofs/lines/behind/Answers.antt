@@ -1,6 +1,4 @@
-use Rattle.text.proofs.Runs.{Matched, matched-none, matched_turn, matched-short, matched-wrong, matched-end}
-use lib.ListN.{length}
-use Prim.Native.Nat.{◌-◌, ◌≤◌}
+use Rattle.text.proofs.Runs.{matched-none, matched_turn, matched-short, matched-wrong, matched-end}
 use borrow.Author.Rules.{rules}
 use Rattle.text.proofs.lines.behind.Goals as goal
 

@@ -1,8 +1,7 @@
 -- Invariant: the first i bytes match, and what is left of the word decides (`Matched`); each exit is one law of it.
-use Rattle.text.proofs.Runs.{Matched, matched-none, matched_turn, matched-short, matched-wrong, matched-end}
+use Rattle.text.proofs.Runs.{Matched}
 use lib.ListN.{length}
 use Prim.Native.Nat.{◌-◌, ◌≤◌}
-use borrow.Author.Rules.{rules}
 use Rattle.text.proofs.lines.behind.Given as goal
 
 abbrev pub invariant-loop-i : goal.invariant-loop-i

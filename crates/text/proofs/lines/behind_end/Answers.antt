@@ -2,7 +2,6 @@
 use lib.ListN.{length}
 use borrow.Author.Tests.{lt-ltb, le-ltb}
 use native.Mathlib.Numerals.{add-one}
-use borrow.Author.Rules.{rules}
 use Rattle.text.proofs.lines.behind_end.Goals as goal
 
 pub returns-then-end-s : goal.returns-then-end-s

@@ -1,11 +1,8 @@
 -- Invariant: the run of blanks ends where it did, sought from here (`Running`); a turn and each exit are one law of it.
 use lib.ListN.{length}
 use Prim.Native.Nat.{◌-◌}
-use mathlib.Core.Path.{sym, ◌∙◌}
-use borrow.Author.Tests.{not-true, not-false}
 use Rattle.text.specs.Lines.{is_blank}
-use Rattle.text.proofs.Runs.{Running, running_none, running_turn, running-stop, running-end}
-use borrow.Author.Rules.{rules}
+use Rattle.text.proofs.Runs.{Running}
 use Rattle.text.proofs.lines.blanks_end.Given as goal
 
 abbrev pub invariant-loop-at : goal.invariant-loop-at

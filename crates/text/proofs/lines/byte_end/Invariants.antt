@@ -2,8 +2,7 @@
 use lib.ListN.{length}
 use Prim.Native.Nat.{◌-◌}
 use Rattle.text.specs.Lines.{is_other}
-use Rattle.text.proofs.Runs.{Running, running_none, running_turn, running-stop, running-end, is_stop, is_no_stop}
-use borrow.Author.Rules.{rules}
+use Rattle.text.proofs.Runs.{Running}
 use Rattle.text.proofs.lines.byte_end.Given as goal
 
 abbrev pub invariant-loop-at : goal.invariant-loop-at

@@ -3,7 +3,6 @@ use mathlib.Core.Path.{◌∙◌}
 use native.Mathlib.Nat.{zero-add}
 use Prim.Native.Nat.{zero-le}
 use Rattle.text.specs.Lines.{uncommented, run_end}
-use borrow.Author.Rules.{rules}
 use Rattle.text.proofs.lines.comment_start.Goals as goal
 
 pub returns : goal.returns

@@ -1,5 +1,4 @@
 -- Both cases compute; where there is an end, the case is rewritten into the definition.
-use borrow.Author.Rules.{rules}
 use Rattle.text.proofs.lines.is_end.Goals as goal
 
 pub returns-in-At : goal.returns-in-At

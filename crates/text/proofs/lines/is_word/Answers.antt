@@ -1,7 +1,6 @@
 -- The callees' promises, one put into the other, are `is_word`.
 use mathlib.Core.Path.{ap, ◌∙◌}
 use Rattle.text.specs.Lines.{is_word, is_end}
-use borrow.Author.Rules.{rules}
 use Rattle.text.proofs.lines.is_word.Goals as goal
 
 pub returns : goal.returns

@@ -1,6 +1,5 @@
 -- A line ends where the run of bytes other than a line feed does.
 use Rattle.text.specs.Lines.{line_end, run_end}
-use borrow.Author.Rules.{rules}
 use Rattle.text.proofs.lines.line_end.Goals as goal
 
 pub returns : goal.returns

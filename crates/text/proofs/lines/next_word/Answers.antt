@@ -1,6 +1,5 @@
 -- Two exits, one law each: `next-found`, `next-none`.
 use Rattle.text.proofs.Words.{next-found, next-none}
-use borrow.Author.Rules.{rules}
 use Rattle.text.proofs.lines.next_word.Goals as goal
 
 pub returns-then-from-s : goal.returns-then-from-s

@@ -1,7 +1,6 @@
 -- Three exits: no number, digits to the end, something behind them; each rewrites the callee's promise into `whole_number`.
 use borrow.Author.Tests.{eq-eqb, ne_eqb}
 use Rattle.text.specs.Lines.{whole_number}
-use borrow.Author.Rules.{rules}
 use Rattle.text.proofs.lines.whole_number.Goals as goal
 
 pub returns-in-None : goal.returns-in-None

@@ -1,10 +1,6 @@
-use lib.ListN.{length}
-use Prim.Native.Nat.{◌-◌}
 use mathlib.Core.Path.{sym, ap, ◌∙◌}
 use mathlib.Core.Bool.{not}
-use Rattle.text.specs.Lines.{is_letter}
-use Rattle.text.proofs.Runs.{Running, running_none, running_turn, running-stop, running-end}
-use borrow.Author.Rules.{rules}
+use Rattle.text.proofs.Runs.{running_none, running_turn, running-stop, running-end}
 use Rattle.text.proofs.lines.word_end.Goals as goal
 
 pub loop-at-init : goal.loop-at-init

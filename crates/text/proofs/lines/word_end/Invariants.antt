@@ -1,11 +1,8 @@
 -- Invariant: the word ends where it did, sought from here (`Running`); a turn and each exit are one law of it.
 use lib.ListN.{length}
 use Prim.Native.Nat.{◌-◌}
-use mathlib.Core.Path.{sym, ap, ◌∙◌}
-use mathlib.Core.Bool.{not}
 use Rattle.text.specs.Lines.{is_letter}
-use Rattle.text.proofs.Runs.{Running, running_none, running_turn, running-stop, running-end}
-use borrow.Author.Rules.{rules}
+use Rattle.text.proofs.Runs.{Running}
 use Rattle.text.proofs.lines.word_end.Given as goal
 
 abbrev pub invariant-loop-at : goal.invariant-loop-at
