@@ -1,5 +1,6 @@
 // Refusal 5: what the things of a plan must keep among each other.
 #![tactic(auto)]
+
 ghost use Rattle.std.specs.Prelude.{◌≡◌, cond, map, length, take, ◌≤◌};
 ghost use Rattle.laws.specs.Lists.{first_bad, is_fresh, up_to};
 ghost use Rattle.rules.specs.Limits.{most_modules, most_modes, most_invocations, most_connections};

@@ -1,5 +1,6 @@
 // A plan gathered from the records of a file as they are met: refusal 1.
 #![tactic(auto)]
+
 ghost use Rattle.std.specs.Prelude.{◌≡◌, ◌+◌, ◌^◌, ◌<◌};
 ghost use Rattle.rules.specs.Records.{plan_follows};
 ghost use Rattle.rules.specs.Records as rules;

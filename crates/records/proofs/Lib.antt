@@ -1,4 +1,3 @@
 pub mod Bodies
-pub mod Held
 pub mod LengthTable
 pub mod Steps

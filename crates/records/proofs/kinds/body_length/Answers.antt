@@ -1,5 +1,4 @@
 -- The table of the source is what `length_of` computes to, kind by kind (`table_at`); a kind behind it is unknown (`above`).
-use borrow.Author.Rules.{rules}
 use lib.ListN.{length}
 use mathlib.Core.Path.{sym}
 use Rattle.rules.specs.Records.{known, body_length, fields, kinds}

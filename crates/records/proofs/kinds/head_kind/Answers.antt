@@ -1,6 +1,5 @@
 -- Two cases of the edition.
 use Rattle.rules.specs.Records.{head_kind}
-use borrow.Author.Rules.{rules}
 use Rattle.records.proofs.kinds.head_kind.Goals as goal
 
 pub returns-then-consumers : goal.returns-then-consumers

@@ -1,5 +1,4 @@
 -- No body is 255 bytes long, so 255 stands for the unknown kinds alone (`known-told`).
-use borrow.Author.Rules.{rules}
 use Rattle.records.proofs.LengthTable.{known-told}
 use Rattle.records.proofs.kinds.known.Goals as goal
 

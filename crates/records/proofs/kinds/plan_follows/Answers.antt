@@ -1,5 +1,4 @@
 -- At each exit the tests that led there decide those of `plan_follows`; the last exit is what `rises` promises.
-use borrow.Author.Rules.{rules}
 use borrow.Author.Tests.{eq-eqb, ne_eqb}
 use mathlib.Core.Path.{sym, ◌∙◌}
 use Rattle.rules.specs.Records.{plan_follows}

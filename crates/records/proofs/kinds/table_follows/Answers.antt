@@ -1,6 +1,5 @@
 -- At each exit the tests that led there decide those of `table_follows`; the last two exits are what `rises` promises, behind a head with nothing
 -- to rise from.
-use borrow.Author.Rules.{rules}
 use borrow.Author.Tests.{eq-eqb, ne_eqb, le-leb}
 use mathlib.Core.Path.{sym, ◌∙◌}
 use Prim.Native.Nat.{zero-le}

@@ -4,7 +4,6 @@ use borrow.Author.Tests.{le-ltb, lt-ltb, le-leb, lt-leb, eq-eqb, ne_eqb}
 use Rattle.records.specs.Reader.{next_at}
 use Rattle.records.proofs.LengthTable.{known-length}
 use Rattle.laws.proofs.Lists.{both_left}
-use borrow.Author.Rules.{rules}
 use Rattle.records.proofs.reader.step_at.Goals as goal
 
 pub returns-then-end-at : goal.returns-then-end-at
