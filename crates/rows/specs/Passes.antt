@@ -1,5 +1,5 @@
 -- Passes over lent rows: what each step makes of a row, and what stands in the rows after the pass.
-use Rattle.std.specs.Prelude.{Bool, true, false, cond, ◌||◌, List, ltb, length, get_or, ℕ, zero, suc}
+use Rattle.std.specs.Prelude.{Bool, cond, ◌||◌, List, ltb, length, get_or, ℕ, zero, suc}
 use Rattle.laws.specs.Loops.{stores}
 use Rattle.units.specs.declared.Frame.{Frame}
 use Rattle.rows.specs.declared.passes.Step.{Step}

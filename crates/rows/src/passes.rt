@@ -1,5 +1,5 @@
-// The lent list of frame rows: a slice of frame structs. The prover's walk covers no function over such a slice, so each one here is thin:
-// a pass hands every row to a covered step and stores what the step gives, and every choice is a covered function's.
+// The lent list of frame rows: a slice of frame structs. Each pass is thin: it hands every row to a step and stores what the step gives, and
+// every choice is a function of its own.
 ghost use Rattle.std.specs.Prelude.{◌≡◌, cond, replicate, ◌≤◌};
 ghost use Rattle.rules.specs.Limits.{most_frames};
 ghost use Rattle.rows.specs.Frames.{frame_of, within_places, rows_with, frame_in, end_in, end_of, filled};

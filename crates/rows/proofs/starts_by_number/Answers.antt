@@ -1,8 +1,4 @@
-use mathlib.Core.Path.{◌≡◌, sym, ◌∙◌}
-use Prim.Native.Nat.{◌-◌, ◌≤◌}
-use lib.ListN.{length}
-use Rattle.rules.specs.Limits.{most_frames}
-use Rattle.rows.specs.Rows.{scattered}
+use mathlib.Core.Path.{sym, ◌∙◌}
 use Rattle.rows.proofs.Placed.{scatter_on, scatter_past, scatter_end}
 use borrow.Author.Rules.{rules}
 use Rattle.rows.proofs.starts_by_number.Goals as goal

@@ -1,11 +1,9 @@
 -- Invariant: the rest, scattered on, gives the whole; a turn is `scatter_on`, or `scatter_past` for a number behind the last place.
-use mathlib.Core.Path.{◌≡◌, sym, ◌∙◌}
-use Prim.Native.Nat.{◌-◌, ◌≤◌}
+use mathlib.Core.Path.{◌≡◌}
+use Prim.Native.Nat.{◌≤◌}
 use lib.ListN.{length}
 use Rattle.rules.specs.Limits.{most_frames}
 use Rattle.rows.specs.Rows.{scattered}
-use Rattle.rows.proofs.Placed.{scatter_on, scatter_past, scatter_end}
-use borrow.Author.Rules.{rules}
 use Rattle.rows.proofs.starts_by_number.Given as goal
 
 abbrev pub invariant-loop-j : goal.invariant-loop-j

@@ -1,9 +1,5 @@
 use mathlib.Core.Path.{◌≡◌, ◌∙◌}
-use Prim.Native.Nat.{◌-◌, ◌≤◌}
 use native.Mathlib.Omega.{arith}
-use lib.ListN.{replicate}
-use Rattle.rules.specs.Limits.{most_frames}
-use Rattle.laws.specs.Loops.{stores}
 use Rattle.laws.proofs.Loops.{stores-none, stores_turn}
 use Rattle.rows.specs.Rows.{task_at, stop_at, table_rows}
 use borrow.Author.Rules.{rules}
@@ -12,9 +8,9 @@ use Rattle.rows.proofs.table_rows.Goals as goal
 pub loop-j-init : goal.loop-j-init
 loop-j-init c = (
   search rules,
-  c.requires.1.1.0 ∙ stores-none _ (task_at c.args.tasks.now c.args.numbers.now),
-  c.requires.1.1.1 ∙ stores-none _ (task_at c.args.deadlines.now c.args.numbers.now),
-  c.requires.1.1.2 ∙ stores-none _
+  c.requires.row_tasks_value.0 ∙ stores-none _ (task_at c.args.tasks.now c.args.numbers.now),
+  c.requires.row_tasks_value.1 ∙ stores-none _ (task_at c.args.deadlines.now c.args.numbers.now),
+  c.requires.row_tasks_value.2 ∙ stores-none _
       (stop_at c.args.tasks.now c.args.times.now c.args.numbers.now c.args.starts.now),
 )
 

@@ -1,13 +1,10 @@
 -- Invariant: the first j places of the three arrays are filled as the definition says (`stores`); a turn is `stores_turn`.
-use mathlib.Core.Path.{◌≡◌, ◌∙◌}
+use mathlib.Core.Path.{◌≡◌}
 use Prim.Native.Nat.{◌-◌, ◌≤◌}
-use native.Mathlib.Omega.{arith}
 use lib.ListN.{replicate}
 use Rattle.rules.specs.Limits.{most_frames}
 use Rattle.laws.specs.Loops.{stores}
-use Rattle.laws.proofs.Loops.{stores-none, stores_turn}
-use Rattle.rows.specs.Rows.{task_at, stop_at, table_rows}
-use borrow.Author.Rules.{rules}
+use Rattle.rows.specs.Rows.{task_at, stop_at}
 use Rattle.rows.proofs.table_rows.Given as goal
 
 abbrev pub invariant-loop-j : goal.invariant-loop-j

@@ -2,7 +2,6 @@
 use mathlib.Core.Path.{refl}
 use Rattle.rules.specs.Limits.{most_frames}
 use Rattle.rows.proofs.Placed.{get_d_past}
-use borrow.Author.Rules.{rules}
 use Rattle.rows.proofs.task_of.Goals as goal
 
 pub returns : goal.returns

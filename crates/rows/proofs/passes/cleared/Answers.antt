@@ -1,7 +1,6 @@
 -- Each number is kept or zero, as `unless` says; together they are the row or the zero row (`cleared-is`).
 use mathlib.Core.Path.{◌≡◌, refl}
 use mathlib.Core.Bool.{Bool, true, false, cond}
-use borrow.Author.Rules.{rules}
 use Rattle.units.specs.declared.Frame.{Frame}
 use Rattle.rows.specs.declared.passes.Step.{Step}
 use Rattle.rows.specs.Passes.{cleared_row}

@@ -1,9 +1,8 @@
 -- Two cases of the place: below the frames that have places it is its frame (`frame_there`), else a zero row (`frame_behind`).
-use mathlib.Core.Path.{◌≡◌, sym, ap, ◌∙◌, subst}
+use mathlib.Core.Path.{sym, ◌∙◌, subst}
 use Prim.Native.Nat.{ℕ, ◌≤◌, ◌<◌}
-use Rattle.rows.specs.Frames.{within_places, rows_with, frame_at}
+use Rattle.rows.specs.Frames.{rows_with, frame_at}
 use Rattle.rows.proofs.Filled.{frame_there, frame_behind}
-use borrow.Author.Rules.{rules}
 use Rattle.rows.proofs.passes.row_at.Goals as goal
 
 pub returns-then-k-within : goal.returns-then-k-within
