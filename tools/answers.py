@@ -325,10 +325,12 @@ def convert(crate, where, folder, old, text, it, laws):
             n = fields.get(plain(label)) or (label.endswith("_lem") and labels.get(plain(label[:-4])))
             return m.group(1) + m.group(2) + "." + (n or label) + (m.group(4) or "")
 
-        t = re.sub(r"(?<![\w.'\-])(" + IDENT + r"|\([^()]*\))((?:\.before)*)\.(" + IDENT + r")((?:\.(?:given|ensures|[01])(?![\w\-]))*)", step, t)
+        t = re.sub(r"(?<![\w.'\-])(" + IDENT + r"|\([^()]*\))((?:\.before)*)\.(" + IDENT + r")((?:\.(?:given|ensures|keys\d+|[01])(?![\w\-]))*)", step, t)
         t = t.replace(".well-formed", ".well_formed")
         t = re.sub(r"\.(" + IDENT + r")", lambda m: "." + (spelled.get(plain(m.group(1)), m.group(1)) if "-" in m.group(1) else m.group(1)), t)
-        t = re.sub(r"\.args\.t([1-9])(?![\w\-])", lambda m: ".args." + own_params[int(m.group(1)) - 1] if int(m.group(1)) <= len(own_params) and m.group(0)[6:] not in own_params else m.group(0), t)
+        t = re.sub(r"\.t([1-9])(?![\w\-])", lambda m: "." + own_params[int(m.group(1)) - 1] if int(m.group(1)) <= len(own_params) and m.group(0)[1:] not in own_params else m.group(0), t)
+        # a test `!b` says what b is
+        t = re.sub(r"not-(?:true|false) _ (?=[\w.]*\.if-not-)", "", t)
         # a chain of `before` in front of a field
         t = re.sub(r"(?:\.before)+(?=\.[A-Za-z_])", "", t)
         t = cite(t, r"(\.requires)", own_req)

@@ -21,14 +21,14 @@ returns-then-not-switch_divides c =
     let c1 = c.before in
     bad_part_hit mode_seen switch_divides _ _ _ (omega (arith, c1.well_formed.0.1.0.1)) (mode_laid no_mode)
     c1.loop-k-test.true c1.loop-k.invariant.1
-    (sym c.switch_divides.ensures ∙ not-true _ c.if-not-switch_divides.true)
+    (sym c.switch_divides.ensures ∙ c.if-not-switch_divides.true)
 
 pub loop-k-preserved : goal.loop-k-preserved
 unfolding mode_laid
 loop-k-preserved c = (
   search rules,
   bad_part_more mode_seen switch_divides _ _ _ (omega (arith, c.well_formed.0.1.0.1)) (mode_laid no_mode) c.loop-k-test.true c.loop-k.invariant.1
-      (sym c.switch_divides.ensures ∙ not-false _ c.if-not-switch_divides.false),
+      (sym c.switch_divides.ensures ∙ c.if-not-switch_divides.false),
 )
 
 pub returns : goal.returns

@@ -26,14 +26,14 @@ returns-then-not-fits_its_mode c =
     let c4 = c3.before in
     let c5 = c4.before in
     let a = c5.args in
-    met_up_to (fits_at (seen a.t1)) (length (seen a.t1).invocations) c3.loop-k.k (omega arith) c3.loop-k.invariant.1
-    (fits-at a.t1 (sizes a.t1 _ c5.well_formed.0) _ c3.loop-k.k _ _ (omega arith) refl
+    met_up_to (fits_at (seen a.p)) (length (seen a.p).invocations) c3.loop-k.k (omega arith) c3.loop-k.invariant.1
+    (fits-at a.p (sizes a.p _ c5.well_formed.0) _ c3.loop-k.k _ _ (omega arith) refl
     (c1.mode_if-mode.ensures ∙ rw (c2.place-m.ensures, c4.mode_count-modes.ensures.0))
     (c.task_if-task.ensures ∙ rw (
       c1.place-t.ensures,
       c3.task_count-tasks.ensures.0,
     ))
-    ∙ sym c.fits_its_mode.ensures ∙ not-true _ c.if-not-fits_its_mode.true)
+    ∙ sym c.fits_its_mode.ensures ∙ c.if-not-fits_its_mode.true)
 
 pub loop-k-preserved : goal.loop-k-preserved
 unfolding invocation_laid mode_laid task_laid
@@ -45,15 +45,15 @@ loop-k-preserved c = (
       let c4 = c3.before in
       let c5 = c4.before in
       let a = c5.args in
-      first_bad-up_to_more (fits_at (seen a.t1)) c3.loop-k.k c3.loop-k.invariant.1
-      (fits-at a.t1 (sizes a.t1 _ c5.well_formed.0) _ c3.loop-k.k _ _ (omega arith) refl
+      first_bad-up_to_more (fits_at (seen a.p)) c3.loop-k.k c3.loop-k.invariant.1
+      (fits-at a.p (sizes a.p _ c5.well_formed.0) _ c3.loop-k.k _ _ (omega arith) refl
       (c1.mode_if-mode.ensures ∙ rw (c2.place-m.ensures, c4.mode_count-modes.ensures.0))
       (c.task_if-task.ensures ∙ rw (c1.place-t.ensures, c3.task_count-tasks.ensures.0))
-      ∙ sym c.fits_its_mode.ensures ∙ not-false _ c.if-not-fits_its_mode.false),
+      ∙ sym c.fits_its_mode.ensures ∙ c.if-not-fits_its_mode.false),
 )
 
 pub returns : goal.returns
 returns c =
     let a = c.args in
-    none-up_to (fits_at (seen a.t1)) (length (seen a.t1).invocations) c.loop-k.k (omega arith) (omega arith)
+    none-up_to (fits_at (seen a.p)) (length (seen a.p).invocations) c.loop-k.k (omega arith) (omega arith)
     c.loop-k.invariant.1

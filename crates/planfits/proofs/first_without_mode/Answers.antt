@@ -18,13 +18,13 @@ loop-m-init c = (search rules, refl)
 pub returns-then-not-has_mode : goal.returns-then-not-has_mode
 returns-then-not-has_mode c =
     met_up_to _ _ _ c.loop-m-test.true c.loop-m.invariant.1
-    (sym c.has_mode.ensures ∙ not-true _ c.if-not-has_mode.true)
+    (sym c.has_mode.ensures ∙ c.if-not-has_mode.true)
 
 pub loop-m-preserved : goal.loop-m-preserved
 loop-m-preserved c = (
   search rules,
   first_bad-up_to_more (has_mode_in (map mode_seen (take c.args.count c.args.modes))) c.loop-m.m c.loop-m.invariant.1
-      (sym c.has_mode.ensures ∙ not-false _ c.if-not-has_mode.false),
+      (sym c.has_mode.ensures ∙ c.if-not-has_mode.false),
 )
 
 pub returns : goal.returns

@@ -31,39 +31,39 @@ counted-n-requires c =
 
 pub bounds-p-n : goal.bounds-p-n
 unfolding places
-bounds-p-n c = kept-place _ _ 3 (sym c.kept.ensures ∙ c.in-9.keys4) (omega arith)
+bounds-p-n c = kept-place _ _ 3 (sym c.kept.ensures ∙ c.in-3.is) (omega arith)
 
 pub offset_bounds-p-n : goal.offset_bounds-p-n
 unfolding places
-offset_bounds-p-n c = omega (arith, kept-place _ _ 4 (sym c.kept.ensures ∙ c.in-9.keys5) (omega arith))
+offset_bounds-p-n c = omega (arith, kept-place _ _ 4 (sym c.kept.ensures ∙ c.in-4.is) (omega arith))
 
 pub bounds-p-n-in-4 : goal.bounds-p-n-in-4
 unfolding places
-bounds-p-n-in-4 c = kept-place _ _ 4 (sym c.kept.ensures ∙ c.in-9.keys5) (omega arith)
+bounds-p-n-in-4 c = kept-place _ _ 4 (sym c.kept.ensures ∙ c.in-4.is) (omega arith)
 
 pub offset_bounds-p-n-in-5 : goal.offset_bounds-p-n-in-5
 unfolding places
-offset_bounds-p-n-in-5 c = omega (arith, kept-place _ _ 5 (sym c.kept.ensures ∙ c.in-9.keys6) (omega arith))
+offset_bounds-p-n-in-5 c = omega (arith, kept-place _ _ 5 (sym c.kept.ensures ∙ c.in-5.is) (omega arith))
 
 pub bounds-p-n-in-5 : goal.bounds-p-n-in-5
 unfolding places
-bounds-p-n-in-5 c = kept-place _ _ 5 (sym c.kept.ensures ∙ c.in-9.keys6) (omega arith)
+bounds-p-n-in-5 c = kept-place _ _ 5 (sym c.kept.ensures ∙ c.in-5.is) (omega arith)
 
 pub offset_bounds-p-n-in-6 : goal.offset_bounds-p-n-in-6
 unfolding places
-offset_bounds-p-n-in-6 c = omega (arith, kept-place _ _ 6 (sym c.kept.ensures ∙ c.in-9.keys7) (omega arith))
+offset_bounds-p-n-in-6 c = omega (arith, kept-place _ _ 6 (sym c.kept.ensures ∙ c.in-6.is) (omega arith))
 
 pub bounds-p-n-in-6 : goal.bounds-p-n-in-6
 unfolding places
-bounds-p-n-in-6 c = kept-place _ _ 6 (sym c.kept.ensures ∙ c.in-9.keys7) (omega arith)
+bounds-p-n-in-6 c = kept-place _ _ 6 (sym c.kept.ensures ∙ c.in-6.is) (omega arith)
 
 pub offset_bounds-p-n-in-7 : goal.offset_bounds-p-n-in-7
 unfolding places
-offset_bounds-p-n-in-7 c = omega (arith, kept-place _ _ 7 (sym c.kept.ensures ∙ c.in-9.keys8) (omega arith))
+offset_bounds-p-n-in-7 c = omega (arith, kept-place _ _ 7 (sym c.kept.ensures ∙ c.in-7.is) (omega arith))
 
 pub bounds-p-n-in-7 : goal.bounds-p-n-in-7
 unfolding places
-bounds-p-n-in-7 c = kept-place _ _ 7 (sym c.kept.ensures ∙ c.in-9.keys8) (omega arith)
+bounds-p-n-in-7 c = kept-place _ _ 7 (sym c.kept.ensures ∙ c.in-7.is) (omega arith)
 
 pub loop-kind-smaller-in-1 : goal.loop-kind-smaller-in-1
 loop-kind-smaller-in-1 c =
@@ -76,7 +76,7 @@ loop-kind-preserved-in-1 c =
     let c2 = c1.before in
     so_far_more c2.loop-kind.invariant c2.next.ensures c2.in-Record.is c1.body-body.ensures
     (stored-bus _ _ _ _ _ c1.counted-n.ensures.0 c1.counted-n.ensures.1 _ plain
-    (sym c.kept.ensures ∙ c.in-9.keys1) c.bus-p.ensures)
+    (sym c.kept.ensures ∙ c.in-1.is) c.bus-p.ensures)
 
 pub loop-kind-smaller-in-9 : goal.loop-kind-smaller-in-9
 loop-kind-smaller-in-9 c =
@@ -89,7 +89,7 @@ loop-kind-preserved-in-9 c =
     let c2 = c1.before in
     so_far_more c2.loop-kind.invariant c2.next.ensures c2.in-Record.is c1.body-body.ensures
     (stored-bus _ _ _ _ _ c1.counted-n.ensures.0 c1.counted-n.ensures.1 _ framed
-    (sym c.kept.ensures ∙ c.in-9.keys2) c.framed_bus-p.ensures)
+    (sym c.kept.ensures ∙ c.in-9.is) c.framed_bus-p.ensures)
 
 pub loop-kind-smaller-in-2 : goal.loop-kind-smaller-in-2
 loop-kind-smaller-in-2 c =
@@ -103,7 +103,7 @@ loop-kind-preserved-in-2 c =
     let c2 = c1.before in
     so_far_more c2.loop-kind.invariant c2.next.ensures c2.in-Record.is c1.body-body.ensures
     (stored-nodes _ _ _ _ _ c1.counted-n.ensures.0 c1.counted-n.ensures.1 _
-    (sym c.kept.ensures ∙ c.in-9.keys3) c.read8.ensures)
+    (sym c.kept.ensures ∙ c.in-2.is) c.read8.ensures)
 
 pub loop-kind-smaller-in-3 : goal.loop-kind-smaller-in-3
 loop-kind-smaller-in-3 c =
@@ -116,7 +116,7 @@ loop-kind-preserved-in-3 c =
     let c2 = c1.before in
     so_far_more c2.loop-kind.invariant c2.next.ensures c2.in-Record.is c1.body-body.ensures
     (stored_module _ _ _ _ _ c1.counted-n.ensures.0 c1.counted-n.ensures.1 _
-    (sym c.kept.ensures ∙ c.in-9.keys4) c.«module».ensures)
+    (sym c.kept.ensures ∙ c.in-3.is) c.«module».ensures)
 
 pub loop-kind-smaller-in-4 : goal.loop-kind-smaller-in-4
 loop-kind-smaller-in-4 c =
@@ -129,7 +129,7 @@ loop-kind-preserved-in-4 c =
     let c2 = c1.before in
     so_far_more c2.loop-kind.invariant c2.next.ensures c2.in-Record.is c1.body-body.ensures
     (stored-mode _ _ _ _ _ c1.counted-n.ensures.0 c1.counted-n.ensures.1 _
-    (sym c.kept.ensures ∙ c.in-9.keys5) c.mode.ensures)
+    (sym c.kept.ensures ∙ c.in-4.is) c.mode.ensures)
 
 pub loop-kind-smaller-in-5 : goal.loop-kind-smaller-in-5
 loop-kind-smaller-in-5 c =
@@ -142,7 +142,7 @@ loop-kind-preserved-in-5 c =
     let c2 = c1.before in
     so_far_more c2.loop-kind.invariant c2.next.ensures c2.in-Record.is c1.body-body.ensures
     (stored-task _ _ _ _ _ c1.counted-n.ensures.0 c1.counted-n.ensures.1 _
-    (sym c.kept.ensures ∙ c.in-9.keys6) c.task.ensures)
+    (sym c.kept.ensures ∙ c.in-5.is) c.task.ensures)
 
 pub loop-kind-smaller-in-6 : goal.loop-kind-smaller-in-6
 loop-kind-smaller-in-6 c =
@@ -155,7 +155,7 @@ loop-kind-preserved-in-6 c =
     let c2 = c1.before in
     so_far_more c2.loop-kind.invariant c2.next.ensures c2.in-Record.is c1.body-body.ensures
     (stored-invocation _ _ _ _ _ c1.counted-n.ensures.0 c1.counted-n.ensures.1 _
-    (sym c.kept.ensures ∙ c.in-9.keys7) c.invocation.ensures)
+    (sym c.kept.ensures ∙ c.in-6.is) c.invocation.ensures)
 
 pub loop-kind-smaller-in-7 : goal.loop-kind-smaller-in-7
 loop-kind-smaller-in-7 c =
@@ -168,7 +168,7 @@ loop-kind-preserved-in-7 c =
     let c2 = c1.before in
     so_far_more c2.loop-kind.invariant c2.next.ensures c2.in-Record.is c1.body-body.ensures
     (stored-connection _ _ _ _ _ c1.counted-n.ensures.0 c1.counted-n.ensures.1 _
-    (sym c.kept.ensures ∙ c.in-9.keys8) c.connection.ensures)
+    (sym c.kept.ensures ∙ c.in-7.is) c.connection.ensures)
 
 pub loop-kind-smaller : goal.loop-kind-smaller
 loop-kind-smaller c =
