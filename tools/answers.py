@@ -332,7 +332,7 @@ def convert(crate, where, folder, old, text, it, laws):
         # a test `!b` says what b is
         t = re.sub(r"not-(?:true|false) _ (?=[\w.]*\.if-not-)", "", t)
         # a chain of `before` in front of a field
-        t = re.sub(r"(?:\.before)+(?=\.[A-Za-z_])", "", t)
+        t = re.sub(r"(?:\.before)+(?!\.before(?![\w\-]))(?=\.[A-Za-z_])", "", t)
         t = cite(t, r"(\.requires)", own_req)
         for b, callee in callees.items():
             r, e, _ = laws.get(callee, ([], [], []))
