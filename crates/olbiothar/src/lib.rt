@@ -1,10 +1,10 @@
 // The library for C and Rust: make, check, begin and tick of docs/RULES.md, what a station may be asked, a sheet written and read back, plans as
-// text, and numbers in words; on byte slices, frame rows, stations and numbers.
+// text, and numbers in words; on byte slices, frame rows, stations and numbers. `olbiothar_c` exports each of them.
 // No function has a precondition; an answer is a number and a place, for C has no enums that carry values.
-// The lent frame rows are a slice of structs, and a tick changes a lent station in place. The prover's walk covers no function over a
-// reference to a struct, so these are thin: covered functions answer by value, and the passes of `rows` bring it into the lent rows.
+// The lent frame rows are a slice of structs, and a tick changes a lent station in place. These are thin: functions below answer by value, and
+// the passes of `rows` bring it into the lent rows.
 #![tactic(auto)]
-mod texts;
+pub mod texts;
 
 ghost use Rattle.std.specs.Prelude.{◌≡◌};
 ghost use Rattle.olbiothar.specs.Lent.{ChecksRows, MakesRows};
@@ -29,8 +29,7 @@ use stationruns::{Input, Starting};
 use units::{ByteCount, Frame};
 
 // The table of a plan in an edition, at the front of the lent bytes; its length, or refusals 19, 62 and 1 to 13.
-#[unsafe(no_mangle)]
-pub extern "C" fn olbiothar_make(
+pub fn olbiothar_make(
     plan: &[u8],
     edition: u8,
     rows: &mut [Frame],
@@ -58,8 +57,7 @@ pub extern "C" fn olbiothar_make(
 
 // A table file by its plan: refusals 19, 1 to 11 and 20 to 28, or that it passes. Rule 25 is decided by the scan of the lent rows; only where
 // that finds an early row are all rules looked at by value, for the lowest record.
-#[unsafe(no_mangle)]
-pub extern "C" fn olbiothar_check(plan: &[u8], table: &[u8], rows: &mut [Frame]) -> Answer
+pub fn olbiothar_check(plan: &[u8], table: &[u8], rows: &mut [Frame]) -> Answer
     ensures { ChecksRows result plan.now table.now rows.old rows.new }
 {
     let mut tasks = zero_bytes();
@@ -129,8 +127,7 @@ fn begin_by_value(plan: &[u8], table: &[u8], starting: Starting) -> Begun
 }
 
 // A station begins with a plan, a table and a mode for each module, in place; where that is refused it is left as it stood.
-#[unsafe(no_mangle)]
-pub extern "C" fn olbiothar_begin(
+pub fn olbiothar_begin(
     plan: &[u8],
     table: &[u8],
     starting: Starting,
@@ -146,8 +143,7 @@ pub extern "C" fn olbiothar_begin(
 }
 
 // One tick, in place; a refused one leaves the station as it stood.
-#[unsafe(no_mangle)]
-pub extern "C" fn olbiothar_tick(station: &mut Station, input: Input) -> TickAnswer
+pub fn olbiothar_tick(station: &mut Station, input: Input) -> TickAnswer
     ensures { Ticks station.old input result station.new }
 {
     let first = answer_before_nodes(
@@ -169,24 +165,21 @@ pub extern "C" fn olbiothar_tick(station: &mut Station, input: Input) -> TickAns
 }
 
 // The bus time of the tick to come, and the bus period, of a station that has begun. Any numbers may stand in the station, here and below.
-#[unsafe(no_mangle)]
-pub extern "C" fn olbiothar_time(station: &Station) -> TimeNow
+pub fn olbiothar_time(station: &Station) -> TimeNow
     ensures { result ≡ time_now (kept_of station.now) (state_of station.now) }
 {
     time_now(station.fixed, station.play)
 }
 
 // A module's node, the mode that runs, and the time since that mode began.
-#[unsafe(no_mangle)]
-pub extern "C" fn olbiothar_module(station: &Station, m: u8) -> ModuleNow
+pub fn olbiothar_module(station: &Station, m: u8) -> ModuleNow
     ensures { result ≡ module_now (kept_of station.now) (state_of station.now) m }
 {
     module_now(station.fixed, station.play, m)
 }
 
 // A task's module, whether it awaits a result, and how many ticks may still pass without it.
-#[unsafe(no_mangle)]
-pub extern "C" fn olbiothar_task(station: &Station, t: u8) -> TaskNow
+pub fn olbiothar_task(station: &Station, t: u8) -> TaskNow
     ensures { result ≡ task_now (kept_of station.now) (state_of station.now) t }
 {
     task_now(station.fixed, station.play, &station.runs, t)
@@ -201,8 +194,7 @@ pub struct SheetAnswer {
 }
 
 // The sheet of a plan and a table, at the front of the lent bytes. Room for the longest sheet is asked for before all else: 13.
-#[unsafe(no_mangle)]
-pub extern "C" fn olbiothar_sheet(plan: &[u8], table: &[u8], text: &mut [u8]) -> SheetAnswer
+pub fn olbiothar_sheet(plan: &[u8], table: &[u8], text: &mut [u8]) -> SheetAnswer
     ensures value { result ≡ sheet_said (has_room text.old) plan.now table.now }
     ensures text_after { text.new ≡ sheet_left (has_room text.old) text.old plan.now table.now }
 {
@@ -244,8 +236,7 @@ fn read_said(back: Back) -> Answer
 }
 
 // The table of a sheet, at the front of the lent bytes; its length, or the refusals 61, 60 and 13.
-#[unsafe(no_mangle)]
-pub extern "C" fn olbiothar_sheet_table(text: &[u8], table: &mut [u8]) -> Answer
+pub fn olbiothar_sheet_table(text: &[u8], table: &mut [u8]) -> Answer
     ensures value { result ≡ table_said (is_read text.now) text.now table.old }
     ensures table_after { table.new ≡ table_left (is_read text.now) text.now table.old }
 {

@@ -38,8 +38,7 @@ fn text_said(printing: Printing) -> Answer
 }
 
 // The text of a plan, at the front of the lent bytes; its length, or 61, 1, 13.
-#[unsafe(no_mangle)]
-pub extern "C" fn olbiothar_plan_text(plan: &[u8], text: &mut [u8]) -> Answer
+pub fn olbiothar_plan_text(plan: &[u8], text: &mut [u8]) -> Answer
     ensures value { result ≡ text_said (printing.printing_for plan.now text.old) }
     ensures text_after { text.new ≡ printing.left_by plan.now text.old }
 {
@@ -91,8 +90,7 @@ fn plan_said(back: Back) -> PlanAnswer
 }
 
 // The plan of a text, at the front of the lent bytes; its length, or 61, 60 with its reason, 13.
-#[unsafe(no_mangle)]
-pub extern "C" fn olbiothar_text_plan(text: &[u8], plan: &mut [u8]) -> PlanAnswer
+pub fn olbiothar_text_plan(text: &[u8], plan: &mut [u8]) -> PlanAnswer
     ensures value { result ≡ plan_said (reading.back_for text.now plan.old) }
     ensures plan_after { plan.new ≡ reading.left_by text.now plan.old }
 {
@@ -105,8 +103,7 @@ const LONGEST_WORDS: usize = 128;
 
 // The words of an answer's number, at the front of the lent bytes, then a zero byte; their length without it. Where there is no room for the
 // longest nothing is written, and the length is 0.
-#[unsafe(no_mangle)]
-pub extern "C" fn olbiothar_words(number: u32, text: &mut [u8]) -> u64
+pub fn olbiothar_words(number: u32, text: &mut [u8]) -> u64
     ensures value { result ≡ words_said (holds_words text.old) (meaning number) }
     ensures text_after { text.new ≡ words_left (holds_words text.old) text.old (meaning number) }
 {
@@ -119,8 +116,7 @@ pub extern "C" fn olbiothar_words(number: u32, text: &mut [u8]) -> u64
 }
 
 // The same of a reason's number.
-#[unsafe(no_mangle)]
-pub extern "C" fn olbiothar_reason_words(reason: u32, text: &mut [u8]) -> u64
+pub fn olbiothar_reason_words(reason: u32, text: &mut [u8]) -> u64
     ensures value { result ≡ words_said (holds_words text.old) (reason_words reason) }
     ensures text_after { text.new ≡ words_left (holds_words text.old) text.old (reason_words reason) }
 {
