@@ -183,7 +183,7 @@ loop-kind-preserved c =
     so_far_more c3.loop-kind.invariant c2.next.ensures c2.in-Record.is
     c1.body-body.ensures
     (not-stored _ _ _ c3.loop-kind.invariant.sized _ _ _ c1.counted-n.ensures.0 c1.counted-n.ensures.1 c.kept.ensures
-    c.in_default.in_default-own)
+    (search rules))
 
 pub returns-in-End : goal.returns-in-End
 returns-in-End c =
