@@ -1,5 +1,4 @@
 -- Both exits compute: what `is_byte_of` says decides the `cond`.
-use borrow.Author.Rules.{rules}
 use Rattle.stationbus.proofs.byte_from.Goals as goal
 
 pub returns-then-is_byte_of : goal.returns-then-is_byte_of

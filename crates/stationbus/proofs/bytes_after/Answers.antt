@@ -3,7 +3,6 @@ use mathlib.Core.Path.{◌∙◌}
 use Rattle.laws.proofs.Stores.{stores-idle}
 use Rattle.places.specs.Found.{place_in}
 use Rattle.stationbus.specs.Bus.{mode_byte_rule, number_at}
-use borrow.Author.Rules.{rules}
 use Rattle.stationbus.proofs.bytes_after.Goals as goal
 
 pub returns-in-Nothing : goal.returns-in-Nothing

@@ -1,7 +1,4 @@
-use mathlib.Core.Path.{◌∙◌}
-use Prim.Native.Nat.{◌≤◌, ◌-◌}
-use Rattle.laws.proofs.Turns.{Filled, filled_none, filled_turn, filled_next, filled-end}
-use Rattle.stationbus.specs.Bus.{byte_from_rule, number_at}
+use Rattle.laws.proofs.Turns.{filled_none, filled_turn, filled_next, filled-end}
 use borrow.Author.Rules.{rules}
 use Rattle.stationbus.proofs.bytes_from.Goals as goal
 

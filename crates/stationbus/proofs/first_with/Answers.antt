@@ -1,9 +1,8 @@
 use borrow.Author.Tests.{eq-eqb, ne_eqb}
 use mathlib.Core.Path.{refl}
-use Prim.Native.Nat.{◌≤◌, ◌-◌}
-use Rattle.laws.proofs.Turns.{Passed, passed_none, passed_turn, passed_hit, passed_end}
+use Rattle.laws.proofs.Turns.{passed_none, passed_turn, passed_hit, passed_end}
 use Rattle.rules.proofs.TransparentTick.{row_by_other}
-use Rattle.stationbus.specs.Bus.{has_other, number_at}
+use Rattle.stationbus.specs.Bus.{number_at}
 use borrow.Author.Rules.{rules}
 use Rattle.stationbus.proofs.first_with.Goals as goal
 

@@ -1,11 +1,7 @@
 -- Invariant: the rows so far have another time (`Passed`); an equal time is the first one that fails it (`row_by_other`).
-use borrow.Author.Tests.{eq-eqb, ne_eqb}
-use mathlib.Core.Path.{refl}
 use Prim.Native.Nat.{◌≤◌, ◌-◌}
-use Rattle.laws.proofs.Turns.{Passed, passed_none, passed_turn, passed_hit, passed_end}
-use Rattle.rules.proofs.TransparentTick.{row_by_other}
-use Rattle.stationbus.specs.Bus.{has_other, number_at}
-use borrow.Author.Rules.{rules}
+use Rattle.laws.proofs.Turns.{Passed}
+use Rattle.stationbus.specs.Bus.{has_other}
 use Rattle.stationbus.proofs.first_with.Given as goal
 
 abbrev pub invariant-loop-row : goal.invariant-loop-row

@@ -1,7 +1,6 @@
 -- No pair: what `full_kept` promises. A pair: `full_from`'s promise, with what was gathered read back (`full-gathered`).
 use Rattle.stationbus.specs.Bus.{number_at, some_pair_at, modes_at}
 use Rattle.stationbus.proofs.Pairs.{full-gathered}
-use borrow.Author.Rules.{rules}
 use Rattle.stationbus.proofs.full_after.Goals as goal
 
 pub returns-in-Nothing : goal.returns-in-Nothing

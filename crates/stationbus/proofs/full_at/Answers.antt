@@ -1,5 +1,4 @@
 -- Both exits compute: the test decides the `cond`, and the callees' promises are its sides.
-use borrow.Author.Rules.{rules}
 use Rattle.stationbus.proofs.full_at.Goals as goal
 
 pub returns-then-starts : goal.returns-then-starts

@@ -1,9 +1,7 @@
 -- Invariant: the places so far are filled by `full_still` (`Filled`); a turn reads the next place, still as it was.
-use mathlib.Core.Path.{◌∙◌}
 use Prim.Native.Nat.{◌≤◌, ◌-◌}
-use Rattle.laws.proofs.Turns.{Filled, filled_none, filled_turn, filled_next, filled-end}
+use Rattle.laws.proofs.Turns.{Filled}
 use Rattle.stationbus.specs.Bus.{full_still}
-use borrow.Author.Rules.{rules}
 use Rattle.stationbus.proofs.full_kept.Given as goal
 
 abbrev pub invariant-loop-t : goal.invariant-loop-t

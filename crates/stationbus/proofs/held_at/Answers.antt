@@ -1,5 +1,4 @@
 -- Both exits compute: the test, rewritten by the callees' promises, decides the `cond`.
-use borrow.Author.Rules.{rules}
 use Rattle.stationbus.proofs.held_at.Goals as goal
 
 pub returns-then-both : goal.returns-then-both

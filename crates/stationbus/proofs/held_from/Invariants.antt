@@ -1,9 +1,7 @@
 -- Invariant: the places so far are filled by `held_at` (`Filled`); a turn reads the next place, still as it was (`filled_next`).
-use mathlib.Core.Path.{◌∙◌}
 use Prim.Native.Nat.{◌≤◌, ◌-◌}
-use Rattle.laws.proofs.Turns.{Filled, filled_none, filled_turn, filled_next, filled-end}
+use Rattle.laws.proofs.Turns.{Filled}
 use Rattle.stationbus.specs.Bus.{held_at}
-use borrow.Author.Rules.{rules}
 use Rattle.stationbus.proofs.held_from.Given as goal
 
 abbrev pub invariant-loop-place : goal.invariant-loop-place

@@ -1,5 +1,4 @@
 -- Plain rewriting: the promises of `both` and of the two reads are the conjunction.
-use borrow.Author.Rules.{rules}
 use Rattle.stationbus.proofs.is_byte_of.Goals as goal
 
 pub returns : goal.returns

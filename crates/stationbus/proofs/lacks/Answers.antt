@@ -1,7 +1,5 @@
 use borrow.Author.Tests.{le-leb, lt-leb}
-use Prim.Native.Nat.{◌≤◌, ◌-◌}
-use Rattle.laws.proofs.Turns.{Tested, tested_none, tested_turn, tested_end}
-use Rattle.stationbus.specs.Bus.{has_other}
+use Rattle.laws.proofs.Turns.{tested_none, tested_turn, tested_end}
 use borrow.Author.Rules.{rules}
 use Rattle.stationbus.proofs.lacks.Goals as goal
 

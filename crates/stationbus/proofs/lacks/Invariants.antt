@@ -1,9 +1,7 @@
 -- Too few rows make the first test false; else the invariant is that the flag says whether the rows so far passed (`Tested`).
-use borrow.Author.Tests.{le-leb, lt-leb}
 use Prim.Native.Nat.{◌≤◌, ◌-◌}
-use Rattle.laws.proofs.Turns.{Tested, tested_none, tested_turn, tested_end}
+use Rattle.laws.proofs.Turns.{Tested}
 use Rattle.stationbus.specs.Bus.{has_other}
-use borrow.Author.Rules.{rules}
 use Rattle.stationbus.proofs.lacks.Given as goal
 
 abbrev pub invariant-loop-row : goal.invariant-loop-row

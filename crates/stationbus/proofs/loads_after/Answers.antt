@@ -1,10 +1,8 @@
 -- No pair: the rule gives what stood there (`stores-idle`). A pair: `loads_from`'s promise, with what was gathered read back.
-use mathlib.Core.Path.{refl}
 use Rattle.laws.proofs.Stores.{stores-idle}
 use Rattle.places.specs.Found.{place_in}
 use Rattle.stationbus.specs.Bus.{number_at, some_pair_at, load_rule}
 use Rattle.stationbus.proofs.Pairs.{loads-gathered}
-use borrow.Author.Rules.{rules}
 use Rattle.stationbus.proofs.loads_after.Goals as goal
 
 pub returns-in-Nothing : goal.returns-in-Nothing

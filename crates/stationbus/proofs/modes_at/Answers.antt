@@ -1,6 +1,5 @@
 -- Where `lacks` says yes no pair has the time, and the words are zero (`no_words`); else it is what `modes_from` promises.
 use Rattle.stationbus.proofs.Pairs.{lacking, no_words}
-use borrow.Author.Rules.{rules}
 use Rattle.stationbus.proofs.modes_at.Goals as goal
 
 pub returns-then-lacks : goal.returns-then-lacks

@@ -1,10 +1,8 @@
-use mathlib.Core.Path.{◌≡◌, refl, sym, ap, ◌∙◌}
-use mathlib.Core.Logic.{⊎_elim}
+use mathlib.Core.Path.{refl, sym, ap, ◌∙◌}
 use native.Mathlib.Nat.{le_antisymm}
 use borrow.Author.Tests.{ltb-true}
 use lib.Dec.{eqb}
 use lib.ListN.{replicate}
-use Prim.Native.Nat.{◌≤◌, ◌<◌, ◌-◌}
 use Rattle.laws.specs.Loops.{stores}
 use Rattle.laws.proofs.Lists.{both_right}
 use Rattle.places.specs.Bits.{bits_of}
@@ -12,6 +10,7 @@ use Rattle.stationbus.specs.Bus.{modes_at}
 use Rattle.stationbus.proofs.Pairs.{word_met, word_missed}
 use borrow.Author.Rules.{rules}
 use Rattle.stationbus.proofs.modes_from.Goals as goal
+use Rattle.stationbus.proofs.modes_from.Goals.{then-both, else-both}
 
 pub loop-q-init : goal.loop-q-init
 unfolding modes_at bits_of
@@ -38,10 +37,12 @@ loop-q-preserved c =
     let q = c2.loop-q.q in
     let test = rw c.number_at.ensures at c.both.ensures in (
       search rules,
-      ⊎_elim (λ w. word_met a.pair_tasks.now a.times.now a.time.0 q c1.byte_at-task.ensures.0 test a.pair_modes.now
-          c2.loop-q.invariant.1 w.0.taken w.2.ensures w.3.ensures w.4)
-          (λ w. word_missed a.pair_tasks.now a.times.now a.time.0 q c1.byte_at-task.ensures.0 test a.pair_modes.now
-          c2.loop-q.invariant.1 w.0.left w.1) c.if-both.branch,
+      elim c.if-both.branch [
+        | then-both w ↦ word_met a.pair_tasks.now a.times.now a.time.0 q c1.byte_at-task.ensures.0 test a.pair_modes.now
+            c2.loop-q.invariant.1 w.if-both.true w.number_at-then-both.ensures w.joined.ensures w.modes-is
+        | else-both w ↦ word_missed a.pair_tasks.now a.times.now a.time.0 q c1.byte_at-task.ensures.0 test a.pair_modes.now
+            c2.loop-q.invariant.1 w.if-both.false w.modes-is
+      ],
     )
 
 pub returns : goal.returns

@@ -1,17 +1,9 @@
 -- Invariant: by task, the words of the pairs so far. A pair of a task with the time joins one (`word_met`), any other none (`word_missed`).
-use mathlib.Core.Path.{◌≡◌, refl, sym, ap, ◌∙◌}
-use mathlib.Core.Logic.{⊎_elim}
-use native.Mathlib.Nat.{le_antisymm}
-use borrow.Author.Tests.{ltb-true}
-use lib.Dec.{eqb}
+use mathlib.Core.Path.{◌≡◌}
 use lib.ListN.{replicate}
-use Prim.Native.Nat.{◌≤◌, ◌<◌, ◌-◌}
+use Prim.Native.Nat.{◌≤◌, ◌-◌}
 use Rattle.laws.specs.Loops.{stores}
-use Rattle.laws.proofs.Lists.{both_right}
-use Rattle.places.specs.Bits.{bits_of}
 use Rattle.stationbus.specs.Bus.{modes_at}
-use Rattle.stationbus.proofs.Pairs.{word_met, word_missed}
-use borrow.Author.Rules.{rules}
 use Rattle.stationbus.proofs.modes_from.Given as goal
 
 abbrev pub invariant-loop-q : goal.invariant-loop-q

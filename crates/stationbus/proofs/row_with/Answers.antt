@@ -1,6 +1,5 @@
 -- Where `lacks` says yes no row fails the test, so none is found (`none_with`); else it is what `first_with` promises.
 use Rattle.stationbus.proofs.Ways.{none_with}
-use borrow.Author.Rules.{rules}
 use Rattle.stationbus.proofs.row_with.Goals as goal
 
 pub returns-then-lacks : goal.returns-then-lacks

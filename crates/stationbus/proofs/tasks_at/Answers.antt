@@ -1,6 +1,5 @@
 -- Where `lacks` says yes no pair has the time, and no flag is set (`no_flags`); else it is what `tasks_from` promises.
 use Rattle.stationbus.proofs.Pairs.{lacking, no_flags}
-use borrow.Author.Rules.{rules}
 use Rattle.stationbus.proofs.tasks_at.Goals as goal
 
 pub returns-then-lacks : goal.returns-then-lacks

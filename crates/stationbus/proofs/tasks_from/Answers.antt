@@ -1,17 +1,16 @@
-use mathlib.Core.Path.{◌≡◌, refl, sym, ap, ◌∙◌}
+use mathlib.Core.Path.{refl, sym, ap, ◌∙◌}
 use mathlib.Core.Bool.{false}
-use mathlib.Core.Logic.{⊎_elim}
 use native.Mathlib.Nat.{le_antisymm}
 use borrow.Author.Tests.{ltb-true}
 use lib.Dec.{eqb}
 use lib.ListN.{replicate}
-use Prim.Native.Nat.{◌≤◌, ◌-◌}
 use Rattle.laws.specs.Loops.{stores}
 use Rattle.laws.proofs.Lists.{both_right}
 use Rattle.stationbus.specs.Bus.{some_pair_at}
 use Rattle.stationbus.proofs.Pairs.{flag_met, flag_missed}
 use borrow.Author.Rules.{rules}
 use Rattle.stationbus.proofs.tasks_from.Goals as goal
+use Rattle.stationbus.proofs.tasks_from.Goals.{then-both, else-both}
 
 pub loop-q-init : goal.loop-q-init
 loop-q-init c = (search rules, refl)
@@ -30,10 +29,10 @@ loop-q-preserved c =
     let q = c2.loop-q.q in
     let test = rw c.number_at.ensures at c.both.ensures in (
       search rules,
-      ⊎_elim (λ w. flag_met a.pair_tasks.now a.times.now a.time.0 q c1.byte_at-task.ensures.0 test c2.loop-q.invariant.1
-          w.0.taken w.1)
-          (λ w. flag_missed a.pair_tasks.now a.times.now a.time.0 q c1.byte_at-task.ensures.0 test c2.loop-q.invariant.1
-          w.0.left w.1) c.if-both.branch,
+      elim c.if-both.branch [
+        | then-both w ↦ flag_met a.pair_tasks.now a.times.now a.time.0 q c1.byte_at-task.ensures.0 test c2.loop-q.invariant.1 w.if-both.true w.some-is
+        | else-both w ↦ flag_missed a.pair_tasks.now a.times.now a.time.0 q c1.byte_at-task.ensures.0 test c2.loop-q.invariant.1 w.if-both.false w.some-is
+      ],
     )
 
 pub returns : goal.returns

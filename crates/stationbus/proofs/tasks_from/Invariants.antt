@@ -1,17 +1,10 @@
 -- Invariant: by task, the flags of the pairs so far. A pair of a task with the time sets one (`flag_met`), any other none (`flag_missed`).
-use mathlib.Core.Path.{◌≡◌, refl, sym, ap, ◌∙◌}
+use mathlib.Core.Path.{◌≡◌}
 use mathlib.Core.Bool.{false}
-use mathlib.Core.Logic.{⊎_elim}
-use native.Mathlib.Nat.{le_antisymm}
-use borrow.Author.Tests.{ltb-true}
-use lib.Dec.{eqb}
 use lib.ListN.{replicate}
 use Prim.Native.Nat.{◌≤◌, ◌-◌}
 use Rattle.laws.specs.Loops.{stores}
-use Rattle.laws.proofs.Lists.{both_right}
 use Rattle.stationbus.specs.Bus.{some_pair_at}
-use Rattle.stationbus.proofs.Pairs.{flag_met, flag_missed}
-use borrow.Author.Rules.{rules}
 use Rattle.stationbus.proofs.tasks_from.Given as goal
 
 abbrev pub invariant-loop-q : goal.invariant-loop-q
