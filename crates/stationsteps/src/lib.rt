@@ -1,5 +1,6 @@
 // The steps (a), (c) and (d) of a tick, each on the array that it changes; what it reads is lent.
 #![tactic(auto)]
+
 ghost use Rattle.std.specs.Prelude.{◌≡◌, cond, false, not, ◌&&◌, ◌||◌, get_or, replicate, ℕ, ◌<◌};
 ghost use Rattle.std.proofs.Math.Option;
 ghost use Rattle.laws.specs.Loops.{stores};
