@@ -1,18 +1,15 @@
 -- Refusals 41 to 44 on arrays: the tests of the rules' `judged_tick`, each at a place of the arrays that it reads. That they are the
 -- rules' own tests is a law of the crate `station`.
-use Rattle.std.specs.Prelude.{Bool, true, false, not, ◌&&◌, ◌||◌, List, eqb, ltb, get_or, ℕ}
+use Rattle.std.specs.Prelude.{Bool, true, not, ◌&&◌, ◌||◌, List, eqb, ltb, get_or, ℕ}
 use Rattle.std.proofs.Math.Option.{Option, none, some}
 use Rattle.laws.specs.Numbers.{divides}
 use Rattle.laws.specs.Lists.{first_bad, up_to}
-use Rattle.laws.specs.Res.{Res, ok, ◌>>◌, at}
+use Rattle.laws.specs.Res.{Res, ◌>>◌, at}
 use Rattle.rules.specs.Limits.{most_modules, most_tasks}
 use Rattle.rules.specs.Station.{fits_in}
 use Rattle.places.specs.Flags.{flag_at}
-use Rattle.answers.specs.Refusals.{said}
 use Rattle.stationruns.specs.Inputs.{given_at}
 use Rattle.stationruns.specs.Runs.{run_at, awaits, last_chance}
-use Rattle.answers.specs.declared.Verdict.{Verdict}
-use Rattle.answers.specs.declared.Verdict.TheVariants as judged
 
 -- 41
 abbrev pub awaited_test : List ℕ → ℕ → List ℕ → List ℕ → List ℕ → List ℕ → List ℕ → List ℕ → ℕ → Bool

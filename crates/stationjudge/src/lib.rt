@@ -1,5 +1,6 @@
 // Refusals 41 to 44 of a tick, on lent arrays.
 #![tactic(auto)]
+
 ghost use Rattle.std.specs.Prelude.{◌≡◌, ◌<◌};
 ghost use Rattle.laws.specs.Lists.{first_bad, up_to};
 ghost use Rattle.rules.specs.Limits.{most_modules, most_tasks};
