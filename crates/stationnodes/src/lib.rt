@@ -1,5 +1,6 @@
 // Steps (b) and (c) on the eight nodes, by value, each with its places; one place changes at a time.
 #![tactic(auto)]
+
 ghost use Rattle.std.specs.Prelude.{◌≡◌, false, get_or, replicate, ◌<◌};
 ghost use Rattle.laws.specs.Loops.{stores};
 ghost use Rattle.laws.specs.Lists.{all, up_to};

@@ -4,19 +4,15 @@ use lib.ListN.{length}
 use Rattle.stationnodes.specs.Nodes.{node_at, landed_rule}
 use Rattle.stationnodes.proofs.Ways.{made, shown_of_landed}
 use borrow.Author.Rules.{rules}
-use Rattle.stationnodes.proofs.node_after.Statement.{statement}
-use Rattle.stationnodes.proofs.node_after.Tie as tie
+use Rattle.stationnodes.proofs.node_after.Goals as goal
 
-returns : tie.Need-returns
+pub returns : goal.returns
 unfolding node_at
 returns c =
-    let a = c.before.before.before.before.before.args in
+    let a = c.args in
     let size : length a.node.landed ≡ 32 = search rules in
-    let landed = c.before.before.before.landed-after in
+    let landed = c.landed_after-landed in
     made landed.ensures
     (shown_of_landed a.ends.now a.homes.now a.nodes.now a.out.now a.held.now a.due.now a.n
     a.node.landed a.node.shown (landed_rule a.lands.now a.loads.now a.homes.now a.nodes.now a.n a.node.landed)
-    size landed.ensures c.shown-after.ensures)
-
-pub node-after-spec : {M : Type 1} → statement M
-node-after-spec = tie.close (tie.spec (λ c κs. search rules) (λ c κs. search rules) returns)
+    size landed.ensures c.shown_after-shown.ensures)
