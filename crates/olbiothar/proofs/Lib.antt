@@ -1,8 +1,5 @@
 pub mod Beginning
-pub mod Stored
-pub mod Reading
 pub mod Shown
-pub mod Filling
 pub mod FewFrames
 pub mod MakeRules
 pub mod CheckRules
