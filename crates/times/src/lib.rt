@@ -1,5 +1,6 @@
 // Bits and bytes on the bus as time: the only place where bytes become ticks.
 #![tactic(auto)]
+
 ghost use Rattle.std.specs.Prelude.{◌≡◌, ◌+◌, ◌≤◌, ◌<◌, ◌^◌};
 ghost use Rattle.laws.specs.Numbers.{ceil, up};
 ghost use Rattle.plan.specs.Memory.{bus_seen};

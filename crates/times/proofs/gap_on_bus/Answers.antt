@@ -1,0 +1,8 @@
+-- The promise of `of_bits` is the statement, once `gap_on_bus` is unfolded.
+use Rattle.plan.specs.Memory.{bus_seen}
+use Rattle.rules.specs.Frames.{gap_on_bus}
+use Rattle.times.proofs.gap_on_bus.Goals as goal
+
+pub returns : goal.returns
+unfolding gap_on_bus bus_seen
+returns c = c.of_bits.ensures
