@@ -1,5 +1,5 @@
 -- The connections left of a plan, one by one: what the tables say of a connection, and what one more makes of those in memory.
-use mathlib.Core.Path.{◌≡◌, refl, sym, ap, ◌∙◌}
+use mathlib.Core.Path.{◌≡◌, sym, ap, ◌∙◌}
 use mathlib.Core.Bool.{Bool, true, false, not, ◌&&◌}
 use mathlib.Core.List.{List, [], ◌∷◌, ◌++◌, map}
 use native.Mathlib.Omega.{arith}
@@ -7,7 +7,6 @@ use lib.Dec.{eqb}
 use lib.ListN.{length, get_or, set, take, replicate, length-map, length-take}
 use Prim.Native.Nat.{ℕ, ◌+◌, ◌≤◌, ◌<◌}
 use Rattle.laws.specs.Lists.{keep}
-use Rattle.laws.specs.Loops.{pad_to}
 use Rattle.laws.proofs.Lists.{take_more, map_snoc, keep_snoc_yes, keep_snoc_no, length-keep, length_snoc, pad_to-none, pad_to_snoc}
 use Rattle.plan.specs.declared.Plan as laid
 use Rattle.plan.specs.declared.Connection as memory

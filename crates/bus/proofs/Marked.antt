@@ -2,7 +2,7 @@
 -- in a plan that is read.
 use mathlib.Core.Path.{◌≡◌, refl, sym, ap, ◌∙◌}
 use mathlib.Core.Bool.{Bool, true, false, cond}
-use mathlib.Core.List.{List, map, foldr}
+use mathlib.Core.List.{map, foldr}
 use native.Mathlib.Omega.{arith}
 use Prim.Native.Nat.{ℕ}
 use Rattle.laws.specs.Lists.{keep}

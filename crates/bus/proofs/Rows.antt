@@ -15,7 +15,7 @@ use Rattle.laws.proofs.Members.{All, empty, also, all_weaker, all_of_members, ke
 use Rattle.laws.proofs.Laid.{tab-same}
 use Rattle.laws.proofs.Bus.{table_filled}
 use Rattle.laws.proofs.Rows.{get_d_rows, row_more, rows_all}
-use Rattle.rules.specs.Plan.{Plan, Invocation, Connection, period_of}
+use Rattle.rules.specs.Plan.{Plan, Invocation, period_of}
 use Rattle.rules.specs.Traffic.{Run, run_of}
 use Rattle.rules.specs.Readers.{needs_all, leads_to, is_reader, is_thinned, readers_of}
 use Rattle.rules.proofs.PlanKept.{PlanKept}

@@ -1,7 +1,7 @@
 -- What one more connection makes of the tables of the consumer edition, and one more invocation of the least periods.
 use mathlib.Core.Path.{◌≡◌, refl, sym, ap, ◌∙◌}
-use mathlib.Core.Bool.{Bool, true, false, not, ◌&&◌, ◌||◌, cond}
-use mathlib.Core.List.{List, [], ◌∷◌, ◌++◌, map}
+use mathlib.Core.Bool.{Bool, true, false, not, ◌||◌, cond}
+use mathlib.Core.List.{List, [], map}
 use borrow.Author.Tests.{eq-eqb, ne_eqb}
 use lib.Dec.{eqb, ltb}
 use lib.ListN.{length, get_or, set, take, replicate}
@@ -9,7 +9,7 @@ use Prim.Native.Nat.{ℕ, ◌+◌, ◌<◌, min}
 use Rattle.laws.specs.Lists.{keep}
 use Rattle.laws.specs.Numbers.{least}
 use Rattle.laws.proofs.Lists.{take_more, map_snoc, keep_snoc_yes, keep_snoc_no, and-true, or-false}
-use Rattle.laws.proofs.Members.{All, all_of_members, all_take, all_keep, all_map}
+use Rattle.laws.proofs.Members.{all_of_members, all_take, all_keep, all_map}
 use Rattle.laws.proofs.Readers.{least_snoc}
 use Rattle.rules.specs.Plan.{Plan, Invocation, Connection, no_invocation, no_connection, the_task, period_of}
 use Rattle.rules.specs.Traffic.{invokes, periods_of, can_be_thinned, is_bus_task, thins_for, lives_in, ends_in}

@@ -2,6 +2,7 @@
 // and the grid of mode changes; with which periods a task's results are read. Tables by number have a place for every byte, so that no
 // look-up of a task's, a module's or a node's number can miss.
 #![tactic(auto)]
+
 pub mod edition;
 pub mod marks;
 pub mod period;

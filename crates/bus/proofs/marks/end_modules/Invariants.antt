@@ -1,0 +1,16 @@
+-- Invariant: the marks are those of the ends of the first i connections (`marked_by`); each turn is `ends_turn`, the end `take_all`.
+use mathlib.Core.Path.{◌≡◌}
+use Prim.Native.Nat.{◌≤◌, ◌-◌}
+use lib.ListN.{take}
+use Rattle.plan.specs.Memory.{seen}
+use Rattle.rules.specs.Traffic.{ends_in}
+use Rattle.bus.specs.Senders.{by_number}
+use Rattle.bus.proofs.Tables.{no_mark, marked_by}
+use Rattle.bus.proofs.marks.end_modules.Given as goal
+
+abbrev pub invariant-loop-i : goal.invariant-loop-i
+invariant-loop-i l =
+    (l.i ≤ l.n) × (l.modules ≡ by_number (marked_by no_mark (ends_in (seen l.p)) (take l.i (seen l.p).connections)))
+
+abbrev pub decreases-loop-i : goal.decreases-loop-i
+decreases-loop-i l = l.n - l.i
