@@ -302,6 +302,17 @@ def convert(crate, where, folder, old, text, it, laws):
     inv_names = [g.name for g in invs]
 
     def turn(t, in_inv=False):
+        # a record further in has all that one further out has: a name for the inner one is not needed
+        while True:
+            for m in re.finditer(r"let (" + IDENT + r") = (" + IDENT + r")(?:\.before)+\s+in\s+", t):
+                x = re.escape(m.group(1))
+                rest = t[: m.start()] + t[m.end() :]
+                if all(re.match(r"(?:\.before)*\.(?!before(?![\w\-]))", rest[k.end() :]) for k in re.finditer(r"(?<![\w.'\-])" + x + r"(?![\w'\-])", rest)):
+                    t = re.sub(r"(?<![\w.'\-])" + x + r"(?![\w'\-])", m.group(2), rest)
+                    break
+            else:
+                break
+
         # places in types, without the invariants that they took
         def place(m):
             w = m.group(1)
@@ -314,6 +325,9 @@ def convert(crate, where, folder, old, text, it, laws):
             t = re.sub(r"tie\.((?:After|In|At|Then|Else|Start|Joined|Arm)[\w\-']*)((?:\s+(?:" + args + r"))+)", lambda m: place(m), t)
         t = re.sub(r"tie\.((?:After|In|At|Then|Else|Start|Joined|Arm)[\w\-']*)", place, t)
         # steps
+        # what the last arm of a `match` knows of the ones before it
+        t = re.sub(r"(?<![\w.'\-])[\w.'\-]+\.match\d*\.rest(?![\w\-])", "((search rules))", t)
+
         # only right behind the record itself
         def step(m):
             label = m.group(3)

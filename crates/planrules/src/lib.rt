@@ -1,5 +1,6 @@
 // What a plan must keep, refusals 2 to 5, and the whole way from bytes to a plan.
 #![tactic(auto)]
+
 ghost use Rattle.std.specs.Prelude.{◌≡◌};
 ghost use Rattle.rules.specs.Records as records;
 ghost use Rattle.rules.specs.Plan.{read_plan};

@@ -1,5 +1,6 @@
 // A table, in memory and as bytes; it is read and written by the fields of its records.
 #![tactic(auto)]
+
 ghost use Rattle.std.specs.Prelude.{◌≡◌};
 ghost use Rattle.table.specs.Memory.{empty_table, heading_of};
 

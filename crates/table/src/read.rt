@@ -1,5 +1,5 @@
 // A table gathered from the records of a file as they are met: refusal 20.
-ghost use Rattle.std.specs.Prelude.{◌≡◌, replicate, ◌+◌, ◌≤◌};
+ghost use Rattle.std.specs.Prelude.{◌≡◌, replicate, ◌+◌, ◌≤◌, length};
 ghost use Rattle.laws.specs.Loops.{placed};
 ghost use Rattle.rules.specs.Limits.{most_nodes, most_frames};
 ghost use Rattle.rules.specs.Records as rules;
@@ -34,7 +34,7 @@ pub struct Reading {
 
 // In each of these the body is cut out by its kind's length: then it is plain that each of its numbers stands within it.
 fn first_record(s: &[u8], body: usize) -> Header
-    requires* { do ⌜ body + (← ⟦fields::header::LENGTH⟧) ≤ (← ⟦s.len()⟧) ⌝ }
+    requires { body + 7 ≤ length s.now }
     ensures { result ≡ header_read s.now body }
 {
     let first = records::body(s, body, body + fields::header::LENGTH);
@@ -53,7 +53,7 @@ fn control_row(
     starts: &mut [u32; NodeNo::MOST],
     stops: &mut [u32; NodeNo::MOST],
 )
-    requires* { do ⌜ body + (← ⟦fields::control_row::LENGTH⟧) ≤ (← ⟦s.len()⟧) ⌝ }
+    requires { body + 9 ≤ length s.now }
     ensures nodes_after { nodes.new ≡ placed most_nodes nodes.old k (control_read s.now body).node }
     ensures starts_after { starts.new ≡ placed most_nodes starts.old k (control_read s.now body).start }
     ensures stops_after { stops.new ≡ placed most_nodes stops.old k (control_read s.now body).stop }
@@ -75,7 +75,7 @@ fn data_row(
     starts: &mut [u32; Frame::MOST],
     stops: &mut [u32; Frame::MOST],
 )
-    requires* { do ⌜ body + (← ⟦fields::data_row::LENGTH⟧) ≤ (← ⟦s.len()⟧) ⌝ }
+    requires { body + 13 ≤ length s.now }
     ensures tasks_after { tasks.new ≡ placed most_frames tasks.old k (row_read s.now body).task }
     ensures deadlines_after { deadlines.new ≡ placed most_frames deadlines.old k (row_read s.now body).deadline }
     ensures starts_after { starts.new ≡ placed most_frames starts.old k (row_read s.now body).start }

@@ -30,7 +30,7 @@ fn put_header(buf: &mut [u8], head: u8, period: Ticks, controls: u8, datas: u16)
 }
 
 fn put_control(buf: &mut [u8], at: usize, node: NodeNo, start: Ticks, stop: Ticks)
-    requires* { do ⌜ at + (← ⟦fields::control_row::RECORD⟧) < 2 ^ 64 ⌝ }
+    requires { at + 10 < 2 ^ 64 }
     ensures { buf.new ≡ sets buf.old at (record_bytes 17 (node.0 ∷ start.0 ∷ stop.0 ∷ [])) }
 {
     let body = at + fields::BODY;
@@ -41,7 +41,7 @@ fn put_control(buf: &mut [u8], at: usize, node: NodeNo, start: Ticks, stop: Tick
 }
 
 fn put_data(buf: &mut [u8], at: usize, task: TaskNo, deadline: Ticks, start: Ticks, stop: Ticks)
-    requires* { do ⌜ at + (← ⟦fields::data_row::RECORD⟧) < 2 ^ 64 ⌝ }
+    requires { at + 14 < 2 ^ 64 }
     ensures { buf.new ≡ sets buf.old at (record_bytes 18 (task.0 ∷ deadline.0 ∷ start.0 ∷ stop.0 ∷ [])) }
 {
     let body = at + fields::BODY;
@@ -60,7 +60,7 @@ fn put_controls(
     stops: &[u32; NodeNo::MOST],
     controls: usize,
 )
-    requires* { do ⌜ (controls ≤ most_nodes) × (at + (← ⟦fields::control_row::RECORD⟧) * controls < 2 ^ 64) ⌝ }
+    requires { (controls ≤ most_nodes) × (at + 10 * controls < 2 ^ 64) }
     ensures { buf.new ≡ sets buf.old at (joined (map control_bytes (tab (control_in nodes.now starts.now stops.now) 0 controls))) }
 {
     let mut k = 0;
@@ -85,7 +85,7 @@ fn put_rows(
     stops: &[u32; Frame::MOST],
     rows: usize,
 )
-    requires* { do ⌜ (rows ≤ most_frames) × (at + (← ⟦fields::data_row::RECORD⟧) * rows < 2 ^ 64) ⌝ }
+    requires { (rows ≤ most_frames) × (at + 14 * rows < 2 ^ 64) }
     ensures { buf.new ≡ sets buf.old at (joined (map data_bytes (tab (data_in tasks.now deadlines.now starts.now stops.now) 0 rows))) }
 {
     let mut k = 0;

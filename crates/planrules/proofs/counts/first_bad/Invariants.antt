@@ -1,0 +1,17 @@
+-- Invariant: the first k counts are within their ranges. One that is not ends the scan (`met_up_to`); else `none-up_to`.
+use borrow.Author.Rules.{rules}
+use borrow.Author.Tests.{not-true, not-false}
+use mathlib.Core.Path.{◌≡◌, refl, sym, ◌∙◌}
+use mathlib.Core.Option.{none}
+use Prim.Native.Nat.{◌-◌, ◌≤◌}
+use Rattle.laws.specs.Lists.{first_bad, up_to}
+use Rattle.laws.proofs.Loops.{first_bad-up_to_more}
+use Rattle.planrules.specs.Tests.{counts_fit}
+use Rattle.planfits.proofs.Places.{met_up_to, none-up_to}
+use Rattle.planrules.proofs.counts.first_bad.Given as goal
+
+abbrev pub invariant-loop-k : goal.invariant-loop-k
+invariant-loop-k l = (l.k ≤ 6) × (first_bad (counts_fit l.counts) (up_to l.k) ≡ none)
+
+abbrev pub decreases-loop-k : goal.decreases-loop-k
+decreases-loop-k l = 6 - l.k

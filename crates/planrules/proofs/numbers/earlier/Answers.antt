@@ -1,0 +1,9 @@
+-- Case by case of what was found and of the test, the definition computes.
+use borrow.Author.Rules.{rules}
+use Rattle.planrules.proofs.numbers.earlier.Goals as goal
+
+pub returns-in-At : goal.returns-in-At
+returns-in-At c = rw c.in-At.is
+
+pub returns-else-good : goal.returns-else-good
+returns-else-good c = rw (c.in-Nothing.is, c.if-good.false)

@@ -1,0 +1,6 @@
+-- The promise of `Plan::empty` is rewritten into the record.
+use borrow.Author.Rules.{rules}
+use Rattle.planrules.proofs.refused.Goals as goal
+
+pub returns : goal.returns
+returns c = rw c.empty.ensures

@@ -1,0 +1,21 @@
+-- Invariant: the bytes of the first k control rows are stored; a turn is `control_more`.
+use mathlib.Core.Path.{◌≡◌, ap, ◌∙◌}
+use mathlib.Core.List.{map}
+use Prim.Native.Nat.{◌-◌, ◌≤◌}
+use native.Mathlib.Omega.{arith}
+use lib.ListN.{length}
+use lib.Seq.{sets, length-sets}
+use Rattle.laws.specs.Lists.{tab, joined}
+use Rattle.rules.specs.Records.{kinds, fields, body_length}
+use Rattle.rules.specs.Table.{control_bytes, record_length}
+use Rattle.table.specs.Rows.{control_in}
+use Rattle.table.proofs.Glued.{control_more}
+use borrow.Author.Rules.{rules}
+use Rattle.table.proofs.write.put_controls.Given as goal
+
+abbrev pub invariant-loop-k : goal.invariant-loop-k
+invariant-loop-k l =
+    (l.k ≤ l.controls) × (l.buf ≡ sets l.initial.buf l.at (joined (map control_bytes (tab (control_in l.nodes l.starts l.stops) 0 l.k))))
+
+abbrev pub decreases-loop-k : goal.decreases-loop-k
+decreases-loop-k l = l.controls - l.k

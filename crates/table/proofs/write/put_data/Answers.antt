@@ -1,0 +1,20 @@
+-- The five stores, one behind the other, are one store of the record's bytes (`record_put`).
+use mathlib.Core.Path.{refl}
+use mathlib.Core.List.{[], ◌∷◌}
+use Rattle.rules.specs.Records.{fields, kinds}
+use Rattle.table.proofs.Glued.{record_put}
+use borrow.Author.Rules.{rules}
+use Rattle.table.proofs.write.put_data.Goals as goal
+
+pub returns : goal.returns
+unfolding fields kinds
+returns c =
+    let a = c.args in
+    rw (
+      c.put32-3.ensures,
+      c.put32-2.ensures,
+      c.put32.ensures,
+      c.put8-2.ensures,
+      c.put8.ensures,
+    )
+    (record_put 18 (a.task.0 ∷ a.deadline.0 ∷ a.start.0 ∷ a.stop.0 ∷ []) a.at a.buf.now refl)

@@ -1,0 +1,21 @@
+-- Invariant: the bytes of the first k data rows are stored; a turn is `data_more`.
+use mathlib.Core.Path.{◌≡◌, ap, ◌∙◌}
+use mathlib.Core.List.{map}
+use Prim.Native.Nat.{◌-◌, ◌≤◌}
+use native.Mathlib.Omega.{arith}
+use lib.ListN.{length}
+use lib.Seq.{sets, length-sets}
+use Rattle.laws.specs.Lists.{tab, joined}
+use Rattle.rules.specs.Records.{kinds, fields, body_length}
+use Rattle.rules.specs.Table.{data_bytes, record_length}
+use Rattle.table.specs.Rows.{data_in}
+use Rattle.table.proofs.Glued.{data_more}
+use borrow.Author.Rules.{rules}
+use Rattle.table.proofs.write.put_rows.Given as goal
+
+abbrev pub invariant-loop-k : goal.invariant-loop-k
+invariant-loop-k l =
+    (l.k ≤ l.rows) × (l.buf ≡ sets l.initial.buf l.at (joined (map data_bytes (tab (data_in l.tasks l.deadlines l.starts l.stops) 0 l.k))))
+
+abbrev pub decreases-loop-k : goal.decreases-loop-k
+decreases-loop-k l = l.rows - l.k
