@@ -151,14 +151,14 @@ column_snoc f rs r =
 
 module _ (q : Plan) where
   -- no more rows than nodes
-  from-length : (start : ℕ) (ns : List ℕ) → length (control_from q start ns) ≡ length ns
+  from-length : (ns : List ℕ) (start : ℕ) → length (control_from q start ns) ≡ length ns
   unfolding control_from
-  from-length start [] = refl
-  from-length start (n ∷ ns) = ap suc (from-length _ ns)
+  from-length [] start = refl
+  from-length (n ∷ ns) start = ap suc (from-length ns _)
 
   pub rows_few : (k : ℕ) → length (rows_to q k) ≤ k
   unfolding rows_to nodes_to
-  rows_few k = rw (from-length 0 (nodes_to q k)) (rw (length-up_to k) at (length-keep (is_sending_node q) (up_to k)))
+  rows_few k = rw (from-length (nodes_to q k) 0) (rw (length-up_to k) at (length-keep (is_sending_node q) (up_to k)))
 
   -- the rows of the nodes below k stand in the arrays
   pub record Shown (k count next : ℕ) (nodes starts stops : List ℕ) : Type 0 where

@@ -1,5 +1,6 @@
 // The control frames: one for each sending node, in node order, from 0 on, a gap between them.
 #![tactic(auto)]
+
 ghost use Rattle.std.specs.Prelude.{◌≡◌, ◌≤◌, ◌<◌, ◌^◌};
 ghost use Rattle.plan.specs.Memory.{seen};
 ghost use Rattle.rules.specs.Limits.{most_nodes};

@@ -1,18 +1,12 @@
-use borrow.Author.Rules.{rules}
 use mathlib.Core.Path.{◌≡◌, refl, sym, ◌∙◌}
 use native.Mathlib.Omega.{arith}
-use mathlib.Core.Logic.{⊎_elim}
-use Prim.Native.Nat.{◌*◌, ◌-◌, ◌^◌, ◌≤◌}
 use Rattle.plan.specs.Memory.{seen, count_seen}
 use Rattle.rules.specs.Traffic.{sending_nodes}
 use Rattle.rules.specs.Frames.{control_end, gap_time, control_rows, control_from}
 use Rattle.control.proofs.Turns.{rows_to, nodes_to, next_start}
 use Rattle.control.proofs.Turns.{next_at, stop_at, sends_yes, sends_no, time-is, next_yes, next_no, stop_yes, stop_no}
 use Rattle.control.proofs.control_end.Goals as goal
-
-gap : (c : goal.Joined-payloads-n-gt0) → c.gap_time-gap.result.0 ≡ gap_time (seen c.args.p).bus
-unfolding seen
-gap c = c.gap_time-gap.ensures.0
+use Rattle.control.proofs.control_end.Goals.{then-payloads-n-gt0, else-payloads-n-gt0}
 
 pub loop-n-init : goal.loop-n-init
 unfolding seen count_seen next_at stop_at next_start rows_to nodes_to control_from
@@ -25,27 +19,28 @@ loop-n-preserved c =
     let q = seen s.args.p in
     let l = c.loop-n in
     let t = s.requires.payloads_value in
-    ⊎_elim
-    (λ w.
-    let y = sends_yes q l.n t (omega arith) w.0.taken in
-    let time = time-is q l.n t (omega arith) w.1.ensures w.2.ensures.0 in (
-      omega arith,
-      l.invariant.1,
-      w.4 ∙ rw (l.invariant.2, time, gap c) (sym (next_yes q l.n y)),
-      w.5 ∙ rw (l.invariant.2, time) (sym (stop_yes q l.n y)),
-      omega (arith, w.4, w.2.ensures.1),
-      omega (arith, w.5, w.2.ensures.1),
-    ))
-    (λ w.
-    let y = sends_no q l.n t (omega arith) w.0.left in (
-      omega arith,
-      l.invariant.1,
-      w.1 ∙ l.invariant.2 ∙ sym (next_no q l.n y),
-      w.2 ∙ l.invariant.3 ∙ sym (stop_no q l.n y),
-      omega (arith, w.1),
-      omega (arith, w.2),
-    ))
-    c.if-payloads-n-gt0.branch
+    let gap : c.gap_time-gap.result.0 ≡ gap_time q.bus = unfold seen in c.gap_time-gap.ensures.0 in
+    elim c.if-payloads-n-gt0.branch [
+      | then-payloads-n-gt0 w ↦
+          let y = sends_yes q l.n t (omega arith) w.if-payloads-n-gt0.true in
+          let time = time-is q l.n t (omega arith) w.wide.ensures w.control_time.ensures.0 in (
+            omega arith,
+            l.invariant.1,
+            w.next-is ∙ rw (l.invariant.2, time, gap) (sym (next_yes q l.n y)),
+            w.stop-is ∙ rw (l.invariant.2, time) (sym (stop_yes q l.n y)),
+            omega (arith, w.next-is, w.control_time.ensures.1),
+            omega (arith, w.stop-is, w.control_time.ensures.1),
+          )
+      | else-payloads-n-gt0 w ↦
+          let y = sends_no q l.n t (omega arith) w.if-payloads-n-gt0.false in (
+            omega arith,
+            l.invariant.1,
+            w.next-is ∙ l.invariant.2 ∙ sym (next_no q l.n y),
+            w.stop-is ∙ l.invariant.3 ∙ sym (stop_no q l.n y),
+            omega (arith, w.next-is),
+            omega (arith, w.stop-is),
+          )
+    ]
 
 pub returns : goal.returns
 unfolding seen count_seen control_end control_rows sending_nodes stop_at rows_to nodes_to

@@ -1,14 +1,8 @@
 -- Invariant: `next` and `stop` are those behind the first n nodes, each at most n * 2 ^ 48; a node that sends moves both.
-use borrow.Author.Rules.{rules}
-use mathlib.Core.Path.{◌≡◌, refl, sym, ◌∙◌}
-use native.Mathlib.Omega.{arith}
-use mathlib.Core.Logic.{⊎_elim}
+use mathlib.Core.Path.{◌≡◌}
 use Prim.Native.Nat.{◌*◌, ◌-◌, ◌^◌, ◌≤◌}
-use Rattle.plan.specs.Memory.{seen, count_seen}
-use Rattle.rules.specs.Traffic.{sending_nodes}
-use Rattle.rules.specs.Frames.{control_end, gap_time, control_rows, control_from}
-use Rattle.control.proofs.Turns.{rows_to, nodes_to, next_start}
-use Rattle.control.proofs.Turns.{next_at, stop_at, sends_yes, sends_no, time-is, next_yes, next_no, stop_yes, stop_no}
+use Rattle.plan.specs.Memory.{seen}
+use Rattle.control.proofs.Turns.{next_at, stop_at}
 use Rattle.control.proofs.control_end.Given as goal
 
 abbrev pub invariant-loop-n : goal.invariant-loop-n

@@ -1,8 +1,6 @@
-use borrow.Author.Rules.{rules}
 use native.Mathlib.Omega.{arith}
-use mathlib.Core.Logic.{⊎_elim}
 use mathlib.Core.Path.{◌≡◌}
-use Prim.Native.Nat.{◌+◌, ◌-◌, ◌^◌, ◌≤◌, ◌<◌}
+use Prim.Native.Nat.{◌+◌, ◌^◌, ◌≤◌, ◌<◌}
 use Rattle.plan.specs.Memory.{seen, count_seen}
 use Rattle.rules.specs.Traffic.{sending_nodes}
 use Rattle.rules.specs.Frames.{control_end, control_rows}
@@ -22,62 +20,69 @@ use Rattle.control.proofs.Turns.{
   shown-kept,
 }
 use Rattle.control.proofs.control_rows.Goals as goal
-
-few : (c : goal.After-control_time) → c.loop-n.count ≤ c.loop-n.n
-few c =
-    let c1 = c.before in
-    let c2 = c1.before in
-    let a = c2.args in
-    let l = c1.loop-n in
-    shown-few (seen a.t1) l.invariant.2
+use Rattle.control.proofs.control_rows.Goals.{then-payloads-n-gt0, else-payloads-n-gt0}
+use Prim.Native.Nat.{ℕ}
+use mathlib.Core.List.{List}
+use lib.ListN.{get_or}
+use Rattle.rules.specs.Plan.{Plan}
+use Rattle.rules.specs.Traffic.{control_payload}
+use Rattle.rules.specs.Frames.{sending_time}
+use Rattle.bus.specs.Senders.{by_number}
 
 -- a control frame that is made stops by C, and C fits
-stops : (c : goal.After-control_time) → c.loop-n.start + c.control_time.result.0 < 2 ^ 32
-unfolding seen count_seen
-stops c =
-    let c1 = c.before in
-    let c2 = c1.before in
-    let q = seen c2.args.p in
-    let l = c1.loop-n in
-    let t = c2.requires.payloads_value in
-    let y = sends_yes q l.n t (omega arith) c.if-payloads-n-gt0.true in
-    let time = time-is q l.n t (omega arith) c.wide.ensures c.control_time.ensures.0 in
-    let w : l.start + time_of q l.n ≤ control_end q = shown-fits q l.invariant.2 y (omega arith) in
-    omega (arith, time, c2.requires.p_bound_2)
+stops : (q : Plan) {k count start x v : ℕ} {nodes starts stops payloads : List ℕ}
+    → Shown q k count start nodes starts stops
+    → payloads ≡ by_number (control_payload q)
+    → k < 256
+    → k < q.nodes
+    → 0 < get_or payloads k 0
+    → x ≡ get_or payloads k 0
+    → v ≡ sending_time q.bus x
+    → control_end q < 2 ^ 32
+    → start + v < 2 ^ 32
+stops q {k = k} {start = start} h t below w sends x v fits =
+    let y = sends_yes q k t below sends in
+    let time = time-is q k t below x v in
+    let z : start + time_of q k ≤ control_end q = shown-fits q h y w in
+    omega (arith, time)
 
 pub loop-n-init : goal.loop-n-init
 unfolding seen count_seen
 loop-n-init c = (omega arith, c.requires.p_bound, shown-none (seen c.args.p))
 
 pub overflow_add-stop : goal.overflow_add-stop
-overflow_add-stop c = omega (arith, stops c.before)
+unfolding seen count_seen
+overflow_add-stop c = omega (arith, stops (seen c.args.p) c.loop-n.invariant.2 c.requires.payloads_value (omega arith) (omega arith) c.if-payloads-n-gt0.true c.wide.ensures c.control_time.ensures.0 c.requires.p_bound_2)
 
 pub bounds-nodes-count : goal.bounds-nodes-count
-bounds-nodes-count c = omega (arith, few c.before)
+bounds-nodes-count c = omega (arith, shown-few (seen c.args.p) c.loop-n.invariant.2)
 
 pub overflow_cast-starts : goal.overflow_cast-starts
-overflow_cast-starts c = omega (arith, stops c.before)
+unfolding seen count_seen
+overflow_cast-starts c = omega (arith, stops (seen c.args.p) c.loop-n.invariant.2 c.requires.payloads_value (omega arith) (omega arith) c.if-payloads-n-gt0.true c.wide.ensures c.control_time.ensures.0 c.requires.p_bound_2)
 
 pub offset_bounds-starts-count : goal.offset_bounds-starts-count
-offset_bounds-starts-count c = omega (arith, few c.before)
+offset_bounds-starts-count c = omega (arith, shown-few (seen c.args.p) c.loop-n.invariant.2)
 
 pub bounds-starts-count : goal.bounds-starts-count
-bounds-starts-count c = omega (arith, few c.before)
+bounds-starts-count c = omega (arith, shown-few (seen c.args.p) c.loop-n.invariant.2)
 
 pub overflow_cast-stops : goal.overflow_cast-stops
-overflow_cast-stops c = omega (arith, stops c.before)
+unfolding seen count_seen
+overflow_cast-stops c = omega (arith, stops (seen c.args.p) c.loop-n.invariant.2 c.requires.payloads_value (omega arith) (omega arith) c.if-payloads-n-gt0.true c.wide.ensures c.control_time.ensures.0 c.requires.p_bound_2)
 
 pub offset_bounds-stops-count : goal.offset_bounds-stops-count
-offset_bounds-stops-count c = omega (arith, few c.before)
+offset_bounds-stops-count c = omega (arith, shown-few (seen c.args.p) c.loop-n.invariant.2)
 
 pub bounds-stops-count : goal.bounds-stops-count
-bounds-stops-count c = omega (arith, few c.before)
+bounds-stops-count c = omega (arith, shown-few (seen c.args.p) c.loop-n.invariant.2)
 
 pub overflow_add-count : goal.overflow_add-count
-overflow_add-count c = omega (arith, few c.before)
+overflow_add-count c = omega (arith, shown-few (seen c.args.p) c.loop-n.invariant.2)
 
 pub overflow_add-start : goal.overflow_add-start
-overflow_add-start c = omega (arith, stops c.before)
+unfolding seen count_seen
+overflow_add-start c = omega (arith, stops (seen c.args.p) c.loop-n.invariant.2 c.requires.payloads_value (omega arith) (omega arith) c.if-payloads-n-gt0.true c.wide.ensures c.control_time.ensures.0 c.requires.p_bound_2)
 
 pub loop-n-preserved : goal.loop-n-preserved
 unfolding seen
@@ -87,20 +92,19 @@ loop-n-preserved c =
     let q = seen s.args.p in
     let l = c.loop-n in
     let t = s.requires.payloads_value in
-    ⊎_elim
-    (λ w.
-    let y = sends_yes q l.n t (omega arith) w.0.taken in
-    let time = time-is q l.n t (omega arith) w.1.ensures w.2.ensures.0 in (
-      omega arith,
-      l.invariant.1,
-      rw (w.4, w.5, w.6, w.7, w.8)
-          (shown_more q l.invariant.2 y (rw time) (rw c1.gap_time-gap.ensures.0)),
-    )
-    )
-    (λ w.
-    let y = sends_no q l.n t (omega arith) w.0.left in
-    (omega arith, l.invariant.1, rw (w.1, w.2, w.3, w.4, w.5) (shown-kept q l.invariant.2 y)))
-    c.if-payloads-n-gt0.branch
+    elim c.if-payloads-n-gt0.branch [
+      | then-payloads-n-gt0 w ↦
+          let y = sends_yes q l.n t (omega arith) w.if-payloads-n-gt0.true in
+          let time = time-is q l.n t (omega arith) w.wide.ensures w.control_time.ensures.0 in (
+            omega arith,
+            l.invariant.1,
+            rw (w.nodes-is, w.starts-is, w.stops-is, w.count-is, w.start-is)
+                (shown_more q l.invariant.2 y (rw time) (rw c1.gap_time-gap.ensures.0)),
+          )
+      | else-payloads-n-gt0 w ↦
+          let y = sends_no q l.n t (omega arith) w.if-payloads-n-gt0.false in
+          (omega arith, l.invariant.1, rw (w.nodes-is, w.starts-is, w.stops-is, w.count-is, w.start-is) (shown-kept q l.invariant.2 y))
+    ]
 
 pub returns : goal.returns
 unfolding seen count_seen control_laid control_rows sending_nodes rows_to nodes_to

@@ -1,5 +1,4 @@
 -- The promise of `sending_time` is the statement, once `seen` is unfolded.
-use borrow.Author.Rules.{rules}
 use Rattle.plan.specs.Memory.{seen}
 use Rattle.control.proofs.control_time.Goals as goal
 
