@@ -1,5 +1,6 @@
 // What each number of an answer means, put as text: the words that `meanings/Meanings` has.
 #![tactic(auto)]
+
 ghost use Rattle.std.specs.Prelude.{◌≡◌, ◌+◌, ◌*◌, ◌≤◌, length};
 ghost use Rattle.std.proofs.lemmas.List.Edits.{sets};
 ghost use Rattle.meanings.specs.Meanings.{help_line, help_lines, meaning, of_bus, of_making, of_records, of_station, of_table, of_text, unknown};

@@ -2,7 +2,7 @@
 -- rows of the table; and the rows with the head that counts them are the table's bytes.
 use mathlib.Core.Path.{◌≡◌, refl, sym, ap, ap₂, ◌∙◌, subst}
 use mathlib.Core.Bool.{true, false}
-use mathlib.Core.List.{List, [], ◌∷◌, ◌++◌, map, append_assoc}
+use mathlib.Core.List.{List, [], ◌∷◌, ◌++◌, map}
 use mathlib.Core.Option.{some}
 use native.Mathlib.Nat.{add-zero, zero-add}
 use native.Mathlib.Omega.{arith}
@@ -12,7 +12,7 @@ use Prim.Native.Nat.{ℕ, zero, suc, ◌+◌, ◌≤◌, ◌<◌}
 use Rattle.laws.specs.Res.{Res, ok, refuse}
 use Rattle.laws.specs.Lists.{all, joined, tab}
 use Rattle.laws.proofs.Little.{Bytes}
-use Rattle.laws.proofs.Members.{All, empty, also, all_append, all_get_d, all-get_or-or, all_member, all-tab, map-get_or}
+use Rattle.laws.proofs.Members.{All, also, all_append, all_get_d, all-get_or-or, all_member, all-tab, map-get_or}
 use Rattle.rules.specs.Records.{head_kind}
 use Rattle.rules.specs.Plan.{the_task}
 use Rattle.rules.specs.Traffic.{module_node, task_node}
