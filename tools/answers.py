@@ -246,6 +246,21 @@ def cite(text, word, labels):
     return re.sub(word + r"((?:\.[01])+)(?![\w])", turn, text)
 
 
+def whole(text, word, labels):
+    """All clauses at once, as the pairs that lemmas take."""
+    if len(labels) < 2 or any(l is None for l in labels):
+        return text
+
+    def turn(m):
+        its = [m.group(0) + "." + l for l in labels]
+        out = its[-1]
+        for x in reversed(its[:-1]):
+            out = f"({x}, {out})"
+        return out
+
+    return re.sub(r"(?<![\w.'\-])" + IDENT + r"(?:\." + IDENT + r")*?" + word + r"(?![\w.'\-])", turn, text)
+
+
 def main(crate, names, only):
     root = os.getcwd()
     data = json.load(open(names))
@@ -326,17 +341,21 @@ def convert(crate, where, folder, old, text, it, laws):
         t = re.sub(r"tie\.((?:After|In|At|Then|Else|Start|Joined|Arm)[\w\-']*)", place, t)
         # steps
         # what the last arm of a `match` knows of the ones before it
-        t = re.sub(r"(?<![\w.'\-])[\w.'\-]+\.match\d*\.rest(?![\w\-])", "((search rules))", t)
+        t = re.sub(r"(?<![\w.'\-])[\w.'\-]+\.match\d*\.rest(?:\.[01])*(?![\w\-])", "(search rules)", t)
 
         # only right behind the record itself
+        given = set(re.findall(r"let (" + IDENT + r") = [\w.'\-]+\.args\s+in", t))
+
         def step(m):
             label = m.group(3)
+            if m.group(1) in given:
+                return m.group(0)
             path = [x for x in (m.group(4) or "").split(".") if x]
             for k in range(len(path), 0, -1):
                 new = arms.get((plain(label), tuple(path[:k])))
                 if new and "-own" not in new:
                     return m.group(1) + m.group(2) + "." + new + "".join("." + x for x in path[k:])
-            n = fields.get(plain(label)) or (label.endswith("_lem") and labels.get(plain(label[:-4])))
+            n = fields.get(plain(label)) or (label.endswith("_lem") and labels.get(plain(label[:-4]))) or labels.get(plain(re.sub(r"\d+$", "", label)))
             return m.group(1) + m.group(2) + "." + (n or label) + (m.group(4) or "")
 
         t = re.sub(r"(?<![\w.'\-])(" + IDENT + r"|\([^()]*\))((?:\.before)*)\.(" + IDENT + r")((?:\.(?:given|ensures|keys\d+|[01])(?![\w\-]))*)", step, t)
@@ -348,9 +367,11 @@ def convert(crate, where, folder, old, text, it, laws):
         # a chain of `before` in front of a field
         t = re.sub(r"(?:\.before)+(?!\.before(?![\w\-]))(?=\.[A-Za-z_])", "", t)
         t = cite(t, r"(\.requires)", own_req)
+        t = whole(t, r"\.requires", own_req)
         for b, callee in callees.items():
             r, e, _ = laws.get(callee, ([], [], []))
             t = cite(t, r"(\." + re.escape(b) + r"\.ensures)", e)
+            t = whole(t, r"\." + re.escape(b) + r"\.ensures", e)
         return t
 
     # which goal each answer is for
@@ -408,7 +429,7 @@ def convert(crate, where, folder, old, text, it, laws):
         body = re.sub(r"(?m)^(" + re.escape(new) + r" c) κs =", r"\1 =", body)
         if len(own_ens) > 1 and new.startswith("returns"):
             body = tail_record(body, own_ens)
-        if re.match(re.escape(new) + r" [\w₀-₉ ]+= search rules$", body):
+        if not g.unfolding and re.match(re.escape(new) + r" [\w₀-₉ ]+= search rules$", body):
             continue
         out.append((g.lead, f"pub {new} : goal.{new}" + ("\n" + turn(g.unfolding) if g.unfolding else "") + "\n" + body))
     for a, new in inline:

@@ -15,13 +15,13 @@ loop-k-init c = (search rules, refl)
 pub returns-then-not-fits : goal.returns-then-not-fits
 returns-then-not-fits c =
     met_up_to _ _ _ c.loop-k-test.true c.loop-k.invariant.1
-    (sym c.fits2.ensures ∙ c.if-not-fits.true)
+    (sym c.fits.ensures ∙ c.if-not-fits.true)
 
 pub loop-k-preserved : goal.loop-k-preserved
 loop-k-preserved c = (
   search rules,
   first_bad-up_to_more (counts_fit c.args.counts) c.loop-k.k
-      c.loop-k.invariant.1 (sym c.fits2.ensures ∙ c.if-not-fits.false),
+      c.loop-k.invariant.1 (sym c.fits.ensures ∙ c.if-not-fits.false),
 )
 
 pub returns : goal.returns

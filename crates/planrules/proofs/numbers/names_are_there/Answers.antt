@@ -44,5 +44,5 @@ returns-in-7 c =
 
 pub returns-in_default : goal.returns-in_default
 returns-in_default c =
-    sym (no_names _ _ _ ((search rules)).0.0.0.0.1 ((search rules)).0.0.0.1 ((search rules)).0.0.1
-    ((search rules)).0.1 ((search rules)).1)
+    sym (no_names _ _ _ (search rules) (search rules) (search rules)
+    (search rules) (search rules))

@@ -26,4 +26,4 @@ returns-in-6 c = rw c.in-6.is c.rate_is_within.ensures
 
 pub returns-in_default : goal.returns-in_default
 returns-in_default c =
-    sym (no_ranges _ _ ((search rules)).0.0.0.0.1 ((search rules)).0.0.1 ((search rules)).0.1 ((search rules)).1 ((search rules)).0.0.0.1)
+    sym (no_ranges _ _ (search rules) (search rules) (search rules) (search rules) (search rules))

@@ -15,7 +15,7 @@ returns-then-k-lt-MOST c =
     let is = c.body-row.ensures in
     rw (
       lt-ltb _ _ c.if-k-lt-MOST.true,
-      cut_numbers 18 a.s.now a.body-row refl is,
+      cut_numbers 18 a.s.now a.body refl is,
       c.read8.ensures,
       c.read32.ensures,
       c.read32-then-k-lt-MOST.ensures,

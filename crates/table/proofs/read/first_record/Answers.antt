@@ -12,7 +12,7 @@ returns c =
     let a = c.args in
     let is = c.body-first.ensures in
     rw (
-      cut_numbers 16 a.s.now a.body-first refl is,
+      cut_numbers 16 a.s.now a.body refl is,
       c.read32.ensures,
       c.read8.ensures,
       c.read16.ensures,
