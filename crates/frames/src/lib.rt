@@ -1,6 +1,7 @@
 // From the runs of bus tasks to the frames by number, straight from message to message in the frames' order: of each run the next
 // message that is read waits in a tree, by deadline, then by task. Runs, readers and frames stand in an array for each number, lent.
 #![tactic(auto)]
+
 ghost use Rattle.std.specs.Prelude.{◌≡◌, true, map, get_or, suc, ◌+◌, ◌-◌, ◌*◌, ◌≤◌, ◌<◌};
 ghost use Rattle.std.specs.Int.{◌∣◌};
 ghost use Rattle.laws.specs.Lists.{all};

@@ -1,0 +1,16 @@
+-- Invariant: the first i runs have their keys, the rest the limit (`Planting`); each turn is `planting_more`.
+use mathlib.Core.Path.{refl}
+use native.Mathlib.Omega.{arith}
+use native.Mathlib.Nat.{dvd-zero}
+use Prim.Native.Nat.{◌-◌, zero-le}
+use Rattle.bus.specs.Readers.{readers_seen}
+use Rattle.frames.proofs.Meeting.{fair-at, readable_at, next-within, Planting, planting_none, planting_more, planting_all}
+use borrow.Author.Rules.{rules}
+use Rattle.frames.proofs.plant.Given as goal
+
+abbrev pub invariant-loop-i : goal.invariant-loop-i
+invariant-loop-i l =
+    Planting (readers_seen l.reader_counts l.reader_periods) l.task l.period l.worst l.runs l.size l.last l.tree l.i
+
+abbrev pub decreases-loop-i : goal.decreases-loop-i
+decreases-loop-i l = l.runs - l.i
