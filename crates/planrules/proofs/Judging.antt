@@ -7,7 +7,7 @@ use native.Mathlib.Nat.{zero-add}
 use native.Mathlib.Omega.{arith}
 use lib.ListN.{length-map}
 use Prim.Native.Nat.{ℕ, ◌+◌, ◌≤◌, ◌<◌}
-use Rattle.laws.specs.Res.{Res, ok, refuse, at, ◌>>◌}
+use Rattle.laws.specs.Res.{Res, ok, refuse, at}
 use Rattle.laws.specs.Lists.{first_bad, up_to}
 use Rattle.laws.proofs.Res.{bind_ok, bind_refuse, then_ok, then_refuse, at_none, at_ok, at_some}
 use Rattle.rules.specs.Records.{Rec, records, plan_follows}

@@ -1,5 +1,4 @@
 -- Five exits, one for each way of the rules: `way_count`, `way_names`, `way_ranges`, `way_unfit` and `way_sound`.
-use borrow.Author.Rules.{rules}
 use mathlib.Core.Path.{refl, sym, ap, ◌∙◌}
 use Rattle.planfits.specs.Scans.{unfit_of}
 use Rattle.planrules.proofs.Judging.{gathered-sound, way_count, way_names, way_ranges, way_unfit, way_sound}

@@ -1,5 +1,4 @@
 -- Two cases of the gathering's outcome: whole, the promise of `judged` is passed on; broken, it is refusal 1 (`way_broken`).
-use borrow.Author.Rules.{rules}
 use mathlib.Core.Path.{sym, ◌∙◌}
 use Rattle.planrules.proofs.Judging.{with_outcome, way_broken}
 use Rattle.planrules.proofs.read.Goals as goal

@@ -1,5 +1,4 @@
 -- The promise of `Plan::empty` is rewritten into the record.
-use borrow.Author.Rules.{rules}
 use Rattle.planrules.proofs.refused.Goals as goal
 
 pub returns : goal.returns

@@ -1,9 +1,5 @@
 use borrow.Author.Rules.{rules}
-use borrow.Author.Tests.{not-true, not-false}
-use mathlib.Core.Path.{◌≡◌, refl, sym, ◌∙◌}
-use mathlib.Core.Option.{none}
-use Prim.Native.Nat.{◌-◌, ◌≤◌}
-use Rattle.laws.specs.Lists.{first_bad, up_to}
+use mathlib.Core.Path.{refl, sym, ◌∙◌}
 use Rattle.laws.proofs.Loops.{first_bad-up_to_more}
 use Rattle.planrules.specs.Tests.{counts_fit}
 use Rattle.planfits.proofs.Places.{met_up_to, none-up_to}

@@ -1,13 +1,9 @@
 -- Invariant: the first k counts are within their ranges. One that is not ends the scan (`met_up_to`); else `none-up_to`.
-use borrow.Author.Rules.{rules}
-use borrow.Author.Tests.{not-true, not-false}
-use mathlib.Core.Path.{◌≡◌, refl, sym, ◌∙◌}
+use mathlib.Core.Path.{◌≡◌}
 use mathlib.Core.Option.{none}
 use Prim.Native.Nat.{◌-◌, ◌≤◌}
 use Rattle.laws.specs.Lists.{first_bad, up_to}
-use Rattle.laws.proofs.Loops.{first_bad-up_to_more}
 use Rattle.planrules.specs.Tests.{counts_fit}
-use Rattle.planfits.proofs.Places.{met_up_to, none-up_to}
 use Rattle.planrules.proofs.counts.first_bad.Given as goal
 
 abbrev pub invariant-loop-k : goal.invariant-loop-k

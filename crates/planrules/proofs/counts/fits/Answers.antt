@@ -1,5 +1,4 @@
 -- The promise of `both` is the statement, once `counts_fit` and its two tables are unfolded.
-use borrow.Author.Rules.{rules}
 use Rattle.rules.specs.Plan.{least_counts, most_counts}
 use Rattle.planrules.specs.Tests.{counts_fit}
 use Rattle.planrules.proofs.counts.fits.Goals as goal

@@ -1,5 +1,4 @@
 -- The callees' promises are rewritten into the definition, unfolded.
-use borrow.Author.Rules.{rules}
 use Rattle.plan.specs.Memory.{bus_seen}
 use Rattle.planrules.specs.Tests.{bus_is_within}
 use Rattle.planrules.proofs.numbers.bus_is_within.Goals as goal

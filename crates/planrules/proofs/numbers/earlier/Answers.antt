@@ -1,5 +1,4 @@
 -- Case by case of what was found and of the test, the definition computes.
-use borrow.Author.Rules.{rules}
 use Rattle.planrules.proofs.numbers.earlier.Goals as goal
 
 pub returns-in-At : goal.returns-in-At

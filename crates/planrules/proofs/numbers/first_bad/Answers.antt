@@ -1,11 +1,6 @@
-use borrow.Author.Rules.{rules}
 use native.Mathlib.Omega.{arith}
-use lib.ListN.{length}
-use Prim.Native.Nat.{◌-◌}
-use Rattle.rules.specs.Plan.{names_are_there, numbers_are_within}
 use Rattle.records.proofs.Steps.{body_within}
-use Rattle.planrules.specs.Tests.{listed}
-use Rattle.planrules.proofs.RecordScan.{Scanned, scanned-none, scanned_more, scanned-end, scanned-wrong, scanned-number, scanned_less}
+use Rattle.planrules.proofs.RecordScan.{scanned-none, scanned_more, scanned-end, scanned-wrong, scanned-number, scanned_less}
 use Rattle.planrules.proofs.numbers.first_bad.Goals as goal
 
 pub loop-kind-init : goal.loop-kind-init

@@ -1,12 +1,9 @@
 -- Invariant, for either test: what was found, else the first bad of the rest, is the answer (`Scanned`). `Wrong` cannot be.
-use borrow.Author.Rules.{rules}
-use native.Mathlib.Omega.{arith}
 use lib.ListN.{length}
 use Prim.Native.Nat.{◌-◌}
 use Rattle.rules.specs.Plan.{names_are_there, numbers_are_within}
-use Rattle.records.proofs.Steps.{body_within}
 use Rattle.planrules.specs.Tests.{listed}
-use Rattle.planrules.proofs.RecordScan.{Scanned, scanned-none, scanned_more, scanned-end, scanned-wrong, scanned-number, scanned_less}
+use Rattle.planrules.proofs.RecordScan.{Scanned}
 use Rattle.planrules.proofs.numbers.first_bad.Given as goal
 
 abbrev pub invariant-loop-kind : goal.invariant-loop-kind

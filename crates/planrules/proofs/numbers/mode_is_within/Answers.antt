@@ -1,5 +1,4 @@
 -- The callees' promises are rewritten into the rule for kind 4, unfolded; each `&& true` falls away (`and-true`).
-use borrow.Author.Rules.{rules}
 use Rattle.rules.specs.Records.{record_of, fields, kinds, is_bus}
 use Rattle.rules.specs.Plan.{numbers_are_within, payloads_ordered, is_bus_record, mode_of}
 use Rattle.plan.specs.Memory.{mode_laid}

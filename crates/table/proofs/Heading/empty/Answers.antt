@@ -1,6 +1,5 @@
 -- Plain computation, with the promise of `Header::empty` rewritten.
 use Rattle.table.specs.Memory.{empty_table, lay_out, no_table}
-use borrow.Author.Rules.{rules}
 use Rattle.table.proofs.Heading.empty.Goals as goal
 
 pub returns : goal.returns

@@ -5,7 +5,6 @@ use Rattle.rules.specs.Records.{kinds, fields, body_length}
 use Rattle.records.proofs.Bodies.{cut_numbers}
 use Rattle.rules.specs.Checker.{data_row_of}
 use Rattle.table.specs.Memory.{row_read}
-use borrow.Author.Rules.{rules}
 use Rattle.table.proofs.read.data_row.Goals as goal
 
 pub returns-then-k-lt-MOST : goal.returns-then-k-lt-MOST

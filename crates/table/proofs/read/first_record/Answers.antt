@@ -3,7 +3,6 @@ use mathlib.Core.Path.{refl}
 use Rattle.rules.specs.Records.{kinds, fields, body_length}
 use Rattle.records.proofs.Bodies.{cut_numbers}
 use Rattle.table.specs.Memory.{header_of, header_read}
-use borrow.Author.Rules.{rules}
 use Rattle.table.proofs.read.first_record.Goals as goal
 
 pub returns : goal.returns

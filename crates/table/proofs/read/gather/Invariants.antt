@@ -1,14 +1,9 @@
 -- Invariant: what is held, with the rest of the file gathered in, is the whole (`SoFar`); one law for each step (`row_turn` and such).
-use mathlib.Core.Path.{sym}
 use Prim.Native.Nat.{◌-◌}
-use native.Mathlib.Omega.{arith}
 use lib.ListN.{length}
-use Rattle.rules.specs.Records.{kinds, fields, body_length, records, table_follows}
-use Rattle.records.proofs.Steps.{from}
-use Rattle.table.specs.Memory.{empty_table, table_from, gathered_from, reported}
-use Rattle.table.proofs.Gathering.{SoFar, rows_less, controls_less, record_less, row_less}
-use Rattle.table.proofs.Gathering.{row_fits, control-fits, header-fits, row_turn, control_turn, header_turn, end_turn, wrong_turn}
-use borrow.Author.Rules.{rules}
+use Rattle.rules.specs.Records.{records, table_follows}
+use Rattle.table.specs.Memory.{empty_table, table_from, gathered_from}
+use Rattle.table.proofs.Gathering.{SoFar}
 use Rattle.table.proofs.read.gather.Given as goal
 
 abbrev pub invariant-loop-kind : goal.invariant-loop-kind

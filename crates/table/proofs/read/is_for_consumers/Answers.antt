@@ -7,7 +7,6 @@ use Prim.Native.Nat.{ℕ}
 use Rattle.laws.specs.Numbers.{number}
 use Rattle.rules.specs.Records.{head_kind}
 use Rattle.rules.specs.Checker.{is_for_consumers}
-use borrow.Author.Rules.{rules}
 use Rattle.table.proofs.read.is_for_consumers.Goals as goal
 
 first_byte : (s : List ℕ) → number (take 1 (drop 0 s)) ≡ get_or s 0 0

@@ -2,7 +2,6 @@
 -- (`read-broken`); both gather from the zeros that were lent.
 use Rattle.table.specs.Memory.{table_from}
 use Rattle.table.proofs.Gathering.{read_whole, read-broken}
-use borrow.Author.Rules.{rules}
 use Rattle.table.proofs.read.read_table.Goals as goal
 
 pub returns-in-Whole : goal.returns-in-Whole

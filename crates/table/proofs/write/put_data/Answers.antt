@@ -3,7 +3,6 @@ use mathlib.Core.Path.{refl}
 use mathlib.Core.List.{[], ◌∷◌}
 use Rattle.rules.specs.Records.{fields, kinds}
 use Rattle.table.proofs.Glued.{record_put}
-use borrow.Author.Rules.{rules}
 use Rattle.table.proofs.write.put_data.Goals as goal
 
 pub returns : goal.returns

@@ -1,10 +1,7 @@
 use mathlib.Core.Path.{◌≡◌, ap, ◌∙◌}
-use mathlib.Core.List.{map}
-use Prim.Native.Nat.{◌-◌, ◌≤◌}
 use native.Mathlib.Omega.{arith}
 use lib.ListN.{length}
-use lib.Seq.{sets, length-sets}
-use Rattle.laws.specs.Lists.{tab, joined}
+use lib.Seq.{length-sets}
 use Rattle.rules.specs.Records.{kinds, fields, body_length}
 use Rattle.rules.specs.Table.{data_bytes, record_length}
 use Rattle.table.specs.Rows.{data_in}

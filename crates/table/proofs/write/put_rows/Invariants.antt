@@ -1,16 +1,11 @@
 -- Invariant: the bytes of the first k data rows are stored; a turn is `data_more`.
-use mathlib.Core.Path.{◌≡◌, ap, ◌∙◌}
+use mathlib.Core.Path.{◌≡◌}
 use mathlib.Core.List.{map}
 use Prim.Native.Nat.{◌-◌, ◌≤◌}
-use native.Mathlib.Omega.{arith}
-use lib.ListN.{length}
-use lib.Seq.{sets, length-sets}
+use lib.Seq.{sets}
 use Rattle.laws.specs.Lists.{tab, joined}
-use Rattle.rules.specs.Records.{kinds, fields, body_length}
-use Rattle.rules.specs.Table.{data_bytes, record_length}
+use Rattle.rules.specs.Table.{data_bytes}
 use Rattle.table.specs.Rows.{data_in}
-use Rattle.table.proofs.Glued.{data_more}
-use borrow.Author.Rules.{rules}
 use Rattle.table.proofs.write.put_rows.Given as goal
 
 abbrev pub invariant-loop-k : goal.invariant-loop-k

@@ -3,7 +3,6 @@ use Rattle.rules.specs.Records.{kinds, fields, body_length}
 use Rattle.rules.specs.Table.{record_length}
 use Rattle.table.specs.Rows.{control_in, data_in}
 use Rattle.table.proofs.Glued.{table-put}
-use borrow.Author.Rules.{rules}
 use Rattle.table.proofs.write.write_table.Goals as goal
 
 pub returns : goal.returns
