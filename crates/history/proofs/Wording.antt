@@ -1,10 +1,9 @@
 -- A line read word by word.
-use mathlib.Core.Path.{◌≡◌, refl, sym, ap, ◌∙◌}
-use mathlib.Core.List.{List, [], ◌∷◌}
+use mathlib.Core.Path.{◌≡◌}
+use mathlib.Core.List.{List}
 use native.Mathlib.Omega.{arith}
 use lib.ListN.{length, drop, take}
 use Prim.Native.Nat.{ℕ, ◌-◌, ◌≤◌, ◌<◌}
-use Rattle.text.specs.Text.{front}
 use Rattle.text.specs.Lines.{is_other, next_word, uncommented, words}
 use Rattle.text.specs.declared.lines.Word.{Word}
 use Rattle.text.specs.declared.lines.Word.TheVariants.{Stands, None}

@@ -1,5 +1,6 @@
 // A history's lines as they are read (docs/HISTORY.md); the answers are written by `answerlines`.
 #![tactic(auto)]
+
 ghost use Rattle.std.specs.Prelude.{◌≡◌, replicate};
 ghost use Rattle.laws.specs.Loops.{stores};
 ghost use Rattle.rules.specs.Limits.{most_modules};
