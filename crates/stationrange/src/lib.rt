@@ -1,6 +1,7 @@
 // Refusal 40 of a tick: each number that a station holds is within its range. The arrays are lent, and no scan ends early, so that each
 // is one straight pass.
 #![tactic(auto)]
+
 ghost use Rattle.std.specs.Prelude.{◌≡◌, ◌&&◌, ◌||◌, ◌<◌, leb, ltb};
 ghost use Rattle.laws.specs.Lists.{all, up_to};
 ghost use Rattle.rules.specs.Limits.{most_modes, most_modules, most_nodes, most_tasks};

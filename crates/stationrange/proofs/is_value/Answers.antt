@@ -4,12 +4,8 @@ use native.Mathlib.Omega.{arith}
 use borrow.Author.Tests.{le-leb, lt-ltb}
 use Prim.Native.Nat.{◌^◌}
 use Rattle.rules.specs.StationRange.{is_value}
-use Rattle.stationrange.proofs.is_value.Statement.{statement}
-use Rattle.stationrange.proofs.is_value.Tie as tie
+use Rattle.stationrange.proofs.is_value.Goals as goal
 
-returns : tie.Need-returns
+pub returns : goal.returns
 unfolding is_value
 returns c = let v = c.args.v in le-leb v _ (omega arith) ∙ sym (lt-ltb v (2 ^ 64) (omega arith))
-
-pub is-value-spec : {M : Type 1} → statement M
-is-value-spec = tie.close (tie.spec returns)
