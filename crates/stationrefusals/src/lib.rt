@@ -1,5 +1,6 @@
 // The parts of a played station, and refusals 40 to 44 of its tick.
 #![tactic(auto)]
+
 ghost use Rattle.std.specs.Prelude.{◌≡◌, ◌<◌};
 ghost use Rattle.laws.specs.Lists.{all, up_to};
 ghost use Rattle.answers.specs.Refusals.{heard};
