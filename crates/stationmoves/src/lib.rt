@@ -1,5 +1,6 @@
 // What a tick makes of a station but for its nodes: the row that starts, (a), (b) of the mode bytes, (d) and (f).
 #![tactic(auto)]
+
 ghost use Rattle.std.specs.Prelude.{◌≡◌, ℕ, ◌*◌, ◌<◌, get_or};
 ghost use Rattle.laws.specs.Loops.{stores};
 ghost use Rattle.places.specs.Found.{place_in};
