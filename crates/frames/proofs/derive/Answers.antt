@@ -1,11 +1,6 @@
 use mathlib.Core.Path.{refl}
 use native.Mathlib.Omega.{arith}
-use Prim.Native.Nat.{◌-◌, ◌≤◌}
-use Rattle.rules.specs.Limits.{most_frames}
-use Rattle.bus.specs.Readers.{readers_seen}
-use Rattle.frames.specs.Walk.{Ready, limit_of}
-use Rattle.frames.proofs.Walking.{ready, Walked, walked_start, steps-few, place-of, walked_turn, walk_less, walked-full, walked_all}
-use borrow.Author.Rules.{rules}
+use Rattle.frames.proofs.Walking.{ready, walked_start, steps-few, place-of, walked_turn, walk_less, walked-full, walked_all}
 use Rattle.frames.proofs.derive.Goals as goal
 
 pub plant-tree-requires : goal.plant-tree-requires
@@ -23,7 +18,6 @@ loop-root-init c =
 pub meet-met-requires : goal.meet-met-requires
 meet-met-requires c =
     let p = place-of _ _ _ _ _ _ _ _ _ _ c.loop-root.invariant.0 c.loop-root.invariant.1 (omega arith) refl c.task_no-t.ensures in
-    
     record {
       ready = c.loop-root.invariant.0;
       d_nonzero = (p.begun, p.inside, p.short);

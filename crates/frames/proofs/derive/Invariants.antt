@@ -1,12 +1,9 @@
 -- Invariant: what is stored and the rest of the rules' walk are the whole walk (`Walked`); a turn takes one task and deadline, and the root rises.
-use mathlib.Core.Path.{refl}
-use native.Mathlib.Omega.{arith}
 use Prim.Native.Nat.{◌-◌, ◌≤◌}
 use Rattle.rules.specs.Limits.{most_frames}
 use Rattle.bus.specs.Readers.{readers_seen}
 use Rattle.frames.specs.Walk.{Ready, limit_of}
-use Rattle.frames.proofs.Walking.{ready, Walked, walked_start, steps-few, place-of, walked_turn, walk_less, walked-full, walked_all}
-use borrow.Author.Rules.{rules}
+use Rattle.frames.proofs.Walking.{Walked}
 use Rattle.frames.proofs.derive.Given as goal
 
 abbrev pub invariant-loop-root : goal.invariant-loop-root

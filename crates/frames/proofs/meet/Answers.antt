@@ -1,11 +1,7 @@
 use mathlib.Core.Path.{refl}
 use native.Mathlib.Nat.{le_of_dvd}
 use native.Mathlib.Omega.{arith}
-use Prim.Native.Nat.{suc, ◌-◌, ◌*◌}
-use Rattle.rules.specs.Direct.{place_of}
-use Rattle.bus.specs.Readers.{readers_seen}
-use Rattle.frames.proofs.Meeting.{Taking, taking_start, taken-few, ending, next_readable, next-short, root_rises, taking_turn, taking_end}
-use borrow.Author.Rules.{rules}
+use Rattle.frames.proofs.Meeting.{taking_start, taken-few, ending, next_readable, next-short, root_rises, taking_turn, taking_end}
 use Rattle.frames.proofs.meet.Goals as goal
 
 pub loop-root-init : goal.loop-root-init
@@ -25,7 +21,7 @@ behind_release-b-requires c =
 pub next_read-next-requires : goal.next_read-next-requires
 next_read-next-requires c =
     let p = c.requires in
-    let e = ending _ _ _ _ _ _ _ _ _ p.ready p.d_nonzero.1 p.d_nonzero.2 c.loop-root.invariant (omega arith) refl in 
+    let e = ending _ _ _ _ _ _ _ _ _ p.ready p.d_nonzero.1 p.d_nonzero.2 c.loop-root.invariant (omega arith) refl in
     record {
       period_nonzero = (e.fair.positive, e.multiple, omega (arith, e.fair.within, p.d_nonzero.1, p.ready.short), p.d_nonzero.2);
       readable = next_readable _ _ _ _ _ _ _ _ _ p.ready p.d_nonzero.1 p.d_nonzero.2 c.loop-root.invariant (omega arith) refl;
@@ -35,7 +31,6 @@ pub key-requires : goal.key-requires
 key-requires c =
     let test = c.loop-root-test.true in
     let p = c.requires in
-    
     record {
       deadline_le_latest_deadline = next-short _ _ _ _ _ _ _ _ _ p.ready p.d_nonzero.1 p.d_nonzero.2 c.loop-root.invariant (omega (arith, test)) refl c.next_read-next.ensures;
       run_lt_most_invocations = omega arith;

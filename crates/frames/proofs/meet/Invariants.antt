@@ -1,12 +1,8 @@
 -- Invariant: `best` is at least the ends of the runs already past, at most the latest of all (`Taking`); a turn raises the root.
-use mathlib.Core.Path.{refl}
-use native.Mathlib.Nat.{le_of_dvd}
-use native.Mathlib.Omega.{arith}
 use Prim.Native.Nat.{suc, ◌-◌, ◌*◌}
 use Rattle.rules.specs.Direct.{place_of}
 use Rattle.bus.specs.Readers.{readers_seen}
-use Rattle.frames.proofs.Meeting.{Taking, taking_start, taken-few, ending, next_readable, next-short, root_rises, taking_turn, taking_end}
-use borrow.Author.Rules.{rules}
+use Rattle.frames.proofs.Meeting.{Taking}
 use Rattle.frames.proofs.meet.Given as goal
 
 abbrev pub invariant-loop-root : goal.invariant-loop-root

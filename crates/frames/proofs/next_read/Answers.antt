@@ -1,8 +1,6 @@
 use native.Mathlib.Nat.{dvd-add, dvd_refl}
 use native.Mathlib.Omega.{arith}
-use Prim.Native.Nat.{◌-◌}
-use Rattle.frames.proofs.Reading.{reader_fits, first_fits, Looked, look_first, look_more, looked-all, looked-enough}
-use borrow.Author.Rules.{rules}
+use Rattle.frames.proofs.Reading.{reader_fits, first_fits, look_first, look_more, looked-all, looked-enough}
 use Rattle.frames.proofs.next_read.Goals as goal
 
 pub read_from-next-requires : goal.read_from-next-requires

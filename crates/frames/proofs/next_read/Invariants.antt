@@ -1,9 +1,6 @@
 -- Invariant: `next` is the least by the readers in front of the i-th (`Looked`); it is that of all once it is the run's next end.
-use native.Mathlib.Nat.{dvd-add, dvd_refl}
-use native.Mathlib.Omega.{arith}
 use Prim.Native.Nat.{◌-◌}
-use Rattle.frames.proofs.Reading.{reader_fits, first_fits, Looked, look_first, look_more, looked-all, looked-enough}
-use borrow.Author.Rules.{rules}
+use Rattle.frames.proofs.Reading.{Looked}
 use Rattle.frames.proofs.next_read.Given as goal
 
 abbrev pub invariant-loop-i : goal.invariant-loop-i

@@ -1,10 +1,8 @@
 use mathlib.Core.Path.{refl}
 use native.Mathlib.Omega.{arith}
 use native.Mathlib.Nat.{dvd-zero}
-use Prim.Native.Nat.{◌-◌, zero-le}
-use Rattle.bus.specs.Readers.{readers_seen}
-use Rattle.frames.proofs.Meeting.{fair-at, readable_at, next-within, Planting, planting_none, planting_more, planting_all}
-use borrow.Author.Rules.{rules}
+use Prim.Native.Nat.{zero-le}
+use Rattle.frames.proofs.Meeting.{fair-at, readable_at, next-within, planting_none, planting_more, planting_all}
 use Rattle.frames.proofs.plant.Goals as goal
 
 pub loop-i-init : goal.loop-i-init
@@ -14,7 +12,6 @@ pub next_read-next-requires : goal.next_read-next-requires
 next_read-next-requires c =
     let h = c.loop-i-test.true in
     let f = fair-at _ _ _ _ _ _ c.requires.fair h in
-    
     record {
       period_nonzero = (f.positive, dvd-zero _, omega (arith, f.within, c.requires.short), f.place);
       readable = readable_at _ _ _ _ _ _ _ c.requires _ h;
@@ -23,7 +20,6 @@ next_read-next-requires c =
 pub key-requires : goal.key-requires
 key-requires c =
     let h = c.loop-i-test.true in
-    
     record {
       deadline_le_latest_deadline = next-within _ _ _ _ _ _ _ c.requires zero-le h c.next_read-next.ensures;
       run_lt_most_invocations = omega (arith, c.requires.few, c.requires.small);

@@ -1,11 +1,7 @@
 -- Invariant: the first i runs have their keys, the rest the limit (`Planting`); each turn is `planting_more`.
-use mathlib.Core.Path.{refl}
-use native.Mathlib.Omega.{arith}
-use native.Mathlib.Nat.{dvd-zero}
-use Prim.Native.Nat.{◌-◌, zero-le}
+use Prim.Native.Nat.{◌-◌}
 use Rattle.bus.specs.Readers.{readers_seen}
-use Rattle.frames.proofs.Meeting.{fair-at, readable_at, next-within, Planting, planting_none, planting_more, planting_all}
-use borrow.Author.Rules.{rules}
+use Rattle.frames.proofs.Meeting.{Planting}
 use Rattle.frames.proofs.plant.Given as goal
 
 abbrev pub invariant-loop-i : goal.invariant-loop-i

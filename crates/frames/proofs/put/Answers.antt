@@ -1,6 +1,5 @@
 -- Three cases: no frame (`put-nothing`), no place left (`put_full`), and one frame stored (`put_one`).
 use native.Mathlib.Omega.{arith}
-use borrow.Author.Rules.{rules}
 use Rattle.frames.proofs.Storing.{put-nothing, put_full, put_one}
 use Rattle.frames.proofs.put.Goals as goal
 

@@ -5,7 +5,6 @@ use native.Mathlib.Omega.{arith}
 use Prim.Native.Nat.{◌+◌, ◌-◌, ◌*◌, ◌/◌}
 use Rattle.laws.specs.Numbers.{ceil, up, down}
 use Rattle.laws.proofs.Readers.{first-here}
-use borrow.Author.Rules.{rules}
 use Rattle.frames.proofs.read_from.Goals as goal
 
 pub returns-then-reader-period : goal.returns-then-reader-period
