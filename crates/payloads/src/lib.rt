@@ -1,5 +1,6 @@
 // The messages of a plan: refusals 6 and 10 on tables by number, and how long each message takes.
 #![tactic(auto)]
+
 ghost use Rattle.std.specs.Prelude.{◌≡◌, true, cond, leb, length, ◌≤◌};
 ghost use Rattle.laws.specs.Lists.{any, all, tab, up_to};
 ghost use Rattle.rules.specs.Limits.{most_tasks};
