@@ -1,17 +1,16 @@
 -- Words as parts of the row of all words, and the tables of the kinds.
-use mathlib.Core.Path.{◌≡◌, refl, sym, ap, ◌∙◌}
+use mathlib.Core.Path.{◌≡◌, refl, ap}
 use mathlib.Core.List.{List, [], ◌∷◌, map}
 use mathlib.Core.Logic.{◌⊎◌, inl, inr}
 use native.Mathlib.Nat.{not-suc-le-zero, le_of_suc-le-suc}
 use borrow.Author.Tests.{leb-true}
 use lib.Dec.{leb, lit≤}
 use lib.ListN.{length, get_or, take, drop, get_or-map, get_or-eq_default}
-use Prim.Native.Nat.{ℕ, zero, suc, ◌+◌, ◌-◌, ◌≤◌, ◌<◌}
+use Prim.Native.Nat.{ℕ, zero, suc, ◌-◌, ◌≤◌, ◌<◌}
 use Rattle.laws.proofs.Orders.{le-or-lt}
 use Rattle.laws.proofs.Table.{below}
 use Rattle.planwords.specs.declared.Name.{Name}
 use Rattle.planwords.specs.declared.Name.TheVariants.{Bus, Kbit, Overhead, Least, Largest, Gap, Resolution, BitsPerByte, Nodes, Module, On, Node, Mode, Of, Period, Switch, Task, Bytes, Worst, Run, In, Rate, Connect, To}
-use Rattle.planwords.specs.declared.Item.{Item}
 use Rattle.planwords.specs.Items.{Form, first_of, form_of, forms, items_of, no_form, spelled}
 use Rattle.planitems.specs.declared.Span.{Span}
 use Rattle.planitems.specs.Bank.{bank, span_of}

@@ -1,5 +1,6 @@
 // What the lines of a plan's text have, place by place, and how their words are spelled: for what prints a plan and for what reads one.
 #![tactic(auto)]
+
 ghost use Rattle.std.specs.Prelude.{◌≡◌, [], ◌∷◌, ◌+◌, ◌≤◌, length, get_or};
 ghost use Rattle.std.proofs.lemmas.List.Edits.{sets};
 ghost use Rattle.laws.specs.Loops.{pad_to};

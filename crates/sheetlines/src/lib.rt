@@ -1,6 +1,7 @@
 // Cells and lines of a sheet, put into a lent buffer from a place on; each function gives the place behind them. A byte behind the buffer's
 // end is not stored.
 #![tactic(auto)]
+
 ghost use Rattle.std.specs.Prelude.{◌≡◌, ◌+◌, ◌-◌, ◌≤◌, ◌<◌, length, get_or};
 ghost use Rattle.std.proofs.lemmas.List.Edits.{sets};
 ghost use Rattle.text.specs.Text.{ended, pad_right, texts};
