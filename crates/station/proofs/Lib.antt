@@ -7,4 +7,3 @@ pub mod Unique
 pub mod Sized
 pub mod Plays
 pub mod Values
-pub mod Lent

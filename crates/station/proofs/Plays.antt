@@ -96,7 +96,7 @@ pub plays_calls : {st before : Station} {past : List Input} (calls : List given.
     → Plays st (accepted_of past before calls) (after_calls before calls)
 unfolding after_calls accepted_of
 plays_calls [] p = p
-plays_calls {before = before} (c ∷ calls) p = plays_calls calls (plays_on c (ruled before c) refl p)
+plays_calls {before = before} (c ∷ calls) p = plays_calls {before = station_after before (ruled before c)} calls (plays_on c (ruled before c) refl p)
 
 pub after-joined : (st : Station) (calls more : List given.Input) → after_calls st (calls ++ more) ≡ after_calls (after_calls st calls) more
 unfolding after_calls

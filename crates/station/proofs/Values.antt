@@ -1,7 +1,7 @@
 -- Each number that a station's nodes hold landed and shown is below 2 ^ 64, for its type holds no other.
 use mathlib.Core.Path.{◌≡◌, refl, ap₂}
 use mathlib.Core.Bool.{true, ◌&&◌}
-use mathlib.Core.List.{List, [], ◌∷◌, map}
+use mathlib.Core.List.{List, [], ◌∷◌}
 use borrow.Author.Tests.{lt-ltb}
 use lib.ListN.{get_or}
 use Prim.Native.Nat.{ℕ, zero, suc, ◌^◌}
@@ -9,7 +9,7 @@ use mir.Val.{Val}
 use denote.Shadow.{shadow}
 use denote.Laws.{Is}
 use denote.Array.{each}
-use denote.Struct.Field.{u64-field}
+use denote.Builtin.{u64}
 use denote.Struct.Laws as LL
 use Rattle.rules.specs.StationRange.{is_value}
 use Rattle.stationrange.specs.Ranges.{place_test}
@@ -20,7 +20,7 @@ use Rattle.station.specs.declared.Station.{Station}
 use Rattle.station.specs.contracts.Station as T
 use Rattle.station.proofs.Station.TheLaws as T'
 
-numbers_fit : (xs : List ℕ) (us : List Val) → shadow (each u64-field.row.Denot u64-field.row.own_val (map u64-field.into xs) us) → (t : ℕ)
+numbers_fit : (xs : List ℕ) (us : List Val) → shadow (each u64.Denot u64.own_val xs us) → (t : ℕ)
     → is_value (get_or xs t 0) ≡ true
 unfolding is_value
 numbers_fit [] us e t = refl
@@ -28,13 +28,13 @@ numbers_fit (x ∷ xs) [] e t = absurd e
 numbers_fit (x ∷ xs) (u ∷ us) e zero = lt-ltb x (2 ^ 64) e.0.1
 numbers_fit (x ∷ xs) (u ∷ us) e (suc t) = numbers_fit xs us e.1 t
 
-node-fits : (node : Node) (vs : List Val) → Is (N.the_field).row ((N.the_field).into node) vs → (t : ℕ)
+node-fits : (node : Node) (vs : List Val) → Is N.the_row node vs → (t : ℕ)
     → place_test node.landed node.shown t ≡ true
 node-fits node vs is t =
     ap₂ (λ a b. a && b) (numbers_fit node.landed _ is.1.1.0.1.1 t) (numbers_fit node.shown _ is.1.1.1.0.1.1 t)
 
 nodes-fit : (nodes : List Node) (us : List Val)
-    → shadow (each (N.the_field).row.Denot (N.the_field).row.own_val (map (N.the_field).into nodes) us) → Valued nodes
+    → shadow (each (N.the_row).Denot (N.the_row).own_val nodes us) → Valued nodes
 unfolding is_value
 nodes-fit [] us e n t = refl
 nodes-fit (x ∷ nodes) [] e n t = absurd e

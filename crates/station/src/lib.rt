@@ -1,5 +1,6 @@
 // The played station: its tick, total on any station value, and what a node shows.
 #![tactic(auto)]
+
 ghost use Rattle.std.specs.Prelude.{◌≡◌, cond, replicate, List};
 ghost use Rattle.rules.specs.Limits.{most_tasks};
 ghost use Rattle.laws.specs.Res.{ok};
