@@ -9,7 +9,7 @@ use Rattle.rules.specs.Traffic.{traffic}
 use Rattle.rules.specs.Frames.{layout_of, control_rows, control_end, gap_time}
 use Rattle.rules.specs.Frames as rules
 use Rattle.control.specs.declared.Control.{Control}
-use Rattle.control.specs.Control.{control_laid, column}
+use Rattle.control.specs.Control.{control_laid}
 use Rattle.frames.specs.Laid as frames
 use Rattle.frames.specs.Laid.{Frames, frames_with, frames_laid}
 use Rattle.line.specs.declared.Line.{Line}

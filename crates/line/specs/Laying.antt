@@ -5,9 +5,7 @@ use Rattle.rules.specs.Plan.{Plan}
 use Rattle.rules.specs.Limits.{most_frames}
 use Rattle.rules.specs.Traffic.{read_in, traffic}
 use Rattle.rules.specs.Frames.{Layout, layout, layout_of, pairs, payloads_fit, control_end}
-use Rattle.answers.specs.Refusals.{said, heard}
-use Rattle.answers.specs.declared.Verdict.{Verdict}
-use Rattle.answers.specs.declared.Verdict.TheVariants.{Fine, Refused}
+use Rattle.answers.specs.Refusals.{heard}
 use Rattle.line.specs.declared.Laid.{Laid}
 use Rattle.line.specs.Line.{line_in, line_for, drawing}
 

@@ -1,6 +1,7 @@
 // What a plan asks of the bus: the cycle, the sending times by task and the control rows in a line, the frames by number in arrays that are
 // lent, zeros before. Of a plan that is refused there is no line, and the arrays are zeros again.
 #![tactic(auto)]
+
 ghost use Rattle.std.specs.Prelude.{◌≡◌, true, length, replicate, ◌≤◌, ◌<◌, ◌^◌};
 ghost use Rattle.rules.specs.Limits.{longest_time, most_frames, most_invocations};
 ghost use Rattle.rules.proofs.PlanKept.{PlanKept};
