@@ -3,8 +3,6 @@ use Rattle.std.specs.Prelude.{Bool, not, ◌&&◌, List, eqb, ltb, get_or, ℕ}
 use Rattle.std.proofs.Math.Option.{Option, none, some}
 use Rattle.laws.specs.Lists.{first_bad, up_to}
 use Rattle.laws.specs.Loops.{stores}
-use Rattle.laws.specs.Res.{Res, ok}
-use Rattle.answers.specs.Refusals.{said}
 use Rattle.rules.specs.Limits.{most_modules}
 use Rattle.answers.specs.declared.Refusal.TheVariants.{NotBegun}
 use Rattle.stationruns.specs.Inputs.{starting_at}
@@ -13,7 +11,6 @@ use Rattle.stationsteps.specs.Steps.{mode_rule}
 use Rattle.station.specs.Memory.{not_begun}
 use Rattle.stationrefusals.specs.declared.Play.{Play}
 use Rattle.station.specs.declared.Station.{Station}
-use Rattle.answers.specs.declared.Verdict.{Verdict}
 use Rattle.answers.specs.declared.Verdict.TheVariants.{Fine, Refused}
 use Rattle.starting.specs.declared.Begun.{Begun}
 

@@ -1,5 +1,6 @@
 // A station that keeps a passed plan and table, in its starting modes: refusal 40 of a beginning.
 #![tactic(auto)]
+
 ghost use Rattle.std.specs.Prelude.{◌≡◌};
 ghost use Rattle.laws.specs.Lists.{first_bad, up_to};
 ghost use Rattle.laws.specs.Loops.{stores};
