@@ -1,5 +1,6 @@
 // The answers to a history, each at the front of a lent buffer, and its length. A byte behind the buffer's end is not stored.
 #![tactic(auto)]
+
 ghost use Rattle.std.specs.Prelude.{◌||◌, ◌≡◌, ◌+◌, ◌≤◌, length};
 ghost use Rattle.std.proofs.lemmas.List.Edits.{sets};
 ghost use Rattle.laws.specs.Lists.{all, up_to};

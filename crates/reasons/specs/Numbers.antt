@@ -1,5 +1,5 @@
 -- Rule 20.8: the reasons by number, for C, which has no enums that carry values.
-use Rattle.std.specs.Prelude.{cond, List, [], ◌∷◌, map, eqb, leb, get_or, ℕ, ◌+◌, ◌-◌}
+use Rattle.std.specs.Prelude.{cond, List, [], ◌∷◌, map, leb, get_or, ℕ, ◌+◌, ◌-◌}
 use Rattle.std.proofs.Math.Option.{Option, none, some}
 use Rattle.text.specs.Text.{ascii}
 use Rattle.planwords.specs.declared.Name.{Name}

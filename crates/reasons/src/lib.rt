@@ -1,5 +1,6 @@
 // The reasons for which a line of a plan's text cannot be read, by number (rule 20.8), and the words of each number.
 #![tactic(auto)]
+
 ghost use Rattle.std.specs.Prelude.{◌≡◌, ◌+◌, ◌≤◌, length, get_or};
 ghost use Rattle.std.proofs.Math.Option.{none};
 ghost use Rattle.std.proofs.lemmas.List.Edits.{sets};
