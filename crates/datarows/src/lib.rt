@@ -1,5 +1,6 @@
 // Rules 7.24 to 7.28: each looks at the data rows in their order, with what the plan asks of a row's frame or the stop of the row before it.
 #![tactic(auto)]
+
 ghost use Rattle.std.specs.Prelude.{◌≡◌, ◌&&◌, eqb, ◌+◌, ◌≤◌};
 ghost use Rattle.laws.specs.Lists.{first_bad, up_to};
 ghost use Rattle.laws.specs.Numbers as laws;
