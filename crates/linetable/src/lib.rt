@@ -1,5 +1,6 @@
 // The table of a line: refusals 12 and 13, the table in a lent buffer, and the starts of its frames in a lent array.
 #![tactic(auto)]
+
 ghost use Rattle.std.specs.Prelude.{◌≡◌, length, replicate, ◌≤◌};
 ghost use Rattle.std.proofs.lemmas.List.Edits.{sets};
 ghost use Rattle.rules.specs.Limits.{most_frames, most_nodes};
