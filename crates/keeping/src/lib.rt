@@ -1,5 +1,6 @@
 // What a station keeps of a plan and a table that passed, in the station's arrays: each thing at the place of its number, zeros behind.
 #![tactic(auto)]
+
 ghost use Rattle.std.specs.Prelude.{◌≡◌, cond, ◌+◌, ◌*◌, ◌^◌, ◌≤◌, ◌<◌};
 ghost use Rattle.rules.specs.Traffic.{is_sending};
 ghost use Rattle.rules.specs.Readers.{is_read, is_read_by};
