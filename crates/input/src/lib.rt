@@ -1,10 +1,20 @@
 // Input as the programs take it: an open file or a named one, read into a lent buffer until that is full or the input ends.
 #![tactic(auto)]
-ghost use Rattle.std.specs.Prelude.{◌≡◌, length, take};
+
+ghost use Rattle.std.specs.Prelude.{◌≡◌, length, take, IfOk};
+ghost use Rattle.io.specs.Counts.{IsPrefixLen};
 ghost use Rattle.input.specs.Room.{zeros};
 ghost use Rattle.input.specs.Within.{Further, Within};
 
 use manners::{fail, own_name};
+use std::fs::File;
+use std::io::{Error, Read, Result};
+use std::rt::Env;
+
+// What Linux calls a name that is too long (ENAMETOOLONG), and one that names nothing (ENOENT).
+const NAME_TOO_LONG: i32 = 36;
+
+const NO_SUCH_FILE: i32 = 2;
 
 #[derive(Clone, Copy)]
 pub enum Input {
@@ -28,30 +38,43 @@ pub fn text_room() -> [u8; 262145]
     [0; 262145]
 }
 
-// `io::read_full` stops alike where the input ends and where a read fails, and only one more read tells the two apart.
-fn failed(fd: i32) -> bool {
-    let mut probe = [0u8; 1];
-    libc::read(fd, &mut probe) < 0
+// Reads until the buffer is full or the input ends; how many bytes stand at its front then.
+fn read_full<R: Read>(from: &mut R, buf: &mut [u8]) -> Result<usize>
+    ensures { IfOk result (λ n. IsPrefixLen n buf.new) }
+{
+    let mut done = 0;
+    while done < buf.len() {
+        match from.read(&mut buf[done..])? {
+            0 => return Ok(done),
+            more => done += more,
+        }
+    }
+    Ok(done)
 }
 
-pub fn read_open(fd: i32, what: &[u8], buf: &mut [u8]) -> Input
+pub fn read_open<R: Read>(rt: HostRuntime, from: &mut R, what: &[u8], buf: &mut [u8]) -> Input
     ensures { Within result buf.new }
 {
     let mut name = io::buffer();
-    let named = own_name(&mut name);
-    let n = io::read_full(fd, buf);
-    if n < buf.len() {
-        if failed(fd) {
-            fail(&name[..named], what);
-            return Input::Unreadable;
+    let named = own_name(rt, &mut name);
+    match read_full(from, &mut *buf) {
+        Ok(n) => Input::Bytes(n),
+        Err(why) => {
+            fail(rt, &name[..named], what, &why);
+            Input::Unreadable
         }
     }
-    Input::Bytes(n)
 }
 
 // One read, of as much as has come, into the buffer from a place on, where so many bytes stand at its front already, and stay. No byte
 // more comes where the input ends, and where the buffer has no room.
-pub fn read_more(fd: i32, what: &[u8], buf: &mut [u8], from: usize) -> Input
+pub fn read_more<R: Read>(
+    rt: HostRuntime,
+    from_input: &mut R,
+    what: &[u8],
+    buf: &mut [u8],
+    from: usize,
+) -> Input
     ensures buf_unchanged { (take from buf.new ≡ take from buf.old) × (length buf.new ≡ length buf.old) }
     ensures more { Further from result buf.new }
 {
@@ -59,41 +82,55 @@ pub fn read_more(fd: i32, what: &[u8], buf: &mut [u8], from: usize) -> Input
         return Input::Bytes(from);
     }
     let mut name = io::buffer();
-    let named = own_name(&mut name);
-    let got = libc::read(fd, &mut buf[from..]);
-    if got < 0 {
-        fail(&name[..named], what);
-        return Input::Unreadable;
+    let named = own_name(rt, &mut name);
+    match from_input.read(&mut buf[from..]) {
+        Ok(got) => Input::Bytes(from + got),
+        Err(why) => {
+            fail(rt, &name[..named], what, &why);
+            Input::Unreadable
+        }
     }
-    Input::Bytes(from + io::count(got, &buf[from..]))
 }
 
-pub fn read_named(path: &[u8], buf: &mut [u8]) -> Input
+pub fn read_named(rt: HostRuntime, path: &[u8], buf: &mut [u8]) -> Input
     ensures { Within result buf.new }
 {
-    let mut name = io::buffer();
-    let named = own_name(&mut name);
-    let fd = os::open_read(path);
-    if fd < 0 {
-        fail(&name[..named], path);
-        return Input::Unreadable;
+    match opened(rt, path) {
+        Ok(mut file) => read_open(rt, &mut file, path, buf),
+        Err(why) => {
+            let mut name = io::buffer();
+            let named = own_name(rt, &mut name);
+            fail(rt, &name[..named], path, &why);
+            Input::Unreadable
+        }
     }
-    let read = read_open(fd, path, buf);
-    libc::close(fd);
-    read
+}
+
+// The file with this name. A name that is no text names none: the system is asked for names in UTF-8 alone.
+fn opened(rt: HostRuntime, path: &[u8]) -> Result<File> {
+    match str::from_utf8(path) {
+        Ok(name) => File::open(&rt, name),
+        Err(_) => Err(Error::from_raw_os_error(NO_SUCH_FILE)),
+    }
 }
 
 // The file that an argument names; `what` says on standard error which argument could not be had, as one that is too long for a path.
-pub fn read_argument(i: usize, what: &[u8], buf: &mut [u8]) -> Input
+pub fn read_argument(rt: HostRuntime, i: usize, what: &[u8], buf: &mut [u8]) -> Input
     ensures { Within result buf.new }
 {
-    let mut name = io::buffer();
-    let named = own_name(&mut name);
     let mut path = io::buffer();
-    let length = os::arg(i, &mut path);
-    if os::errno() != 0 {
-        fail(&name[..named], what);
-        return Input::Unreadable;
+    match rt.arg(i, &mut path) {
+        Ok(length) => read_named(rt, &path[..length], buf),
+        Err(_) => {
+            let mut name = io::buffer();
+            let named = own_name(rt, &mut name);
+            fail(
+                rt,
+                &name[..named],
+                what,
+                &Error::from_raw_os_error(NAME_TOO_LONG),
+            );
+            Input::Unreadable
+        }
     }
-    read_named(&path[..length], buf)
 }

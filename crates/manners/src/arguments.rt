@@ -1,120 +1,150 @@
 // The arguments of a program: `--help`, `--version`, options, and the number of the files.
-use crate::{DONE, FAILED, Start, fail};
-use libc::{STDERR_FILENO, STDOUT_FILENO};
+use crate::{DONE, FAILED, Start, argument, fail};
+use std::env::FillError;
+use std::io::{Print, Stderr, Stdout};
+use std::rt::Env;
 
 // Whether argument i is this word.
-pub fn is_argument(i: usize, word: &[u8]) -> bool {
-    let mut argument = io::buffer();
-    let length = os::arg(i, &mut argument);
-    if os::errno() != 0 {
-        return false;
+pub fn is_argument(rt: HostRuntime, i: usize, word: &[u8]) -> bool {
+    let mut room = io::buffer();
+    match rt.arg(i, &mut room) {
+        Ok(length) => text::lines::is_word(&room[..length], word),
+        Err(_) => false,
     }
-    text::lines::is_word(&argument[..length], word)
 }
 
-fn any_argument(word: &[u8]) -> bool {
-    let count = os::arg_count();
-    let mut i = 1;
-    while i < count {
-        if is_argument(i, word) {
+// Whether there is an argument i, of whatever length.
+fn is_there(rt: HostRuntime, i: usize) -> bool {
+    let mut room = [0u8; 1];
+    match rt.arg(i, &mut room) {
+        Ok(_) => true,
+        Err(FillError::TooLong) => true,
+        Err(FillError::NotPresent) => false,
+    }
+}
+
+// How many arguments there are, with the program's own name.
+fn argument_count(rt: HostRuntime) -> usize {
+    for i in 0..usize::MAX {
+        if !is_there(rt, i) {
+            return i;
+        }
+    }
+    usize::MAX
+}
+
+fn any_argument(rt: HostRuntime, word: &[u8]) -> bool {
+    let count = argument_count(rt);
+    for i in 1..count {
+        if is_argument(rt, i, word) {
             return true;
         }
-        i += 1;
     }
     false
 }
 
 // Whether argument i begins with `-`.
-fn is_option(i: usize) -> bool {
-    let mut argument = io::buffer();
-    os::arg(i, &mut argument);
-    argument[0] == b'-'
+fn is_option(rt: HostRuntime, i: usize) -> bool {
+    let mut room = io::buffer();
+    argument(rt, i, &mut room);
+    room[0] == b'-'
 }
 
 // The first argument from `first` on that begins with `-`, or `count`.
-fn option_from(first: usize, count: usize) -> usize {
-    let mut i = first;
-    while i < count {
-        if is_option(i) {
+fn option_from(rt: HostRuntime, first: usize, count: usize) -> usize {
+    for i in first..count {
+        if is_option(rt, i) {
             return i;
         }
-        i += 1;
     }
     count
 }
 
-fn write_usage(fd: i32, usage: &[u8]) -> bool {
-    if !io::write_all(fd, b"usage: ") {
-        return false;
-    }
-    if !io::write_all(fd, usage) {
-        return false;
-    }
-    io::write_all(fd, b"\n")
+fn write_usage<P: Print>(to: &P, usage: &[u8]) -> std::io::Result<()> {
+    to.write_all(b"usage: ")?;
+    to.write_all(usage)?;
+    to.write_all(b"\n")
 }
 
 // The usage, a blank line and the help.
-fn write_help(name: &[u8], usage: &[u8], help: &[u8]) -> i32 {
-    if write_usage(STDOUT_FILENO, usage) {
-        if io::write_all(STDOUT_FILENO, b"\n") {
-            if io::write_all(STDOUT_FILENO, help) {
-                return DONE;
-            }
+fn put_help(to: &Stdout, usage: &[u8], help: &[u8]) -> std::io::Result<()> {
+    write_usage(to, usage)?;
+    to.write_all(b"\n")?;
+    to.write_all(help)
+}
+
+fn put_version(to: &Stdout, name: &[u8]) -> std::io::Result<()> {
+    to.write_all(name)?;
+    // `.ci/version` writes the number here.
+    to.write_all(b" 0.9.0\n")
+}
+
+// How a program ends that has written so to standard output.
+fn ended(rt: HostRuntime, name: &[u8], written: std::io::Result<()>) -> i32 {
+    match written {
+        Ok(()) => DONE,
+        Err(why) => {
+            fail(rt, name, b"standard output", &why);
+            FAILED
         }
     }
-    fail(name, b"standard output");
+}
+
+fn put_complaint(
+    to: &Stderr,
+    name: &[u8],
+    what: &[u8],
+    word: &[u8],
+    usage: &[u8],
+) -> std::io::Result<()> {
+    to.write_all(name)?;
+    to.write_all(what)?;
+    to.write_all(word)?;
+    to.write_all(b"\n")?;
+    write_usage(to, usage)
+}
+
+fn complain(rt: HostRuntime, name: &[u8], what: &[u8], word: &[u8], usage: &[u8]) -> i32 {
+    let _ = put_complaint(&rt.stderr(), name, what, word, usage);
     FAILED
 }
 
-fn write_version(name: &[u8]) -> i32 {
-    if io::write_all(STDOUT_FILENO, name) {
-        // `.ci/version` writes the number here.
-        if io::write_all(STDOUT_FILENO, b" 0.9.0\n") {
-            return DONE;
-        }
-    }
-    fail(name, b"standard output");
-    FAILED
-}
-
-fn complain(name: &[u8], what: &[u8], word: &[u8], usage: &[u8]) -> i32 {
-    io::write_all(STDERR_FILENO, name);
-    io::write_all(STDERR_FILENO, what);
-    io::write_all(STDERR_FILENO, word);
-    io::write_all(STDERR_FILENO, b"\n");
-    write_usage(STDERR_FILENO, usage);
-    FAILED
-}
-
-fn unknown_option(name: &[u8], i: usize, usage: &[u8]) -> i32 {
+fn unknown_option(rt: HostRuntime, name: &[u8], i: usize, usage: &[u8]) -> i32 {
     let mut word = io::buffer();
-    let length = os::arg(i, &mut word);
-    complain(name, b": unknown option ", &word[..length], usage)
+    let length = argument(rt, i, &mut word);
+    complain(rt, name, b": unknown option ", &word[..length], usage)
 }
 
 // The first look at the arguments. `--help` anywhere writes usage and help, `--version` anywhere name and version. Behind the options that
 // the program knows itself, from argument `first` on, stand so many names of files, none of which begins with `-`; anything else is wrong
 // usage. `usage` is a line without its end, `help` whole lines.
-pub fn opening(name: &[u8], usage: &[u8], help: &[u8], first: usize, files: usize) -> Start {
-    if any_argument(b"--help") {
-        return Start::Ends(write_help(name, usage, help));
+pub fn opening(
+    rt: HostRuntime,
+    name: &[u8],
+    usage: &[u8],
+    help: &[u8],
+    first: usize,
+    files: usize,
+) -> Start {
+    if any_argument(rt, b"--help") {
+        return Start::Ends(ended(rt, name, put_help(&rt.stdout(), usage, help)));
     }
-    if any_argument(b"--version") {
-        return Start::Ends(write_version(name));
+    if any_argument(rt, b"--version") {
+        return Start::Ends(ended(rt, name, put_version(&rt.stdout(), name)));
     }
-    let count = os::arg_count();
-    let option = option_from(first, count);
+    let count = argument_count(rt);
+    let option = option_from(rt, first, count);
     if option < count {
-        return Start::Ends(unknown_option(name, option, usage));
+        return Start::Ends(unknown_option(rt, name, option, usage));
     }
     if count < first {
-        return Start::Ends(complain(name, b": too few arguments", b"", usage));
+        return Start::Ends(complain(rt, name, b": too few arguments", b"", usage));
     }
     if count - first < files {
-        return Start::Ends(complain(name, b": too few arguments", b"", usage));
+        return Start::Ends(complain(rt, name, b": too few arguments", b"", usage));
     }
     if count - first > files {
-        return Start::Ends(complain(name, b": too many arguments", b"", usage));
+        return Start::Ends(complain(rt, name, b": too many arguments", b"", usage));
     }
     Start::Works
 }

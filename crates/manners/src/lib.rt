@@ -1,13 +1,15 @@
 // What every program does alike: its first look at the arguments, the write of its answer, messages on standard error, and the number that
-// it ends with. Nothing here says which bytes were read or written: C does that.
+// it ends with. Nothing here says which bytes were read or written: no contract can.
 #![tactic(auto)]
+
 ghost use Rattle.std.specs.Prelude.{length, ◌++◌, ◌≡◌, ◌+◌, ◌≤◌};
 ghost use Rattle.std.proofs.lemmas.List.Edits.{sets};
 ghost use Rattle.io.specs.Counts.{IsPrefixLen};
 ghost use Rattle.text.specs.Text.{line_feed};
 ghost use Rattle.manners.specs.Status.{Passes};
 
-use libc::{STDERR_FILENO, STDOUT_FILENO};
+use std::io::{Print, Write};
+use std::rt::Env;
 
 mod arguments;
 
@@ -77,13 +79,22 @@ fn behind_slash(path: &[u8]) -> usize
     start
 }
 
-// The program's own name at the front of `name`, as it was called but without folders; its length, or 0 where it does not fit. To be asked
-// for before a call that may fail: it sets C's errno.
-pub fn own_name(name: &mut [u8]) -> usize
+// An argument at the front of `word`; its length, or 0 where there is none or it does not fit.
+pub fn argument(rt: HostRuntime, i: usize, word: &mut [u8]) -> usize
+    ensures { IsPrefixLen result word.new }
+{
+    match rt.arg(i, &mut *word) {
+        Ok(length) => length,
+        Err(_) => 0,
+    }
+}
+
+// The program's own name at the front of `name`, as it was called but without folders; its length, or 0 where it does not fit.
+pub fn own_name(rt: HostRuntime, name: &mut [u8]) -> usize
     ensures { IsPrefixLen result name.new }
 {
     let mut path = io::buffer();
-    let length = os::arg(0, &mut path);
+    let length = argument(rt, 0, &mut path);
     let start = behind_slash(&path[..length]);
     let end = text::put_bytes(&mut *name, 0, &path[start..length]);
     if end <= name.len() { end } else { 0 }
@@ -99,22 +110,53 @@ pub fn put_lines(out: &mut [u8], at: usize, lines: &[u8]) -> usize
     text::put_bytes(&mut *out, end, b"\n")
 }
 
-// Tells standard error what failed, and why by C's errno.
-pub fn fail(name: &[u8], what: &[u8]) {
-    io::write_all(STDERR_FILENO, name);
-    io::write_all(STDERR_FILENO, b": ");
-    os::fail(what);
+// What the system says of an error, at the front of `out`, with its number in brackets behind it; its length.
+fn put_why(why: &std::io::Error, out: &mut [u8; 320]) -> usize
+    ensures { result ≤ 320 }
+{
+    let mut rest: &mut [u8] = out;
+    let _ = write!(rest, "{why}");
+    let left = rest.len();
+    if left <= 320 { 320 - left } else { 0 }
+}
+
+// Where the number of an error begins, behind what is said of it; all of the text where it has none.
+fn number_start(text: &[u8]) -> usize
+    ensures { result ≤ length text.now }
+{
+    for (i, _byte) in text.iter().enumerate() {
+        if text[i..].starts_with(b" (os error ") {
+            return i;
+        }
+    }
+    text.len()
+}
+
+// Tells standard error what failed, and why.
+pub fn fail(rt: HostRuntime, name: &[u8], what: &[u8], why: &std::io::Error) {
+    let error = rt.stderr();
+    let mut text = [0u8; 320];
+    let length = put_why(why, &mut text);
+    let end = number_start(&text[..length]);
+    let _ = error.write_all(name);
+    let _ = error.write_all(b": ");
+    let _ = error.write_all(what);
+    let _ = error.write_all(b": ");
+    let _ = error.write_all(&text[..end]);
+    let _ = error.write_all(b"\n");
 }
 
 // Writes the answer to standard output. The status that was given, or FAILED.
-pub fn write_out(answer: &[u8], status: i32) -> i32
+pub fn write_out(rt: HostRuntime, answer: &[u8], status: i32) -> i32
     ensures { Passes status result }
 {
     let mut name = io::buffer();
-    let named = own_name(&mut name);
-    if io::write_all(STDOUT_FILENO, answer) {
-        return status;
+    let named = own_name(rt, &mut name);
+    match rt.stdout().write_all(answer) {
+        Ok(()) => status,
+        Err(why) => {
+            fail(rt, &name[..named], b"standard output", &why);
+            FAILED
+        }
     }
-    fail(&name[..named], b"standard output");
-    FAILED
 }
