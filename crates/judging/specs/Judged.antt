@@ -2,7 +2,7 @@
 -- message, and the numbers of the bus. Of a row only the pair that opens it is looked at. `judged` of the rules is this for the parts of a
 -- layout and a table whose rows hold no other pair (proofs/Layouts.antt).
 use Rattle.std.specs.Prelude.{◌≡◌, Bool, true, false, not, ◌&&◌, List, map, ◌⊎◌, eqb, leb, length, get_or, take, ℕ, ◌+◌, ◌≤◌, ◌<◌}
-use Rattle.std.proofs.Math.Option.{Option, none, some}
+use Rattle.std.proofs.Math.Option.{Option, none}
 use Rattle.laws.specs.Res.{Res, ok, unless, at, ◌>>◌}
 use Rattle.laws.specs.Lists.{any, first_bad, tab, up_to}
 use Rattle.laws.specs.Loops.{pad_to}

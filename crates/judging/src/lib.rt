@@ -1,5 +1,6 @@
 // The judgement of a table: rules 21 to 28, rule by rule, at the lowest record at fault.
 #![tactic(auto)]
+
 ghost use Rattle.std.specs.Prelude.{◌≡◌, ◌&&◌, eqb, replicate, ◌+◌, ◌≤◌, ◌<◌};
 ghost use Rattle.laws.specs.Lists.{first_bad, up_to};
 ghost use Rattle.laws.specs.Res.{unless};
