@@ -1,5 +1,6 @@
 // The whole of making a table: from a plan file to the table in a lent buffer, with the frame rows in arrays that are lent.
 #![tactic(auto)]
+
 ghost use Rattle.std.specs.Prelude.{◌≡◌, length, replicate, true};
 ghost use Rattle.rules.specs.Limits.{most_frames};
 ghost use Rattle.rules.specs.Frames.{layout_of};
