@@ -1,12 +1,12 @@
 // Reads a plan from standard input and writes the table's bytes, or one line that says why there is none.
 #![tactic(auto)]
+
 ghost use Rattle.std.specs.Prelude.{◌≡◌, ◌≤◌, length};
 ghost use Rattle.std.proofs.lemmas.List.Edits.{sets};
 ghost use Rattle.io.specs.Counts.{IsPrefixLen};
 ghost use Rattle.bustable.specs.Answer.{answer_for, status_for};
 
 use input::Input;
-use libc::STDIN_FILENO;
 use linetable::Answer;
 use manners::{FAILED, Response, Start, is_argument, put_lines};
 use meanings::put_help_lines;
@@ -44,15 +44,15 @@ fn respond(plan: &[u8], consumers: bool, out: &mut [u8]) -> Response
     }
 }
 
-fn make(consumers: bool) -> i32 {
+fn make(rt: HostRuntime, consumers: bool) -> i32 {
     let mut plan = input::file_room();
-    let Input::Bytes(n) = input::read_open(STDIN_FILENO, b"standard input", &mut plan) else {
+    let Input::Bytes(n) = input::read_open(rt, &mut rt.stdin(), b"standard input", &mut plan) else {
         return FAILED;
     };
     let mut out = [0u8; ByteCount::LONGEST_TABLE];
     let answer = respond(&plan[..n], consumers, &mut out);
     let length = answer.length;
-    manners::write_out(&out[..length], answer.status as i32)
+    manners::write_out(rt, &out[..length], answer.status as i32)
 }
 
 // What `--help` says behind the usage.
@@ -79,11 +79,12 @@ fn behind_options(consumers: bool) -> usize {
 }
 
 // The program; the number that it ends with.
-pub fn run() -> i32 {
-    let consumers = is_argument(1, b"--consumers");
+pub fn run(rt: HostRuntime) -> i32 {
+    let consumers = is_argument(rt, 1, b"--consumers");
     let mut help = io::buffer();
     let end = put_help(&mut help);
     let start = manners::opening(
+        rt,
         b"bustable",
         b"bustable [--consumers] < PLAN > TABLE",
         &help[..end],
@@ -91,7 +92,7 @@ pub fn run() -> i32 {
         0,
     );
     match start {
-        Start::Works => make(consumers),
+        Start::Works => make(rt, consumers),
         Start::Ends(status) => status,
     }
 }

@@ -21,6 +21,7 @@ use manners::{DONE, write_out};
 use station::Station;
 use stationmoves::Said;
 use stationruns::Input;
+use std::io::Read;
 use text::lines::line_end;
 
 // The longest history.
@@ -77,11 +78,11 @@ pub struct Attended {
 // ---- answers
 
 // Whether the text was written; standard error is told where not.
-fn say(text: &[u8]) -> bool {
+fn say(rt: HostRuntime, text: &[u8]) -> bool {
     if text.len() == 0 {
         return true;
     }
-    write_out(text, DONE) == DONE
+    write_out(rt, text, DONE) == DONE
 }
 
 // Room for the longest answer, which has at most 16,295 bytes.
@@ -151,7 +152,7 @@ fn answer_quiet(out: &mut [u8], k: u64, rows: bool, station: Station) -> Answere
 
 // ---- lines
 
-fn tick(rows: bool, station: Station, input: Input) -> Played
+fn tick(rt: HostRuntime, rows: bool, station: Station, input: Input) -> Played
     ensures { result.station ≡ after_tick station input }
 {
     let mut out = answer_room();
@@ -159,13 +160,13 @@ fn tick(rows: bool, station: Station, input: Input) -> Played
     let length = answered.length;
     let next = answered.station;
     Played {
-        fine: say(&out[..length]),
+        fine: say(rt, &out[..length]),
         station: next,
     }
 }
 
 // Ticks at which nothing is given, up to a refusal.
-fn quiet(rows: bool, mut station: Station, ticks: u64) -> Played
+fn quiet(rt: HostRuntime, rows: bool, mut station: Station, ticks: u64) -> Played
     ensures { result.fine ≡ true → result.station ≡ after_quiet station ticks }
 {
     let mut out = answer_room();
@@ -176,7 +177,7 @@ fn quiet(rows: bool, mut station: Station, ticks: u64) -> Played
         let length = answered.length;
         let next = answered.station;
         station = next;
-        if !say(&out[..length]) {
+        if !say(rt, &out[..length]) {
             return Played {
                 fine: false,
                 station,
@@ -195,7 +196,7 @@ fn quiet(rows: bool, mut station: Station, ticks: u64) -> Played
     }
 }
 
-fn begin(plan: &[u8], table: &[u8], modes: Places) -> Spoken
+fn begin(rt: HostRuntime, plan: &[u8], table: &[u8], modes: Places) -> Spoken
     ensures { result.heard ≡ begun_by (rules.begin plan.now table.now (starting_at (starting_from modes))) }
 {
     let begun = beginning::begin(plan, table, starting_of(modes));
@@ -204,7 +205,7 @@ fn begin(plan: &[u8], table: &[u8], modes: Places) -> Spoken
     let mut out = [0u8; 64];
     let length = put_begun(&mut out, answer);
     Spoken {
-        fine: say(&out[..length]),
+        fine: say(rt, &out[..length]),
         heard: Heard {
             stage: Stage::Plays(is_fine(answer)),
             station,
@@ -226,7 +227,7 @@ fn stop(number: u64, station: Station) -> Spoken
 }
 
 // A line where none with a word has come before.
-fn hear_first(plan: &[u8], table: &[u8], number: u64, station: Station, line: Line) -> Spoken
+fn hear_first(rt: HostRuntime, plan: &[u8], table: &[u8], number: u64, station: Station, line: Line) -> Spoken
     ensures { result.heard ≡ first_by plan.now table.now number station line line.what }
 {
     let what = line.what;
@@ -240,7 +241,7 @@ fn hear_first(plan: &[u8], table: &[u8], number: u64, station: Station, line: Li
         },
         What::Begin => {
             let modes = line.modes;
-            begin(plan, table, modes)
+            begin(rt, plan, table, modes)
         }
         What::Tick => stop(number, station),
         What::Quiet(_) => stop(number, station),
@@ -262,7 +263,7 @@ fn played_on(begun: bool, played: Played) -> Spoken
 }
 
 // A line behind the beginning.
-fn hear_later(rows: bool, number: u64, begun: bool, station: Station, line: Line) -> Spoken
+fn hear_later(rt: HostRuntime, rows: bool, number: u64, begun: bool, station: Station, line: Line) -> Spoken
     ensures { result.fine ≡ true → result.heard ≡ later_by number begun station line line.what }
 {
     let what = line.what;
@@ -277,24 +278,24 @@ fn hear_later(rows: bool, number: u64, begun: bool, station: Station, line: Line
         What::Tick => {
             let results = line.results;
             let modes = line.modes;
-            played_on(begun, tick(rows, station, input_of(results, modes)))
+            played_on(begun, tick(rt, rows, station, input_of(results, modes)))
         }
-        What::Quiet(ticks) => played_on(begun, quiet(rows, station, ticks)),
+        What::Quiet(ticks) => played_on(begun, quiet(rt, rows, station, ticks)),
         What::Begin => stop(number, station),
         What::Unreadable => stop(number, station),
     }
 }
 
 // A line, without its line feed; `number` is its number.
-fn hear(plan: &[u8], table: &[u8], rows: bool, heard: Heard, number: u64, s: &[u8]) -> Spoken
+fn hear(rt: HostRuntime, plan: &[u8], table: &[u8], rows: bool, heard: Heard, number: u64, s: &[u8]) -> Spoken
     ensures { result.fine ≡ true → result.heard ≡ heard_line plan.now table.now number heard s.now }
 {
     let line = read_line(s);
     let station = heard.station;
     let stage = heard.stage;
     match stage {
-        Stage::Waits => hear_first(plan, table, number, station, line),
-        Stage::Plays(begun) => hear_later(rows, number, begun, station, line),
+        Stage::Waits => hear_first(rt, plan, table, number, station, line),
+        Stage::Plays(begun) => hear_later(rt, rows, number, begun, station, line),
         Stage::Stops(_) => Spoken { fine: true, heard },
     }
 }
@@ -325,19 +326,18 @@ fn is_over(fine: bool, stage: Stage) -> bool
 }
 
 // The line that has no line feed at the end of a history, if one stands there.
-fn hear_last(plan: &[u8], table: &[u8], rows: bool, heard: Heard, lines: u64, s: &[u8]) -> Spoken
+fn hear_last(rt: HostRuntime, plan: &[u8], table: &[u8], rows: bool, heard: Heard, lines: u64, s: &[u8]) -> Spoken
     requires { lines ≤ 18446744073709551614 }
     ensures { result.fine ≡ true → result.heard ≡ last_heard plan.now table.now lines heard s.now }
 {
     if s.len() == 0 {
         return Spoken { fine: true, heard };
     }
-    hear(plan, table, rows, heard, lines + 1, s)
+    hear(rt, plan, table, rows, heard, lines + 1, s)
 }
 
 // The end of a history whose lines in front of a place were heard. A history that is too long has no last line.
-fn hear_end(
-    plan: &[u8],
+fn hear_end(rt: HostRuntime, plan: &[u8],
     table: &[u8],
     rows: bool,
     heard: Heard,
@@ -351,7 +351,7 @@ fn hear_end(
     ensures whole { result.length ≡ length s.now }
 {
     if s.len() <= LONGEST {
-        let spoken = hear_last(plan, table, rows, heard, lines, &s[at..]);
+        let spoken = hear_last(rt, plan, table, rows, heard, lines, &s[at..]);
         let last = spoken.heard;
         return Attended {
             fine: spoken.fine,
@@ -368,7 +368,14 @@ fn hear_end(
 
 // Reads a history into the lent buffer, piece by piece, and hears each line as soon as it has come whole. It ends where the input ends,
 // at a full buffer, and at a line that stops the history; `length` bytes have come by then.
-pub fn attend(plan: &[u8], table: &[u8], rows: bool, fd: i32, buf: &mut [u8]) -> Attended
+pub fn attend<R: Read>(
+    rt: HostRuntime,
+    plan: &[u8],
+    table: &[u8],
+    rows: bool,
+    from: &mut R,
+    buf: &mut [u8],
+) -> Attended
     ensures heard_value { result.fine ≡ true → result.heard ≡ answered plan.now table.now (take result.length buf.new) }
     ensures within { result.length ≤ length buf.new }
 {
@@ -381,7 +388,7 @@ pub fn attend(plan: &[u8], table: &[u8], rows: bool, fd: i32, buf: &mut [u8]) ->
         let end = line_end(&buf[..heard_to], at);
         if end < heard_to {
             lines += 1;
-            let spoken = hear(plan, table, rows, heard, lines, &buf[at..end]);
+            let spoken = hear(rt, plan, table, rows, heard, lines, &buf[at..end]);
             let fine = spoken.fine;
             let next = spoken.heard;
             heard = next;
@@ -395,7 +402,7 @@ pub fn attend(plan: &[u8], table: &[u8], rows: bool, fd: i32, buf: &mut [u8]) ->
             }
             at = end + 1;
         } else {
-            match read_more(fd, b"standard input", &mut *buf, came) {
+            match read_more(rt, from, b"standard input", &mut *buf, came) {
                 Piece::Unreadable => {
                     return Attended {
                         fine: false,
@@ -405,7 +412,7 @@ pub fn attend(plan: &[u8], table: &[u8], rows: bool, fd: i32, buf: &mut [u8]) ->
                 }
                 Piece::Bytes(length) => {
                     if length == came {
-                        return hear_end(plan, table, rows, heard, lines, at, &buf[..came]);
+                        return hear_end(rt, plan, table, rows, heard, lines, at, &buf[..came]);
                     }
                     came = length;
                 }

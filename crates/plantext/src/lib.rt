@@ -1,5 +1,6 @@
 // Reads a plan from standard input and writes it as text, or one line: `refused 1 at P`, or `too long`.
 #![tactic(auto)]
+
 ghost use Rattle.std.specs.Prelude.{◌≡◌, ◌≤◌, ◌<◌, length};
 ghost use Rattle.std.proofs.lemmas.List.Edits.{sets};
 ghost use Rattle.io.specs.Counts.{IsPrefixLen};
@@ -8,7 +9,6 @@ ghost use Rattle.laws.proofs.Little.{Bytes};
 ghost use Rattle.plantext.specs.Answer.{answer_for, longest_text, status_for};
 
 use input::Input;
-use libc::STDIN_FILENO;
 use manners::{FAILED, Response, Start, put_lines};
 use meanings::put_help_lines;
 use planwriter::Printing;
@@ -55,15 +55,15 @@ fn respond(plan: &[u8], out: &mut [u8]) -> Response
     }
 }
 
-fn print() -> i32 {
+fn print(rt: HostRuntime) -> i32 {
     let mut plan = input::file_room();
-    let Input::Bytes(n) = input::read_open(STDIN_FILENO, b"standard input", &mut plan) else {
+    let Input::Bytes(n) = input::read_open(rt, &mut rt.stdin(), b"standard input", &mut plan) else {
         return FAILED;
     };
     let mut out = longest_room();
     let answer = respond(&plan[..n], &mut out);
     let length = answer.length;
-    manners::write_out(&out[..length], answer.status as i32)
+    manners::write_out(rt, &out[..length], answer.status as i32)
 }
 
 // What `--help` says behind the usage.
@@ -84,12 +84,19 @@ fn put_help(out: &mut [u8]) -> usize
 }
 
 // The program; the number that it ends with.
-pub fn run() -> i32 {
+pub fn run(rt: HostRuntime) -> i32 {
     let mut help = io::buffer();
     let end = put_help(&mut help);
-    let start = manners::opening(b"plantext", b"plantext < PLAN > TEXT", &help[..end], 1, 0);
+    let start = manners::opening(
+        rt,
+        b"plantext",
+        b"plantext < PLAN > TEXT",
+        &help[..end],
+        1,
+        0,
+    );
     match start {
-        Start::Works => print(),
+        Start::Works => print(rt),
         Start::Ends(status) => status,
     }
 }

@@ -1,6 +1,7 @@
 // Plays a history, which comes on standard input, on a station that begins with a plan file and a table file, both named on the command
 // line, and answers each line when it has come (docs/HISTORY.md).
 #![tactic(auto)]
+
 ghost use Rattle.std.specs.Prelude.{◌≡◌, ◌≤◌, length};
 ghost use Rattle.std.proofs.lemmas.List.Edits.{sets};
 ghost use Rattle.io.specs.Counts.{IsPrefixLen};
@@ -9,7 +10,6 @@ ghost use Rattle.playstation.specs.Closing.{closing_status, closing_text, end_st
 use figures::both;
 use hearing::{LONGEST, Stage, attend};
 use input::{Input, file_room, read_argument, text_room};
-use libc::STDIN_FILENO;
 use manners::{FAILED, REFUSED, Response, Start, is_argument, put_lines, write_out};
 use meanings::put_help_lines;
 use text::{put_too_long, put_unreadable};
@@ -42,44 +42,44 @@ fn closing(out: &mut [u8], came: usize, stage: Stage) -> Response
     }
 }
 
-fn finish(came: usize, stage: Stage) -> i32 {
+fn finish(rt: HostRuntime, came: usize, stage: Stage) -> i32 {
     let mut out = [0u8; 64];
     let closed = closing(&mut out, came, stage);
     let length = closed.length;
-    write_out(&out[..length], closed.status as i32)
+    write_out(rt, &out[..length], closed.status as i32)
 }
 
-fn too_long() -> i32 {
+fn too_long(rt: HostRuntime) -> i32 {
     let mut out = [0u8; 64];
     let length = put_too_long(&mut out);
-    write_out(&out[..length], REFUSED)
+    write_out(rt, &out[..length], REFUSED)
 }
 
-fn play(plan: &[u8], table: &[u8], rows: bool) -> i32 {
+fn play(rt: HostRuntime, plan: &[u8], table: &[u8], rows: bool) -> i32 {
     if both(plan.len() <= 65536, table.len() <= 65536) {
         let mut history = text_room();
-        let attended = attend(plan, table, rows, STDIN_FILENO, &mut history);
+        let attended = attend(rt, plan, table, rows, &mut rt.stdin(), &mut history);
         let heard = attended.heard;
         let stage = heard.stage;
         if attended.fine {
-            return finish(attended.length, stage);
+            return finish(rt, attended.length, stage);
         }
         return FAILED;
     }
-    too_long()
+    too_long(rt)
 }
 
 // The files are named by these arguments.
-fn answer(plan_at: usize, table_at: usize, rows: bool) -> i32 {
+fn answer(rt: HostRuntime, plan_at: usize, table_at: usize, rows: bool) -> i32 {
     let mut plan = file_room();
-    let Input::Bytes(n) = read_argument(plan_at, b"PLAN", &mut plan) else {
+    let Input::Bytes(n) = read_argument(rt, plan_at, b"PLAN", &mut plan) else {
         return FAILED;
     };
     let mut table = file_room();
-    let Input::Bytes(m) = read_argument(table_at, b"TABLE", &mut table) else {
+    let Input::Bytes(m) = read_argument(rt, table_at, b"TABLE", &mut table) else {
         return FAILED;
     };
-    play(&plan[..n], &table[..m], rows)
+    play(rt, &plan[..n], &table[..m], rows)
 }
 
 // What `--help` says behind the usage.
@@ -106,11 +106,12 @@ fn first_file(rows: bool) -> usize {
 }
 
 // The program; the number that it ends with.
-pub fn run() -> i32 {
-    let rows = is_argument(1, b"--rows");
+pub fn run(rt: HostRuntime) -> i32 {
+    let rows = is_argument(rt, 1, b"--rows");
     let mut help = io::large_buffer();
     let end = put_help(&mut help);
     let start = manners::opening(
+        rt,
         b"playstation",
         b"playstation [--rows] PLAN TABLE < HISTORY",
         &help[..end],
@@ -121,9 +122,9 @@ pub fn run() -> i32 {
         Start::Ends(status) => status,
         Start::Works => {
             if rows {
-                return answer(2, 3, true);
+                return answer(rt, 2, 3, true);
             }
-            answer(1, 2, false)
+            answer(rt, 1, 2, false)
         }
     }
 }

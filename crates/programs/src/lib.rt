@@ -1,37 +1,30 @@
-// The programs, each as a function for C: programs/main.c is compiled once for each, and calls the one that it is told.
+// The programs, each as a function that is given the runtime: a program's `main` calls its own, and ends with the number.
 #![tactic(auto)]
 
-#[unsafe(no_mangle)]
-pub extern "C" fn olbiothar_run_bustable() -> i32 {
-    bustable::run()
+pub fn olbiothar_run_bustable(rt: HostRuntime) -> i32 {
+    bustable::run(rt)
 }
 
-#[unsafe(no_mangle)]
-pub extern "C" fn olbiothar_run_checktable() -> i32 {
-    checktable::run()
+pub fn olbiothar_run_checktable(rt: HostRuntime) -> i32 {
+    checktable::run(rt)
 }
 
-#[unsafe(no_mangle)]
-pub extern "C" fn olbiothar_run_playstation() -> i32 {
-    playstation::run()
+pub fn olbiothar_run_playstation(rt: HostRuntime) -> i32 {
+    playstation::run(rt)
 }
 
-#[unsafe(no_mangle)]
-pub extern "C" fn olbiothar_run_tablesheet() -> i32 {
-    tablesheet::run()
+pub fn olbiothar_run_tablesheet(rt: HostRuntime) -> i32 {
+    tablesheet::run(rt)
 }
 
-#[unsafe(no_mangle)]
-pub extern "C" fn olbiothar_run_sheettable() -> i32 {
-    sheettable::run()
+pub fn olbiothar_run_sheettable(rt: HostRuntime) -> i32 {
+    sheettable::run(rt)
 }
 
-#[unsafe(no_mangle)]
-pub extern "C" fn olbiothar_run_textplan() -> i32 {
-    textplan::run()
+pub fn olbiothar_run_textplan(rt: HostRuntime) -> i32 {
+    textplan::run(rt)
 }
 
-#[unsafe(no_mangle)]
-pub extern "C" fn olbiothar_run_plantext() -> i32 {
-    plantext::run()
+pub fn olbiothar_run_plantext(rt: HostRuntime) -> i32 {
+    plantext::run(rt)
 }

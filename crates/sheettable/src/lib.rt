@@ -1,5 +1,6 @@
 // Reads a sheet from standard input and writes the table's bytes, or one line: `unreadable line L`, or `too long`.
 #![tactic(auto)]
+
 ghost use Rattle.std.specs.Prelude.{◌≡◌, ◌≤◌, length};
 ghost use Rattle.std.proofs.lemmas.List.Edits.{sets};
 ghost use Rattle.io.specs.Counts.{IsPrefixLen};
@@ -7,7 +8,6 @@ ghost use Rattle.rules.specs.Table.{longest_table};
 ghost use Rattle.sheettable.specs.Answer.{answer_for, status_for};
 
 use input::Input;
-use libc::STDIN_FILENO;
 use manners::{FAILED, Response, Start, put_lines};
 use sheetreader::Back;
 use units::ByteCount;
@@ -30,15 +30,16 @@ fn respond(sheet: &[u8], out: &mut [u8]) -> Response
     }
 }
 
-fn read() -> i32 {
+fn read(rt: HostRuntime) -> i32 {
     let mut sheet = input::text_room();
-    let Input::Bytes(n) = input::read_open(STDIN_FILENO, b"standard input", &mut sheet) else {
+    let Input::Bytes(n) = input::read_open(rt, &mut rt.stdin(), b"standard input", &mut sheet)
+    else {
         return FAILED;
     };
     let mut out = [0u8; ByteCount::LONGEST_TABLE];
     let answer = respond(&sheet[..n], &mut out);
     let length = answer.length;
-    manners::write_out(&out[..length], answer.status as i32)
+    manners::write_out(rt, &out[..length], answer.status as i32)
 }
 
 // What `--help` says behind the usage.
@@ -58,10 +59,11 @@ fn put_help(out: &mut [u8]) -> usize
 }
 
 // The program; the number that it ends with.
-pub fn run() -> i32 {
+pub fn run(rt: HostRuntime) -> i32 {
     let mut help = io::buffer();
     let end = put_help(&mut help);
     let start = manners::opening(
+        rt,
         b"sheettable",
         b"sheettable < SHEET > TABLE",
         &help[..end],
@@ -69,7 +71,7 @@ pub fn run() -> i32 {
         0,
     );
     match start {
-        Start::Works => read(),
+        Start::Works => read(rt),
         Start::Ends(status) => status,
     }
 }

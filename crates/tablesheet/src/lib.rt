@@ -1,5 +1,6 @@
 // Writes the sheet of a table file by a plan file, both named on the command line, with the line of a refusal on top or alone; or `too long`.
 #![tactic(auto)]
+
 ghost use Rattle.std.specs.Prelude.{◌≡◌, ◌≤◌, length};
 ghost use Rattle.std.proofs.lemmas.List.Edits.{sets};
 ghost use Rattle.answers.specs.Refusals.{heard};
@@ -40,19 +41,19 @@ fn respond(plan: &[u8], table: &[u8], out: &mut [u8]) -> Response
     ending(answer, written.length)
 }
 
-fn print() -> i32 {
+fn print(rt: HostRuntime) -> i32 {
     let mut plan = file_room();
-    let Input::Bytes(n) = read_argument(1, b"PLAN", &mut plan) else {
+    let Input::Bytes(n) = read_argument(rt, 1, b"PLAN", &mut plan) else {
         return FAILED;
     };
     let mut table = file_room();
-    let Input::Bytes(m) = read_argument(2, b"TABLE", &mut table) else {
+    let Input::Bytes(m) = read_argument(rt, 2, b"TABLE", &mut table) else {
         return FAILED;
     };
     let mut out = text_room();
     let answer = respond(&plan[..n], &table[..m], &mut out);
     let length = answer.length;
-    manners::write_out(&out[..length], answer.status as i32)
+    manners::write_out(rt, &out[..length], answer.status as i32)
 }
 
 // What `--help` says behind the usage.
@@ -75,12 +76,19 @@ fn put_help(out: &mut [u8]) -> usize
 }
 
 // The program; the number that it ends with.
-pub fn run() -> i32 {
+pub fn run(rt: HostRuntime) -> i32 {
     let mut help = io::buffer();
     let end = put_help(&mut help);
-    let start = manners::opening(b"tablesheet", b"tablesheet PLAN TABLE", &help[..end], 1, 2);
+    let start = manners::opening(
+        rt,
+        b"tablesheet",
+        b"tablesheet PLAN TABLE",
+        &help[..end],
+        1,
+        2,
+    );
     match start {
-        Start::Works => print(),
+        Start::Works => print(rt),
         Start::Ends(status) => status,
     }
 }

@@ -1,5 +1,6 @@
 // Reads a plan's text from standard input and writes the plan's bytes, or one line: `unreadable line L: REASON`, or `too long`.
 #![tactic(auto)]
+
 ghost use Rattle.std.specs.Prelude.{◌≡◌, ◌≤◌, length};
 ghost use Rattle.std.proofs.lemmas.List.Edits.{sets};
 ghost use Rattle.io.specs.Counts.{IsPrefixLen};
@@ -7,7 +8,6 @@ ghost use Rattle.planwords.specs.TextPlan.{unreadable_text};
 ghost use Rattle.textplan.specs.Answer.{answer_for, status_for};
 
 use input::Input;
-use libc::STDIN_FILENO;
 use manners::{FAILED, Response, Start, put_lines};
 use planitems::put_reason;
 use planreader::Back;
@@ -41,15 +41,16 @@ fn respond(lines: &[u8], out: &mut [u8]) -> Response
     }
 }
 
-fn read() -> i32 {
+fn read(rt: HostRuntime) -> i32 {
     let mut lines = input::text_room();
-    let Input::Bytes(n) = input::read_open(STDIN_FILENO, b"standard input", &mut lines) else {
+    let Input::Bytes(n) = input::read_open(rt, &mut rt.stdin(), b"standard input", &mut lines)
+    else {
         return FAILED;
     };
     let mut out = input::text_room();
     let answer = respond(&lines[..n], &mut out);
     let length = answer.length;
-    manners::write_out(&out[..length], answer.status as i32)
+    manners::write_out(rt, &out[..length], answer.status as i32)
 }
 
 // What `--help` says behind the usage.
@@ -69,12 +70,19 @@ fn put_help(out: &mut [u8]) -> usize
 }
 
 // The program; the number that it ends with.
-pub fn run() -> i32 {
+pub fn run(rt: HostRuntime) -> i32 {
     let mut help = io::buffer();
     let end = put_help(&mut help);
-    let start = manners::opening(b"textplan", b"textplan < TEXT > PLAN", &help[..end], 1, 0);
+    let start = manners::opening(
+        rt,
+        b"textplan",
+        b"textplan < TEXT > PLAN",
+        &help[..end],
+        1,
+        0,
+    );
     match start {
-        Start::Works => read(),
+        Start::Works => read(rt),
         Start::Ends(status) => status,
     }
 }

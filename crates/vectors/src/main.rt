@@ -3,12 +3,15 @@
 // what to do (0: read the plan; 1: make its table; 2: check the table by the plan; 3: make its table for consumers), how many frame rows are lent, how many bytes are
 // lent for a table, and the lengths of text, plan and table. tests/src/stored.rs writes the files, and what each line must be.
 #![tactic(auto)]
+
 ghost use Rattle.std.specs.Prelude.{◌<◌, ◌≤◌, ◌≡◌, length};
 
 use answers::Verdict;
 use input::Input;
 use lines::{say, say_left, say_refusal, say_rows, say_table};
 use little::read32;
+use std::env::FillError;
+use std::rt::Env;
 use units::Frame;
 
 mod lines;
@@ -52,16 +55,16 @@ fn zeros<'a>(
     n
 }
 
-fn read(plan: &[u8]) {
+fn read(rt: HostRuntime, plan: &[u8]) {
     let reading = planrules::read(plan);
     let answer = reading.answer;
     match answer {
-        Verdict::Fine => say(b"sound"),
-        Verdict::Refused(why) => say_refusal(why),
+        Verdict::Fine => say(rt, b"sound"),
+        Verdict::Refused(why) => say_refusal(rt, why),
     }
 }
 
-fn make_in(plan: &[u8], edition: u8, lent: usize, buf: &mut [u8]) {
+fn make_in(rt: HostRuntime, plan: &[u8], edition: u8, lent: usize, buf: &mut [u8]) {
     let mut tasks = [0; Frame::MOST];
     let mut releases = [0; Frame::MOST];
     let mut deadlines = [0; Frame::MOST];
@@ -80,29 +83,30 @@ fn make_in(plan: &[u8], edition: u8, lent: usize, buf: &mut [u8]) {
     let mut end = 0;
     match answer {
         linetable::Answer::Made(length) => {
-            say_table(buf, length);
-            say(b" rows");
-            say_rows(made.frames, &tasks, &releases, &deadlines, &starts);
+            say_table(rt, buf, length);
+            say(rt, b" rows");
+            say_rows(rt, made.frames, &tasks, &releases, &deadlines, &starts);
             end = length;
         }
-        linetable::Answer::Refused(why) => say_refusal(why),
+        linetable::Answer::Refused(why) => say_refusal(rt, why),
     }
     say_left(
+        rt,
         kept(buf, end),
         zeros(&tasks, &releases, &deadlines, &starts),
     );
 }
 
 // No table is longer than the buffer.
-fn make(plan: &[u8], edition: u8, lent: usize, room: usize) {
+fn make(rt: HostRuntime, plan: &[u8], edition: u8, lent: usize, room: usize) {
     let mut buf = [OLD; 16384];
     if room <= 16384 {
-        make_in(plan, edition, lent, &mut buf[..room]);
+        make_in(rt, plan, edition, lent, &mut buf[..room]);
     }
 }
 
 // Rows that a refusal left would be said too.
-fn check(plan: &[u8], table: &[u8], lent: usize) {
+fn check(rt: HostRuntime, plan: &[u8], table: &[u8], lent: usize) {
     let mut tasks = [0; Frame::MOST];
     let mut releases = [0; Frame::MOST];
     let mut deadlines = [0; Frame::MOST];
@@ -118,23 +122,23 @@ fn check(plan: &[u8], table: &[u8], lent: usize) {
     );
     let answer = checked.answer;
     match answer {
-        Verdict::Fine => say(b"passed rows"),
-        Verdict::Refused(why) => say_refusal(why),
+        Verdict::Fine => say(rt, b"passed rows"),
+        Verdict::Refused(why) => say_refusal(rt, why),
     }
-    say_rows(checked.frames, &tasks, &releases, &deadlines, &starts);
+    say_rows(rt, checked.frames, &tasks, &releases, &deadlines, &starts);
 }
 
-fn run(what: u32, plan: &[u8], table: &[u8], lent: usize, room: usize) {
+fn run(rt: HostRuntime, what: u32, plan: &[u8], table: &[u8], lent: usize, room: usize) {
     if what == 0 {
-        read(plan);
+        read(rt, plan);
     } else if what == 1 {
-        make(plan, maker::BASIC, lent, room);
+        make(rt, plan, maker::BASIC, lent, room);
     } else if what == 2 {
-        check(plan, table, lent);
+        check(rt, plan, table, lent);
     } else if what == 3 {
-        make(plan, maker::CONSUMERS, lent, room);
+        make(rt, plan, maker::CONSUMERS, lent, room);
     }
-    say(b"\n");
+    say(rt, b"\n");
 }
 
 fn number(file: &[u8], at: usize) -> usize
@@ -144,7 +148,7 @@ fn number(file: &[u8], at: usize) -> usize
 }
 
 // Runs the case that begins at a place, and answers where the next one begins.
-fn one(file: &[u8], at: usize) -> usize
+fn one(rt: HostRuntime, file: &[u8], at: usize) -> usize
     requires { at < length file.now }
     ensures { at < result }
 {
@@ -153,21 +157,21 @@ fn one(file: &[u8], at: usize) -> usize
     let table = plan + number(file, at + 16);
     let end = table + number(file, at + 20);
     if end <= file.len() {
-        say(&file[text..plan]);
+        say(rt, &file[text..plan]);
         let what = read32(file, at);
         let lent = number(file, at + 4);
         let room = number(file, at + 8);
-        run(what, &file[plan..table], &file[table..end], lent, room);
+        run(rt, what, &file[plan..table], &file[table..end], lent, room);
     } else {
-        say(b"cut short\n");
+        say(rt, b"cut short\n");
     }
     end
 }
 
-fn all(file: &[u8]) {
+fn all(rt: HostRuntime, file: &[u8]) {
     let mut at = 0;
     while at < file.len() {
-        at = one(file, at);
+        at = one(rt, file, at);
     }
 }
 
@@ -179,18 +183,28 @@ fn no_cases() -> [u8; 524288]
 }
 
 // The cases of the file that an argument names.
-fn run_file(i: usize) {
+fn run_file(rt: HostRuntime, i: usize) {
     let mut file = no_cases();
-    if let Input::Bytes(length) = input::read_argument(i, b"CASES", &mut file) {
-        all(&file[..length]);
+    if let Input::Bytes(length) = input::read_argument(rt, i, b"CASES", &mut file) {
+        all(rt, &file[..length]);
     }
 }
 
-fn main() {
-    let n = os::arg_count();
-    let mut i = 1;
-    while i < n {
-        run_file(i);
-        i += 1;
+// Whether there is an argument i, of whatever length.
+fn is_there(rt: HostRuntime, i: usize) -> bool {
+    let mut room = [0u8; 1];
+    match rt.arg(i, &mut room) {
+        Ok(_) => true,
+        Err(FillError::TooLong) => true,
+        Err(FillError::NotPresent) => false,
+    }
+}
+
+fn main(rt: HostRuntime) {
+    for i in 1..usize::MAX {
+        if !is_there(rt, i) {
+            return;
+        }
+        run_file(rt, i);
     }
 }
