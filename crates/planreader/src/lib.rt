@@ -1,5 +1,6 @@
 // A text read as a plan: any bytes to a plan's bytes, or to the first line that cannot be read, with the reason.
 #![tactic(auto)]
+
 ghost use Rattle.std.specs.Prelude.{[], ◌≡◌, ltb, drop, length, ◌+◌, ◌^◌, ◌≤◌};
 ghost use Rattle.std.proofs.lemmas.List.Edits.{sets};
 ghost use Rattle.laws.specs.Numbers.{bytes};

@@ -1,10 +1,9 @@
 -- The ways out of printing a plan, by what measuring its lines said.
-use mathlib.Core.Path.{◌≡◌, refl, sym, ◌∙◌}
+use mathlib.Core.Path.{◌≡◌, refl}
 use mathlib.Core.List.{List, []}
 use native.Mathlib.Omega.{arith}
 use borrow.Author.Tests.{le-leb, lt-leb}
 use lib.ListN.{length}
-use lib.Seq.{sets}
 use Prim.Native.Nat.{ℕ, ◌≤◌, ◌<◌}
 use Rattle.laws.specs.Res.{Res, ok, refuse}
 use Rattle.text.specs.Text.{is_short}

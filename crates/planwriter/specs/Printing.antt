@@ -1,5 +1,5 @@
 -- What printing a plan says, and what it leaves of the lent bytes (docs/RULES.md, section 19).
-use Rattle.std.specs.Prelude.{◌≡◌, Bool, true, false, List, [], leb, length, ℕ}
+use Rattle.std.specs.Prelude.{◌≡◌, Bool, true, false, List, leb, length, ℕ}
 use Rattle.std.proofs.lemmas.List.Edits.{sets}
 use Rattle.laws.specs.Res.{Res, ok, refuse}
 use Rattle.text.specs.Text.{is_short}
