@@ -27,9 +27,6 @@ use Rattle.outward.specs.Seen.{
   task_at,
   partly,
 }
-use Rattle.outward.specs.declared.TimeNow.{TimeNow}
-use Rattle.outward.specs.declared.ModuleNow.{ModuleNow}
-use Rattle.outward.specs.declared.TaskNow.{TaskNow}
 
 pub one_more : (worst passed : ℕ) → worst - passed - 1 ≡ worst - (passed + 1)
 one_more worst passed = omega arith

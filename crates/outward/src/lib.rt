@@ -1,5 +1,6 @@
 // Answers, rows and ticks in the numbers that C has, which has no enums that carry values; and what may be asked of a station.
 #![tactic(auto)]
+
 ghost use Rattle.std.specs.Prelude.{◌≡◌, ◌-◌};
 ghost use Rattle.answers.specs.Refusals.{said, heard};
 ghost use Rattle.linetable.specs.Making as making;
