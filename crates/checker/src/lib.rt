@@ -1,6 +1,7 @@
 // `check`: what a plan file, a table file and the number of lent frame rows come to, and the frame rows of a table that passes, in arrays
 // that are lent. Its parts serve the check of `olbiothar` too, which looks for rule 25 in the lent rows.
 #![tactic(auto)]
+
 ghost use Rattle.std.specs.Prelude.{◌≡◌, replicate, ◌≤◌};
 ghost use Rattle.rules.specs.Limits.{most_nodes, most_frames};
 ghost use Rattle.rules.specs.Records.{records, table_follows};
