@@ -141,6 +141,20 @@ def split_top(t, sep=","):
 def tail_record(text, labels):
     """A pair of pairs at the end of an answer as the record of the clauses."""
     t = text.rstrip()
+    found = tail_pairs(t, labels)
+    if found:
+        return found
+    # one fact for all clauses: its parts
+    m = re.match(r"(\S+(?: [\w₀-₉]+)* =\s*)(.*)$", t, re.S)
+    if not m or re.match(r"(search|omega|grind|simp|cc)\b", m.group(2)) or "record {" in m.group(2):
+        return text
+    body = "\n    ".join(m.group(2).split("\n"))
+    parts = "; ".join(f"{l} = all{path_of(k, len(labels))}" for k, l in enumerate(labels))
+    return f"{m.group(1).rstrip()}\n    let all =\n        {body} in\n    record {{ {parts} }}"
+
+
+def tail_pairs(t, labels):
+    text = None
     if not t.endswith(")"):
         return text
     d = 0
@@ -355,7 +369,7 @@ def convert(crate, where, folder, old, text, it, laws):
                 new = arms.get((plain(label), tuple(path[:k])))
                 if new and "-own" not in new:
                     return m.group(1) + m.group(2) + "." + new + "".join("." + x for x in path[k:])
-            n = fields.get(plain(label)) or (label.endswith("_lem") and labels.get(plain(label[:-4]))) or labels.get(plain(re.sub(r"\d+$", "", label)))
+            n = fields.get(plain(label)) or labels.get(plain(label[:1].lower() + label[1:])) or (label.endswith("_lem") and labels.get(plain(label[:-4]))) or labels.get(plain(re.sub(r"\d+$", "", label)))
             return m.group(1) + m.group(2) + "." + (n or label) + (m.group(4) or "")
 
         t = re.sub(r"(?<![\w.'\-])(" + IDENT + r"|\([^()]*\))((?:\.before)*)\.(" + IDENT + r")((?:\.(?:given|ensures|keys\d+|[01])(?![\w\-]))*)", step, t)
@@ -389,8 +403,8 @@ def convert(crate, where, folder, old, text, it, laws):
             w = m.group(1)[5:]
             new = goal_of.get(plain(w))
             if new is None:
-                print(f"{old}: no goal {w}; has {[b for a, b in needs]}")
-                new = w
+                print(f"{old}: no goal {w}")
+                continue
             answers.append((g, new))
             rename[g.name] = new
         elif m:
