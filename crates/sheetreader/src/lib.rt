@@ -1,5 +1,6 @@
 // A sheet read back: any text to the rows of a table, or to the first line that is none of a sheet's.
 #![tactic(auto)]
+
 ghost use Rattle.std.specs.Prelude.{cond, ◌≡◌, drop, length, replicate, ◌≤◌};
 ghost use Rattle.std.proofs.Math.Option.{none, some};
 ghost use Rattle.laws.specs.Loops.{placed};
