@@ -154,6 +154,7 @@ module _ (p : Plan) (d : Drawn p) (t : TableRead) (obeys : ObeysTable (layout_of
         sym x.task ∙ ap (λ (n : Named). n.task) (sym s) ∙ h.names.task in
         sym (time_drawn p d (pair_at (layout_of p) f) among) ∙ ap (λ u. get_or (line_of p).times u 0) task
     takes (one_name x (one_name y rest)) e m = true-false (sym e)
+    takes (one_name x no_name) e (mathlib.Core.List.Memᴰ.tail m) = elim m [ ]
 
     row-stops : (row_at t r).stop ≡ (row_at t r).start + get_or (line_of p).times (pair_at (layout_of p) q).task 0
     unfolding layout_of

@@ -1,6 +1,5 @@
 -- Rule 8.3, by the contracts of `begin` and `tick`: what a refused beginning returns is zero, and each of its ticks gives 40 at 0.
 use mathlib.Core.Path.{◌≡◌, refl, sym, ap, ◌∙◌}
-use mathlib.Core.List.{List}
 use Rattle.laws.specs.Res.{Res, ok, refuse}
 use Rattle.laws.proofs.Res.{refuse≢ok}
 use Rattle.answers.specs.declared.Refusal.{Refusal}

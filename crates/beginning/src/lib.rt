@@ -1,5 +1,6 @@
 // The beginning of a played station: what it keeps of a passed plan and table, and its starting modes.
 #![tactic(auto)]
+
 ghost use Rattle.rules.specs.Station as rules;
 ghost use Rattle.stationruns.specs.Inputs.{starting_at};
 ghost use Rattle.beginning.specs.Begins.{Begins};
