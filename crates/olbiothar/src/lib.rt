@@ -13,6 +13,7 @@ ghost use Rattle.rules.specs.Station.{begin};
 ghost use Rattle.stationruns.specs.Inputs.{starting_at};
 ghost use Rattle.olbiothar.specs.Playing.{BeginsIn, Ticks, begun_by};
 ghost use Rattle.station.specs.Memory.{kept_of, state_of};
+ghost use Rattle.station.specs.Parts.{Valued};
 ghost use Rattle.outward.specs.Seen.{module_now, task_now, time_now};
 ghost use Rattle.olbiothar.specs.Sheets.{back_said, has_room, is_read, sheet_left, sheet_said, table_left, table_said};
 
@@ -142,10 +143,19 @@ pub fn olbiothar_begin(
     b.answer
 }
 
+// What the nodes hold landed and shown fits its type, as of every station. A look behind the reference makes the type's word known; nothing is
+// done with it.
+fn fits(station: &Station)
+    ensures { Valued station.now.nodes }
+{
+    let _looked = station.runs[0];
+}
+
 // One tick, in place; a refused one leaves the station as it stood.
 pub fn olbiothar_tick(station: &mut Station, input: Input) -> TickAnswer
     ensures { Ticks station.old input result station.new }
 {
+    fits(station);
     let first = answer_before_nodes(
         input,
         station.fixed,

@@ -33,7 +33,7 @@ node-fits : (node : Node) (vs : List Val) → Is N.the_row node vs → (t : ℕ)
 node-fits node vs is t =
     ap₂ (λ a b. a && b) (numbers_fit node.landed _ is.1.1.0.1.1 t) (numbers_fit node.shown _ is.1.1.1.0.1.1 t)
 
-nodes-fit : (nodes : List Node) (us : List Val)
+pub nodes-fit : (nodes : List Node) (us : List Val)
     → shadow (each (N.the_row).Denot (N.the_row).own_val nodes us) → Valued nodes
 unfolding is_value
 nodes-fit [] us e n t = refl
