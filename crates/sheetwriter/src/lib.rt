@@ -1,5 +1,6 @@
 // The sheet of a plan file and a table file, at the front of lent bytes (docs/RULES.md, section 17).
 #![tactic(auto)]
+
 ghost use Rattle.std.specs.Prelude.{◌≡◌, ◌+◌, ◌*◌, ◌≤◌, length};
 ghost use Rattle.std.proofs.lemmas.List.Edits.{sets};
 ghost use Rattle.rules.specs.Limits.{longest_sheet, most_nodes, most_frames};

@@ -1,0 +1,42 @@
+-- A plan that is not read (`way_unread`), one that is not laid out (`way_unlaid`), else what `by_plan` promises (`way_on`); it is read in the
+-- edition that the table's first byte says.
+use mathlib.Core.Path.{refl}
+use native.Mathlib.Omega.{arith}
+use Rattle.line.proofs.Reading.{sound-kept}
+use Rattle.sheetwriter.proofs.Ways.{way_unread, way_unlaid, way_ready, way_on}
+use Rattle.sheetwriter.proofs.write.Goals as goal
+
+pub returns-in-Refused : goal.returns-in-Refused
+returns-in-Refused c =
+    let a = c.args in
+    let read = rw c.is_for_consumers.ensures at c.read_in-reading.ensures in record { writes = way_unread a.plan.now a.table.now _ read _ c.in-Refused.is c.refused.ensures.prints; few = omega (arith, c.refused.ensures.few) }
+
+pub of_plan-laid-requires : goal.of_plan-laid-requires
+of_plan-laid-requires c =
+    let a = c.args in
+    record { plan_kept = sound-kept _ a.plan.now _ c.read_in-reading.ensures c.in_default.is; tasks_value = (refl, refl, refl) }
+
+pub returns-in-Refused-placed : goal.returns-in-Refused-placed
+returns-in-Refused-placed c =
+    let a = c.args in
+    let read = rw c.is_for_consumers.ensures at c.read_in-reading.ensures in record {
+      writes = way_unlaid a.plan.now a.table.now _ read c.in_default.is _ c.of_plan-laid.ensures _
+          c.in-Refused-placed.is c.refused-in-Refused-placed.ensures.prints;
+      few = omega (arith, c.refused-in-Refused-placed.ensures.few);
+    }
+
+pub by_plan-requires : goal.by_plan-requires
+by_plan-requires c =
+    let a = c.args in
+    let read = rw c.is_for_consumers.ensures at c.read_in-reading.ensures in
+    way_ready a.plan.now a.table.now _ read c.in_default.is _ c.of_plan-laid.ensures
+    c.in_default-placed.is
+
+pub returns : goal.returns
+returns c =
+    let a = c.args in
+    let read = rw c.is_for_consumers.ensures at c.read_in-reading.ensures in record {
+      writes = way_on a.plan.now a.table.now _ read c.in_default.is _ c.of_plan-laid.ensures
+          c.in_default-placed.is c.by_plan.ensures.prints;
+      few = c.by_plan.ensures.few;
+    }
