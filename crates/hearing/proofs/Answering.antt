@@ -14,11 +14,10 @@ use Rattle.text.specs.Text.{ascii, numbered_line, refused_line}
 use Rattle.stationmoves.specs.declared.Said.{Said}
 use Rattle.stationmoves.specs.declared.Said.TheVariants.{Control, Data, Quiet, Refused}
 use Rattle.stationnodes.specs.declared.Node.{Node}
-use Rattle.station.specs.Memory.{laid}
-use Rattle.station.specs.Answers.{Answers, outcome, row_said}
+use Rattle.station.specs.Answers.{Answers, outcome}
 use Rattle.station.specs.declared.Station.{Station}
 use Rattle.station.specs.declared.Ticked.{Ticked}
-use Rattle.beginning.specs.Begins.{Begins, verdict, station_for}
+use Rattle.beginning.specs.Begins.{Begins, verdict}
 use Rattle.starting.specs.declared.Begun.{Begun}
 use Rattle.hearing.specs.Heard.{begun_by, has_begun, is_changed, is_fine, quiet_said, tick_text}
 use Rattle.hearing.specs.declared.Heard.{Heard}

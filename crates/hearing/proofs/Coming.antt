@@ -12,7 +12,7 @@ use Prim.Native.Nat.{ℕ, zero, suc, ◌+◌, ◌-◌, ◌≤◌, ◌<◌, min}
 use Rattle.text.specs.Text.{run_on}
 use Rattle.text.specs.Lines.{is_other, line_end, one_line}
 use Rattle.text.proofs.Runs.{front-taken, is_feedless}
-use Rattle.hearing.specs.Heard.{heard_by, heard_line, unheard}
+use Rattle.hearing.specs.Heard.{heard_line, unheard}
 use Rattle.hearing.specs.Pieces.{Hearing, answered, at_end, hear_on, heard_all, is_stopped, last_heard, silence, with_byte}
 use Rattle.hearing.specs.declared.Heard.{Heard}
 use Rattle.hearing.specs.declared.Stage.{Stage}
@@ -116,7 +116,7 @@ module _ (plan table : List ℕ) where
       ∙ ap (λ (a : Hearing). hear_on plan table a (10 ∷ [])) (line-opens (record { lines = k; heard = h; opening = [] }) line e)
 
   -- nothing is heard behind a line that stops the history
-  stays : (k : ℕ) (h : Heard) (s : List ℕ) (x : Stage) → h.stage ≡ x → is_stopped x ≡ true → heard_line plan table k h s ≡ h
+  pub stays : (k : ℕ) (h : Heard) (s : List ℕ) (x : Stage) → h.stage ≡ x → is_stopped x ≡ true → heard_line plan table k h s ≡ h
   unfolding heard_line
   stays k h s Waits e q = absurd (true≢false (sym q))
   stays k h s (Plays begun) e q = absurd (true≢false (sym q))

@@ -1,6 +1,7 @@
 // A history is heard: each line is read as soon as it has come, what it says is done, and its answer is written to standard output
 // (docs/HISTORY.md). No contract can say what a write writes; what is written is pinned where it is put into a buffer.
 #![tactic(auto)]
+
 ghost use Rattle.std.specs.Prelude.{true, cond, leb, ◌≡◌, ◌≤◌, drop, length, take};
 ghost use Rattle.std.proofs.lemmas.List.Edits.{sets};
 ghost use Rattle.rules.specs.Station as rules;
@@ -227,7 +228,14 @@ fn stop(number: u64, station: Station) -> Spoken
 }
 
 // A line where none with a word has come before.
-fn hear_first(rt: HostRuntime, plan: &[u8], table: &[u8], number: u64, station: Station, line: Line) -> Spoken
+fn hear_first(
+    rt: HostRuntime,
+    plan: &[u8],
+    table: &[u8],
+    number: u64,
+    station: Station,
+    line: Line,
+) -> Spoken
     ensures { result.heard ≡ first_by plan.now table.now number station line line.what }
 {
     let what = line.what;
@@ -263,7 +271,14 @@ fn played_on(begun: bool, played: Played) -> Spoken
 }
 
 // A line behind the beginning.
-fn hear_later(rt: HostRuntime, rows: bool, number: u64, begun: bool, station: Station, line: Line) -> Spoken
+fn hear_later(
+    rt: HostRuntime,
+    rows: bool,
+    number: u64,
+    begun: bool,
+    station: Station,
+    line: Line,
+) -> Spoken
     ensures { result.fine ≡ true → result.heard ≡ later_by number begun station line line.what }
 {
     let what = line.what;
@@ -287,7 +302,15 @@ fn hear_later(rt: HostRuntime, rows: bool, number: u64, begun: bool, station: St
 }
 
 // A line, without its line feed; `number` is its number.
-fn hear(rt: HostRuntime, plan: &[u8], table: &[u8], rows: bool, heard: Heard, number: u64, s: &[u8]) -> Spoken
+fn hear(
+    rt: HostRuntime,
+    plan: &[u8],
+    table: &[u8],
+    rows: bool,
+    heard: Heard,
+    number: u64,
+    s: &[u8],
+) -> Spoken
     ensures { result.fine ≡ true → result.heard ≡ heard_line plan.now table.now number heard s.now }
 {
     let line = read_line(s);
@@ -326,7 +349,15 @@ fn is_over(fine: bool, stage: Stage) -> bool
 }
 
 // The line that has no line feed at the end of a history, if one stands there.
-fn hear_last(rt: HostRuntime, plan: &[u8], table: &[u8], rows: bool, heard: Heard, lines: u64, s: &[u8]) -> Spoken
+fn hear_last(
+    rt: HostRuntime,
+    plan: &[u8],
+    table: &[u8],
+    rows: bool,
+    heard: Heard,
+    lines: u64,
+    s: &[u8],
+) -> Spoken
     requires { lines ≤ 18446744073709551614 }
     ensures { result.fine ≡ true → result.heard ≡ last_heard plan.now table.now lines heard s.now }
 {
@@ -337,7 +368,9 @@ fn hear_last(rt: HostRuntime, plan: &[u8], table: &[u8], rows: bool, heard: Hear
 }
 
 // The end of a history whose lines in front of a place were heard. A history that is too long has no last line.
-fn hear_end(rt: HostRuntime, plan: &[u8],
+fn hear_end(
+    rt: HostRuntime,
+    plan: &[u8],
     table: &[u8],
     rows: bool,
     heard: Heard,
