@@ -1,7 +1,7 @@
 -- Demand 3 of the program, by the contract of `attend` alone: the station after a history file is the one that calls of `tick` lead to,
 -- those that the lines behind the first ask for, so what it shows is told by the history of those that are accepted: in the basic edition
 -- all of it, in either edition where it is read and on a task's own node.
-use mathlib.Core.Path.{◌≡◌, refl, sym, ap, ◌∙◌}
+use mathlib.Core.Path.{◌≡◌, refl, ap, ◌∙◌}
 use mathlib.Core.Bool.{true, false}
 use mathlib.Core.List.{List, [], ◌∷◌}
 use Prim.Native.Nat.{ℕ, suc}
@@ -15,7 +15,6 @@ use Rattle.rules.specs.Told.{ShowsTold, ShowsRead}
 use Rattle.rules.specs.Allowed.{Allowed}
 use Rattle.stationruns.specs.Inputs.{starting_at}
 use Rattle.station.specs.Memory.{state_of}
-use Rattle.station.specs.declared.Station.{Station}
 use Rattle.station.proofs.Plays.{Plays, after_calls, start, accepted_of, plays_calls}
 use Rattle.beginning.specs.Begins.{station_laid}
 use Rattle.beginning.proofs.Shown.{shows-told, shows-read, history-allowed}
