@@ -1,6 +1,6 @@
 -- Multiples of one number that are read with another: from a multiple of T on the first one that a multiple of U lies in or not yet a T
 -- behind; and the least number of a list, and of a row.
-use mathlib.Core.Path.{◌≡◌, refl, sym, ap, ◌∙◌}
+use mathlib.Core.Path.{◌≡◌, refl, sym}
 use mathlib.Core.List.{List, [], ◌∷◌, foldr, Memᴰ, ◌++◌}
 use mathlib.Core.Bool.{cond}
 use mathlib.Core.Logic.{◌⊎◌, inl, inr}
@@ -9,7 +9,7 @@ use native.Mathlib.Omega.{arith}
 use borrow.Author.Tests.{ne_eqb}
 use lib.Dec.{eqb}
 use lib.ListN.{length}
-use Prim.Native.Nat.{ℕ, ◌+◌, ◌*◌, ◌-◌, ◌/◌, ◌≤◌, ◌<◌, ◌∣◌, min, suc, zero-le, suc-le-suc}
+use Prim.Native.Nat.{ℕ, ◌+◌, ◌*◌, ◌-◌, ◌/◌, ◌≤◌, ◌<◌, ◌∣◌, min, zero-le, suc-le-suc}
 use Rattle.laws.specs.Lists.{tab}
 use Rattle.laws.specs.Numbers.{ceil, up, down, least}
 use Rattle.laws.proofs.Lists.{length-tab}

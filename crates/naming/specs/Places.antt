@@ -1,6 +1,5 @@
 -- Places of arrays: stores and look-ups that ask nothing of the place, the first place that passes a test, marks.
 use Rattle.std.specs.Prelude.{Bool, true, false, cond, ◌&&◌, not, List, eqb, ltb, get_or, set, replicate, ℕ, zero, suc, ◌+◌, ◌*◌, ◌≤◌, ◌<◌}
-use Rattle.std.proofs.Math.Option.{Option, none, some}
 use Rattle.laws.specs.Loops.{placed}
 use Rattle.rules.specs.Limits.{most_frames}
 

@@ -1,5 +1,6 @@
 // Numbers read from lent arrays, zero behind their end: total, so that no caller has to show anything.
 #![tactic(auto)]
+
 ghost use Rattle.std.specs.Prelude.{◌≡◌, ◌<◌, get_or};
 ghost use Rattle.places.specs.Bits.{bit_at};
 ghost use Rattle.places.specs.Flags.{flag_at, flag_byte, is_set};

@@ -4,7 +4,7 @@ use mathlib.Core.Bool.{◌&&◌}
 use mathlib.Core.List.{map}
 use lib.ListN.{length, take}
 use Prim.Native.Nat.{ℕ, ◌+◌, ◌≤◌, ◌<◌, min}
-use Rattle.laws.specs.Res.{ok, at, ◌>>◌}
+use Rattle.laws.specs.Res.{ok, at}
 use Rattle.laws.specs.Lists.{first_bad, is_fresh, up_to}
 use Rattle.laws.proofs.Lists.{length-up_to}
 use Rattle.laws.proofs.Res.{then_ok, then_refuse}

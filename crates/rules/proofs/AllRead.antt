@@ -1,5 +1,5 @@
 -- AllRead: of a task that is not thinned every message is read; in the basic edition no task is thinned.
-use mathlib.Core.Path.{◌≡◌, refl}
+use mathlib.Core.Path.{◌≡◌}
 use mathlib.Core.Bool.{true, false}
 use native.Mathlib.Nat.{div-one, mul-one}
 use native.Mathlib.Omega.{arith}

@@ -10,7 +10,7 @@ use lib.ListN.{length, get_or, take, drop}
 use lib.Seq.{length-take-le, get_or-take}
 use Prim.Native.Nat.{ℕ, ◌+◌, ◌≤◌, ◌<◌}
 use Rattle.laws.specs.Res.{Res, ok, refuse}
-use Rattle.laws.specs.Lists.{any, all}
+use Rattle.laws.specs.Lists.{any}
 use Rattle.laws.specs.Faults.{Rule, IsKept, AllKept, CountUp}
 use Rattle.laws.proofs.Lists.{true-false, all_map, any-joined}
 use Rattle.laws.proofs.Tests.{Tests, by_iff, by_itself, by_and, by_not, by_any, by_eq, by_le, by_divides, by_each, by_some}

@@ -10,7 +10,7 @@ use Rattle.laws.specs.Res.{ok}
 use Rattle.laws.specs.Lists.{joined}
 use Rattle.laws.proofs.Members.{All, empty, also, all_weaker, all_of_members, all_unmap, member_get_or}
 use Rattle.rules.specs.Plan.{Plan, the_task}
-use Rattle.rules.specs.Traffic.{traffic, bus_period}
+use Rattle.rules.specs.Traffic.{traffic}
 use Rattle.rules.specs.Frames.{Pair, pairs, sending_time, gap_time, cycle_end, control_end, Layout, layout_of}
 use Rattle.rules.specs.LatestRelease.{numbered_from, Placed, no_pair, place, time_alone, latest_release}
 use Rattle.rules.specs.Table.{

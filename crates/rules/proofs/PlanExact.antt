@@ -58,7 +58,7 @@ use Rattle.rules.specs.Plan.{
   rule5,
   read_plan,
 }
-use Rattle.rules.specs.Traffic.{task_node, invokes, leaves, is_bus_task, bus_tasks, bus_period, switch_grid, control_payload, is_sending_node, sending_nodes, traffic}
+use Rattle.rules.specs.Traffic.{task_node, invokes, leaves, is_bus_task, bus_tasks, control_payload, is_sending_node, sending_nodes, traffic}
 use Rattle.rules.specs.Frames.{Layout, pairs, control_end, some_bus_task, message_fits, control_fits, payloads_fit, layout_of, layout}
 use Rattle.rules.specs.Obeys.{AreRecords, the_end, one_more}
 use Rattle.rules.specs.ObeysPlan.{

@@ -20,7 +20,7 @@ use Rattle.laws.proofs.Orders.{le-or-lt}
 use Rattle.laws.proofs.Members.{All, empty, also, all_weaker, all_get_d, all-get_or-or, all_of_places, any_member}
 use Rattle.laws.proofs.Faults.{by_failed, by_fails, unless-refused}
 use Rattle.rules.specs.Plan.{Mode, Task, Invocation, Plan, no_mode, no_task, the_mode, the_task, period_of}
-use Rattle.rules.specs.Traffic.{module_node, bus_period, traffic}
+use Rattle.rules.specs.Traffic.{module_node, traffic}
 use Rattle.rules.specs.Frames.{Pair, pairs, ControlRow, no_control_row, control_rows, Layout, layout_of}
 use Rattle.rules.specs.LatestRelease.{no_pair}
 use Rattle.rules.specs.Checker.{Named, Row, TableRead, table_of, control_at, no_row, row_at, is_pair_of, holds_pair, row_holding, Passed, check_files, is_for_consumers}

@@ -10,7 +10,7 @@ use borrow.Author.Tests.{ltb-true, eqb-true, eqb-false, eq-eqb, ne_eqb, lt-ltb, 
 use lib.Dec.{eqb, ltb}
 use lib.ListN.{length}
 use Prim.Native.Nat.{ℕ, ◌<◌}
-use Rattle.laws.specs.Res.{ok, ◌>>=◌, at}
+use Rattle.laws.specs.Res.{ok, at}
 use Rattle.laws.specs.Lists.{any, first_bad, up_to}
 use Rattle.laws.proofs.Lists.{true-false, both, both_left, both_right, neither_left, neither_right, tested}
 use Rattle.laws.proofs.Loops.{first_bad-up_to-passes}

@@ -12,12 +12,12 @@ use Rattle.laws.specs.Lists.{up_to}
 use Rattle.laws.specs.Numbers.{ceil}
 use Rattle.laws.proofs.Lists.{both, true-false}
 use Rattle.laws.proofs.Divisors.{ceil-enough, up-enough}
-use Rattle.laws.proofs.Members.{All, empty, also, all_weaker, all_member, all_get_d, all_of_places}
+use Rattle.laws.proofs.Members.{All, empty, also, all_weaker, all_member, all_get_d}
 use Rattle.laws.proofs.Members.{member_map, pairs-get_or, chain_pairs, member_get_or, member_tab, keep_member, keep-passes}
 use Rattle.laws.proofs.Orders.{compare_case}
 use Rattle.laws.proofs.Places.{member_place, member_some}
 use Rattle.laws.proofs.Tests.{by_same, by_itself}
-use Rattle.rules.specs.Plan.{Bus, Invocation, Plan, no_mode, no_task, no_invocation, the_mode, the_task, the_invocation, period_of}
+use Rattle.rules.specs.Plan.{Bus, Plan, no_mode, no_task, the_mode, the_task, period_of}
 use Rattle.rules.specs.Traffic.{module_node, is_bus_task, is_sending, stands_on, senders_on, control_payload, is_sending_node}
 use Rattle.rules.specs.Traffic.{sending_nodes, of_bus_task, run_of, bus_runs, of_sender, traffic, has}
 use Rattle.rules.specs.Frames.{Pair, pairs, has_of, of_bits, on_bus, sending_time, gap_time, ControlRow, no_control_row}

@@ -15,7 +15,7 @@ use lib.Dec.{eqb}
 use lib.ListN.{length}
 use Prim.Native.Nat.{ℕ, ◌+◌, ◌-◌, ◌%◌, ◌≤◌, ◌<◌, ◌∣◌}
 use Rattle.laws.specs.Res.{ok}
-use Rattle.laws.specs.Lists.{keep, any}
+use Rattle.laws.specs.Lists.{any}
 use Rattle.laws.specs.Numbers.{up}
 use Rattle.laws.proofs.Members.{all_member, any-among, keep_member, member_map}
 use Rattle.laws.proofs.Tests.{by_or, by_eq}

@@ -9,7 +9,7 @@ use Rattle.laws.specs.Numbers.{divides, ceil, up, sum, greatest}
 use Rattle.rules.specs.Limits.{most_frames}
 use Rattle.rules.specs.Plan.{Bus, Plan, the_mode, the_task}
 use Rattle.rules.specs.Records.{head_kind}
-use Rattle.rules.specs.Traffic.{is_bus_task, bus_tasks, control_payload, sending_nodes, Message, Traffic, traffic, has}
+use Rattle.rules.specs.Traffic.{is_bus_task, bus_tasks, control_payload, sending_nodes, Message, traffic, has}
 
 -- A pair of task and deadline with its release (rule 4.7): a frame, as long as no two share one.
 pub record Pair : Type 0 where

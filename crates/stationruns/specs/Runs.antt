@@ -1,7 +1,6 @@
 -- The run of a task on arrays: its period in the mode that runs, its age, and what 41, 43 and the end of a run ask of it.
 use Rattle.std.specs.Prelude.{Bool, not, ◌&&◌, List, eqb, leb, ltb, get_or, ℕ, ◌+◌, ◌-◌, ◌*◌, ◌%◌}
 use Rattle.laws.specs.Numbers.{divides}
-use Rattle.laws.specs.Res.{◌>>◌}
 use Rattle.rules.specs.Limits.{most_tasks}
 use Rattle.stationruns.specs.declared.Run.{Run}
 

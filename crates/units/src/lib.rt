@@ -1,6 +1,7 @@
 // The sorts of number that are never mixed (rule 1.3): a tuple struct for each, with its limit where section 3 of docs/RULES.md sets one.
 // Each limit has a function whose contract says the number, so that no other constant is proved.
 #![tactic(auto)]
+
 ghost use Rattle.std.specs.Prelude.{◌≡◌};
 
 // Time, in ticks of one microsecond.

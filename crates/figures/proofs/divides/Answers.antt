@@ -1,5 +1,4 @@
 -- The promise of `rest` is rewritten: the test is the definition's own.
-use borrow.Author.Rules.{rules}
 use Rattle.figures.proofs.divides.Goals as goal
 
 pub returns : goal.returns

@@ -1,8 +1,6 @@
-use borrow.Author.Rules.{rules}
-use mathlib.Core.Path.{◌≡◌, refl, sym, ◌∙◌}
+use mathlib.Core.Path.{refl, sym, ◌∙◌}
 use native.Mathlib.Nat.{mod-lt}
 use Prim.Native.Nat.{◌<◌}
-use Rattle.laws.specs.Numbers.{gcd}
 use Rattle.laws.proofs.Divisors.{gcd-step, gcd-zero}
 use native.Mathlib.Omega.{arith}
 use Rattle.figures.proofs.gcd.Goals as goal

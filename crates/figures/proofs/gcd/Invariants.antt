@@ -1,11 +1,6 @@
 -- Invariant: the gcd of the pair held is that of the pair given; each turn is `gcd-step`, and the remainder is below the divisor.
-use borrow.Author.Rules.{rules}
-use mathlib.Core.Path.{◌≡◌, refl, sym, ◌∙◌}
-use native.Mathlib.Nat.{mod-lt}
-use Prim.Native.Nat.{◌<◌}
+use mathlib.Core.Path.{◌≡◌}
 use Rattle.laws.specs.Numbers.{gcd}
-use Rattle.laws.proofs.Divisors.{gcd-step, gcd-zero}
-use native.Mathlib.Omega.{arith}
 use Rattle.figures.proofs.gcd.Given as goal
 
 abbrev pub invariant-loop-y : goal.invariant-loop-y

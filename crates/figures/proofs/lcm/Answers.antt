@@ -8,7 +8,6 @@ use Prim.Native.Nat.{ℕ, ◌/◌, ◌-◌, ◌≤◌, ◌<◌, ◌^◌}
 use Rattle.laws.specs.Numbers.{divides, gcd, lcm}
 use Rattle.laws.proofs.Lists.{true-false}
 use Rattle.laws.proofs.Divisors.{divides-true, divides-is, gcd_right, lcm_unique}
-use borrow.Author.Rules.{rules}
 use Rattle.figures.proofs.lcm.Goals as goal
 
 -- two numbers of which the first does not divide the second are not both 0

@@ -1,7 +1,6 @@
 -- Two cases: by 0 the rest is the number itself (`mod-zero`); else it is the remainder itself.
 use mathlib.Core.Path.{sym}
 use native.Mathlib.Nat.{mod-zero}
-use borrow.Author.Rules.{rules}
 use Rattle.figures.proofs.rest.Goals as goal
 
 pub returns-then-b-eq0 : goal.returns-then-b-eq0

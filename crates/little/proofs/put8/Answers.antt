@@ -4,7 +4,6 @@ use mathlib.Core.List.{◌∷◌, []}
 use Prim.Native.Nat.{◌%◌}
 use native.Mathlib.Omega.{arith}
 use Rattle.laws.proofs.Little.{stored_sets}
-use borrow.Author.Rules.{rules}
 use Rattle.little.proofs.put8.Goals as goal
 
 pub returns : goal.returns

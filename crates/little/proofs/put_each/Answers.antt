@@ -1,7 +1,6 @@
 -- The four bytes stored one by one are the number's (`stored_sets`).
 use Rattle.laws.specs.Numbers.{bytes}
 use Rattle.laws.proofs.Little.{stored_sets}
-use borrow.Author.Rules.{rules}
 use Rattle.little.proofs.put_each.Goals as goal
 
 pub returns : goal.returns

@@ -6,7 +6,6 @@ use native.Mathlib.Nat.{add-zero}
 use Rattle.laws.specs.Numbers.{bytes}
 use Rattle.laws.proofs.Little.{stored_sets}
 use native.Mathlib.Omega.{arith}
-use borrow.Author.Rules.{rules}
 use Rattle.little.proofs.put_whole.Goals as goal
 
 pub bounds-buf-at-2 : goal.bounds-buf-at-2

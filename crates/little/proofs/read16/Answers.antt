@@ -6,7 +6,6 @@ use lib.ListN.{length, get_or}
 use lib.Dec.{leb}
 use native.Mathlib.Omega.{arith}
 use Rattle.laws.proofs.Little.{number_added}
-use borrow.Author.Rules.{rules}
 use borrow.Author.Tests.{leb-true}
 use Rattle.std.proofs.Common.{◌≡◌, List, Bool, true}
 use Rattle.little.proofs.read16.Goals as goal

@@ -1,7 +1,6 @@
 -- The byte read is the number that it stands for (`number_added`).
 use native.Mathlib.Omega.{arith}
 use Rattle.laws.proofs.Little.{number_added}
-use borrow.Author.Rules.{rules}
 use Rattle.little.proofs.read8.Goals as goal
 
 pub returns : goal.returns

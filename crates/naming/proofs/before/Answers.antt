@@ -1,8 +1,6 @@
-use Prim.Native.Nat.{◌-◌}
 use native.Mathlib.Omega.{arith}
 use Rattle.naming.specs.Places.{key_at}
-use Rattle.naming.proofs.Names.{Bracket, bracket_start, bracket_end, bracket_up, bracket_down}
-use borrow.Author.Rules.{rules}
+use Rattle.naming.proofs.Names.{bracket_start, bracket_end, bracket_up, bracket_down}
 use Rattle.naming.proofs.before.Goals as goal
 
 pub loop-low-init : goal.loop-low-init

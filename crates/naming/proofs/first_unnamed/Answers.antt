@@ -1,10 +1,7 @@
-use mathlib.Core.Path.{◌≡◌, refl}
-use mathlib.Core.Option.{none}
-use Prim.Native.Nat.{◌-◌, ◌≤◌}
+use mathlib.Core.Path.{refl}
 use native.Mathlib.Omega.{arith}
-use Rattle.laws.specs.Lists.{first_bad, up_to}
 use Rattle.laws.proofs.Loops.{first_bad-up_to_more}
-use Rattle.naming.specs.Places.{marks, is_new}
+use Rattle.naming.specs.Places.{is_new}
 use Rattle.naming.proofs.Places.{scan_hit, scan_end, new-past, new-again, new-first, marks_more}
 use borrow.Author.Rules.{rules}
 use Rattle.naming.proofs.first_unnamed.Goals as goal

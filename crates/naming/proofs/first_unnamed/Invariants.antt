@@ -1,13 +1,9 @@
 -- Invariant: the rows so far are new, and their `marks` are set; a row past the frames or marked is the hit (`scan_hit`).
-use mathlib.Core.Path.{◌≡◌, refl}
+use mathlib.Core.Path.{◌≡◌}
 use mathlib.Core.Option.{none}
 use Prim.Native.Nat.{◌-◌, ◌≤◌}
-use native.Mathlib.Omega.{arith}
 use Rattle.laws.specs.Lists.{first_bad, up_to}
-use Rattle.laws.proofs.Loops.{first_bad-up_to_more}
 use Rattle.naming.specs.Places.{marks, is_new}
-use Rattle.naming.proofs.Places.{scan_hit, scan_end, new-past, new-again, new-first, marks_more}
-use borrow.Author.Rules.{rules}
 use Rattle.naming.proofs.first_unnamed.Given as goal
 
 abbrev pub invariant-loop-k : goal.invariant-loop-k

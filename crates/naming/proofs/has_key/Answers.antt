@@ -1,7 +1,6 @@
 -- Both exits compute: the test decides that of `has_key`.
 use borrow.Author.Tests.{lt-ltb, le-ltb}
 use Rattle.naming.specs.Places.{key_at, has_key}
-use borrow.Author.Rules.{rules}
 use Rattle.naming.proofs.has_key.Goals as goal
 
 pub returns-then-k-frames : goal.returns-then-k-frames

@@ -1,7 +1,6 @@
 -- No two frames have one key, so where it stands is the number (`look_found`); else the search missed it (`look_missed`).
 use Rattle.naming.proofs.Names.{look_found, look_missed}
 use native.Mathlib.Omega.{arith}
-use borrow.Author.Rules.{rules}
 use Rattle.naming.proofs.number_of.Goals as goal
 
 pub has_key-requires : goal.has_key-requires

@@ -1,9 +1,5 @@
 use mathlib.Core.Path.{◌≡◌}
-use Prim.Native.Nat.{◌-◌, ◌≤◌}
 use native.Mathlib.Omega.{arith}
-use lib.ListN.{replicate}
-use Rattle.rules.specs.Limits.{most_frames}
-use Rattle.laws.specs.Loops.{stores}
 use Rattle.laws.proofs.Loops.{stores_turn}
 use Rattle.naming.specs.Places.{number_at}
 use borrow.Author.Rules.{rules}

@@ -1,13 +1,10 @@
 -- Invariant: the first k places are filled by `number_at` (`stores`); a turn is `stores_turn` on what `number_of` promises.
 use mathlib.Core.Path.{◌≡◌}
 use Prim.Native.Nat.{◌-◌, ◌≤◌}
-use native.Mathlib.Omega.{arith}
 use lib.ListN.{replicate}
 use Rattle.rules.specs.Limits.{most_frames}
 use Rattle.laws.specs.Loops.{stores}
-use Rattle.laws.proofs.Loops.{stores_turn}
 use Rattle.naming.specs.Places.{number_at}
-use borrow.Author.Rules.{rules}
 use Rattle.naming.proofs.numbers.Given as goal
 
 abbrev pub invariant-loop-k : goal.invariant-loop-k

@@ -1,7 +1,5 @@
 use mathlib.Core.Path.{◌≡◌}
-use Prim.Native.Nat.{◌-◌, ◌≤◌}
 use native.Mathlib.Omega.{arith}
-use Rattle.naming.specs.Places.{spread}
 use Rattle.naming.proofs.Places.{spread_more, spread-past}
 use borrow.Author.Rules.{rules}
 use Rattle.naming.proofs.starts_by_frame.Goals as goal

@@ -1,10 +1,7 @@
 -- Invariant: the first k starts are laid out (`spread`); a turn lays one (`spread_more`), or none (`spread-past`).
 use mathlib.Core.Path.{◌≡◌}
 use Prim.Native.Nat.{◌-◌, ◌≤◌}
-use native.Mathlib.Omega.{arith}
 use Rattle.naming.specs.Places.{spread}
-use Rattle.naming.proofs.Places.{spread_more, spread-past}
-use borrow.Author.Rules.{rules}
 use Rattle.naming.proofs.starts_by_frame.Given as goal
 
 abbrev pub invariant-loop-k : goal.invariant-loop-k

@@ -1,6 +1,5 @@
 -- Two cases: within the slice its byte is set or not; behind its end stands 0, which is not set (`ListN.get_or-eq_default`).
 use lib.ListN.{get_or-eq_default}
-use borrow.Author.Rules.{rules}
 use Rattle.places.proofs.flag_at.Goals as goal
 
 pub returns-else-i-a : goal.returns-else-i-a

@@ -1,8 +1,6 @@
 -- A shift by a place below the width is the definition; from the width on the word has no bit.
-use mathlib.Core.Path.{◌≡◌, refl, sym}
-use borrow.Author.Rules.{rules}
+use mathlib.Core.Path.{refl, sym}
 use native.Mathlib.Omega.{arith}
-use borrow.Author.Tests.{ltb-false}
 use Rattle.places.specs.Bits.{bit_at}
 use Rattle.places.proofs.Bits.{no_bit}
 use Rattle.places.proofs.has_bit.Goals as goal

@@ -1,12 +1,6 @@
 use borrow.Author.Rules.{rules}
-use borrow.Author.Tests.{not-true, not-false}
-use mathlib.Core.Path.{◌≡◌, refl, sym, ◌∙◌}
-use mathlib.Core.Option.{none}
-use mathlib.Core.List.{map}
+use mathlib.Core.Path.{refl, sym, ◌∙◌}
 use native.Mathlib.Omega.{arith}
-use lib.ListN.{take}
-use Prim.Native.Nat.{◌-◌, ◌≤◌}
-use Rattle.laws.specs.Lists.{first_bad}
 use Rattle.rules.specs.Plan.{switch_divides, no_mode}
 use Rattle.plan.specs.Memory.{mode_seen, mode_laid}
 use Rattle.planfits.proofs.ArrayScans.{bad_part_hit, bad_part_more, bad_part_end}

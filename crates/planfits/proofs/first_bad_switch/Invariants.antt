@@ -1,16 +1,12 @@
 -- Invariant: the first k modes pass (`bad_part_more`). One that fails ends the scan (`bad_part_hit`); else `bad_part_end`.
-use borrow.Author.Rules.{rules}
-use borrow.Author.Tests.{not-true, not-false}
-use mathlib.Core.Path.{◌≡◌, refl, sym, ◌∙◌}
+use mathlib.Core.Path.{◌≡◌}
 use mathlib.Core.Option.{none}
 use mathlib.Core.List.{map}
-use native.Mathlib.Omega.{arith}
 use lib.ListN.{take}
 use Prim.Native.Nat.{◌-◌, ◌≤◌}
 use Rattle.laws.specs.Lists.{first_bad}
-use Rattle.rules.specs.Plan.{switch_divides, no_mode}
-use Rattle.plan.specs.Memory.{mode_seen, mode_laid}
-use Rattle.planfits.proofs.ArrayScans.{bad_part_hit, bad_part_more, bad_part_end}
+use Rattle.rules.specs.Plan.{switch_divides}
+use Rattle.plan.specs.Memory.{mode_seen}
 use Rattle.planfits.proofs.first_bad_switch.Given as goal
 
 abbrev pub invariant-loop-k : goal.invariant-loop-k

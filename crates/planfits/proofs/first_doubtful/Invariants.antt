@@ -1,19 +1,13 @@
 -- As `first_repeat`, with one more way out: a connection from a task to itself (`own_doubtful`).
-use borrow.Author.Rules.{rules}
-use mathlib.Core.Path.{◌≡◌, refl}
+use mathlib.Core.Path.{◌≡◌}
 use mathlib.Core.Bool.{false}
 use mathlib.Core.List.{map}
 use mathlib.Core.Option.{none}
-use native.Mathlib.Omega.{arith}
-use lib.ListN.{length, get_or, take}
+use lib.ListN.{get_or, take}
 use Prim.Native.Nat.{◌-◌, ◌≤◌}
 use Rattle.laws.specs.Lists.{any, first_bad, up_to}
-use Rattle.laws.proofs.Loops.{first_bad-up_to_more}
 use Rattle.rules.specs.Plan.{same_ends, connection_keeps, no_connection}
-use Rattle.plan.specs.Memory.{connection_seen, connection_laid}
-use Rattle.planfits.proofs.Places.{met_up_to, none-up_to}
-use Rattle.planfits.proofs.Repeats.{pair_missed, pair_met, none_repeated}
-use Rattle.planfits.proofs.Doubtless.{own_doubtful, doubtless_if}
+use Rattle.plan.specs.Memory.{connection_seen}
 use Rattle.planfits.proofs.first_doubtful.Given as goal
 
 abbrev pub invariant-loop-earlier : goal.invariant-loop-earlier

@@ -1,11 +1,7 @@
 use borrow.Author.Rules.{rules}
-use borrow.Author.Tests.{not-true, not-false}
-use mathlib.Core.Path.{◌≡◌, refl, sym, ◌∙◌}
-use mathlib.Core.Option.{none}
+use mathlib.Core.Path.{refl, sym, ◌∙◌}
 use native.Mathlib.Omega.{arith}
 use lib.ListN.{length}
-use Prim.Native.Nat.{◌-◌, ◌≤◌}
-use Rattle.laws.specs.Lists.{first_bad, up_to}
 use Rattle.laws.proofs.Loops.{first_bad-up_to_more}
 use Rattle.plan.specs.Memory.{seen, mode_laid, task_laid, invocation_laid}
 use Rattle.plan.proofs.Sizes.{sizes}

@@ -1,12 +1,9 @@
 use borrow.Author.Rules.{rules}
-use mathlib.Core.Path.{◌≡◌, refl}
-use mathlib.Core.Bool.{false}
+use mathlib.Core.Path.{refl}
 use mathlib.Core.List.{map}
-use mathlib.Core.Option.{none}
 use native.Mathlib.Omega.{arith}
-use lib.ListN.{get_or, take}
-use Prim.Native.Nat.{◌-◌, ◌≤◌}
-use Rattle.laws.specs.Lists.{any, first_bad, is_fresh, up_to}
+use lib.ListN.{take}
+use Rattle.laws.specs.Lists.{is_fresh}
 use Rattle.laws.proofs.Loops.{first_bad-up_to_more}
 use Rattle.rules.specs.Plan.{same_run, no_invocation}
 use Rattle.plan.specs.Memory.{invocation_seen, invocation_laid}

@@ -1,18 +1,13 @@
 -- Outer invariant: the first `later` are fresh; inner: none of the first `earlier` is the same run. A pair met is `pair_met`.
-use borrow.Author.Rules.{rules}
-use mathlib.Core.Path.{◌≡◌, refl}
+use mathlib.Core.Path.{◌≡◌}
 use mathlib.Core.Bool.{false}
 use mathlib.Core.List.{map}
 use mathlib.Core.Option.{none}
-use native.Mathlib.Omega.{arith}
 use lib.ListN.{get_or, take}
 use Prim.Native.Nat.{◌-◌, ◌≤◌}
 use Rattle.laws.specs.Lists.{any, first_bad, is_fresh, up_to}
-use Rattle.laws.proofs.Loops.{first_bad-up_to_more}
 use Rattle.rules.specs.Plan.{same_run, no_invocation}
-use Rattle.plan.specs.Memory.{invocation_seen, invocation_laid}
-use Rattle.planfits.proofs.Places.{met_up_to, none-up_to}
-use Rattle.planfits.proofs.Repeats.{pair_missed, pair_met, none_repeated}
+use Rattle.plan.specs.Memory.{invocation_seen}
 use Rattle.planfits.proofs.first_repeat.Given as goal
 
 abbrev pub invariant-loop-earlier : goal.invariant-loop-earlier

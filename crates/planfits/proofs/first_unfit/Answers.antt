@@ -1,9 +1,8 @@
 -- Five exits, each a case of `rule5`: `unfit_module`, `unfit_mode`, `unfit_invocation`, `doubtful_connection`, `all_fit`; `few` bounds
 -- each sum.
-use borrow.Author.Rules.{rules}
 use native.Mathlib.Omega.{arith}
 use Prim.Native.Nat.{◌+◌, ◌≤◌}
-use Rattle.planfits.proofs.LowestUnfit.{Scanned, unfit_module, unfit_mode, scanned, unfit_invocation, doubtful_connection, all_fit}
+use Rattle.planfits.proofs.LowestUnfit.{unfit_module, unfit_mode, scanned, unfit_invocation, doubtful_connection, all_fit}
 use Prim.Native.Nat.{ℕ}
 use Rattle.rules.specs.Limits.{most_modules, most_modes, most_tasks, most_invocations}
 use Rattle.planfits.proofs.first_unfit.Goals as goal

@@ -1,11 +1,7 @@
 use borrow.Author.Rules.{rules}
-use borrow.Author.Tests.{not-true, not-false}
-use mathlib.Core.Path.{◌≡◌, refl, sym, ◌∙◌}
+use mathlib.Core.Path.{refl, sym, ◌∙◌}
 use mathlib.Core.List.{map}
-use mathlib.Core.Option.{none}
 use lib.ListN.{take}
-use Prim.Native.Nat.{◌-◌, ◌≤◌}
-use Rattle.laws.specs.Lists.{first_bad, up_to}
 use Rattle.laws.proofs.Loops.{first_bad-up_to_more}
 use Rattle.plan.specs.Memory.{mode_seen}
 use Rattle.planfits.specs.Fits.{has_mode_in}

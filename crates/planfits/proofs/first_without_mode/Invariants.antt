@@ -1,16 +1,12 @@
 -- Invariant: the first m modules have a mode. One that has none ends the scan (`met_up_to`); else `none-up_to`.
-use borrow.Author.Rules.{rules}
-use borrow.Author.Tests.{not-true, not-false}
-use mathlib.Core.Path.{◌≡◌, refl, sym, ◌∙◌}
+use mathlib.Core.Path.{◌≡◌}
 use mathlib.Core.List.{map}
 use mathlib.Core.Option.{none}
 use lib.ListN.{take}
 use Prim.Native.Nat.{◌-◌, ◌≤◌}
 use Rattle.laws.specs.Lists.{first_bad, up_to}
-use Rattle.laws.proofs.Loops.{first_bad-up_to_more}
 use Rattle.plan.specs.Memory.{mode_seen}
 use Rattle.planfits.specs.Fits.{has_mode_in}
-use Rattle.planfits.proofs.Places.{met_up_to, none-up_to}
 use Rattle.planfits.proofs.first_without_mode.Given as goal
 
 abbrev pub invariant-loop-m : goal.invariant-loop-m

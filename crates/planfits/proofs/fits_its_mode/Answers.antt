@@ -1,5 +1,4 @@
 -- The promises of `quotient`, `divides` and `both` are rewritten into `fits_these`.
-use borrow.Author.Rules.{rules}
 use Rattle.plan.specs.Memory.{mode_seen, task_seen}
 use Rattle.planfits.specs.Fits.{fits_these}
 use Rattle.planfits.proofs.fits_its_mode.Goals as goal

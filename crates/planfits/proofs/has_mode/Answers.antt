@@ -1,12 +1,7 @@
 use borrow.Author.Rules.{rules}
 use borrow.Author.Tests.{eq-eqb, ne_eqb}
-use mathlib.Core.Path.{◌≡◌, refl, sym, ◌∙◌}
-use mathlib.Core.Bool.{false}
-use mathlib.Core.List.{map}
+use mathlib.Core.Path.{refl, sym}
 use native.Mathlib.Omega.{arith}
-use lib.ListN.{take}
-use Prim.Native.Nat.{◌-◌, ◌≤◌}
-use Rattle.laws.specs.Lists.{any}
 use Rattle.rules.specs.Plan.{is_home, no_mode}
 use Rattle.plan.specs.Memory.{mode_seen, mode_laid}
 use Rattle.planfits.specs.Fits.{has_mode_in}

@@ -1,5 +1,4 @@
 -- The promise of `both` is the statement, once `same_ends` is unfolded.
-use borrow.Author.Rules.{rules}
 use Rattle.rules.specs.Plan.{same_ends}
 use Rattle.plan.specs.Memory.{connection_seen}
 use Rattle.planfits.proofs.same_ends.Goals as goal

@@ -1,5 +1,4 @@
 -- The promise of `both` is the statement, once `same_run` is unfolded.
-use borrow.Author.Rules.{rules}
 use Rattle.rules.specs.Plan.{same_run}
 use Rattle.plan.specs.Memory.{invocation_seen}
 use Rattle.planfits.proofs.same_run.Goals as goal

@@ -1,5 +1,4 @@
 -- The promise of `divides` is the statement, once `switch_divides` is unfolded.
-use borrow.Author.Rules.{rules}
 use Rattle.rules.specs.Plan.{switch_divides}
 use Rattle.plan.specs.Memory.{mode_seen}
 use Rattle.planfits.proofs.switch_divides.Goals as goal

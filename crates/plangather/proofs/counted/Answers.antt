@@ -1,5 +1,4 @@
 -- Three exits: kind below 3, above 7, or a thing; the tests decide `is_thing`, and the definitions compute.
-use borrow.Author.Rules.{rules}
 use borrow.Author.Tests.{lt-leb, le-leb}
 use native.Mathlib.Omega.{arith}
 use Rattle.plangather.specs.Gather.{is_thing, number_of, counted_more}

@@ -1,5 +1,4 @@
 -- Three exits: the tests decide the definition's `ltb`; a kind of 8 or more has no places (`ListN.get_or-eq_default`).
-use borrow.Author.Rules.{rules}
 use borrow.Author.Tests.{lt-ltb, le-ltb}
 use native.Mathlib.Omega.{arith}
 use lib.ListN.{get_or-eq_default}

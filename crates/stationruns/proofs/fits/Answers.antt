@@ -1,5 +1,4 @@
 -- Two cases of the flag: a result is what `has_bytes` promises, no result computes.
-use borrow.Author.Rules.{rules}
 use Rattle.stationruns.proofs.fits.Goals as goal
 
 pub returns-then-given : goal.returns-then-given

@@ -9,7 +9,6 @@ use lib.ListN.{get_or}
 use borrow.Author.Tests.{eqb-true, lt-ltb}
 use Prim.Native.Nat.{ℕ, ◌≤◌, ◌<◌, ◌^◌}
 use Rattle.laws.proofs.Table.{below}
-use borrow.Author.Rules.{rules}
 use Rattle.stationruns.proofs.has_bytes.Goals as goal
 
 -- the table of the source

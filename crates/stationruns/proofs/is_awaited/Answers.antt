@@ -1,5 +1,4 @@
 -- Two cases of the flag: with a result it is what `Run::is_awaited` promises, without one the disjunction is true.
-use borrow.Author.Rules.{rules}
 use Rattle.stationruns.proofs.is_awaited.Goals as goal
 
 pub returns-then-given : goal.returns-then-given

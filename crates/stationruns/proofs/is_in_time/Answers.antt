@@ -2,7 +2,6 @@
 use mathlib.Core.Path.{◌≡◌, refl, sym}
 use mathlib.Core.Bool.{Bool, true, false, not, ◌||◌}
 use Rattle.stationruns.specs.Runs.{last_chance}
-use borrow.Author.Rules.{rules}
 use Rattle.stationruns.proofs.is_in_time.Goals as goal
 
 -- it came, before or now; or the last chance decides

@@ -1,5 +1,4 @@
 -- Plain rewriting: the place in the array is that of `period_at`.
-use borrow.Author.Rules.{rules}
 use Rattle.stationruns.proofs.period_at.Goals as goal
 
 pub returns : goal.returns

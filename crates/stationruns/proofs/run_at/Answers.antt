@@ -1,5 +1,4 @@
 -- Plain rewriting: the four reads of the arrays are those of `run_at`.
-use borrow.Author.Rules.{rules}
 use Rattle.stationruns.proofs.run_at.Goals as goal
 
 pub returns : goal.returns

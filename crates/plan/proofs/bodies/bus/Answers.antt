@@ -1,5 +1,4 @@
 -- `bus_with` promises the numbers of kind 1, and the bits are those that kind 1 means.
-use borrow.Author.Rules.{rules}
 use mathlib.Core.Path.{◌∙◌}
 use Rattle.rules.specs.Records.{record_of}
 use Rattle.rules.specs.Plan.{bus_of, is_kind}

@@ -1,5 +1,4 @@
 -- `bus_with` promises the numbers of kind 1, which are the first of kind 9's; behind them stand the bits (`numbers-laid`).
-use borrow.Author.Rules.{rules}
 use mathlib.Core.Path.{◌≡◌, sym, ap, ◌∙◌}
 use mathlib.Core.List.{List}
 use lib.ListN.{take, drop}

@@ -1,5 +1,4 @@
 -- The reads' promises are rewritten; `numbers-laid` says at which offsets the record's numbers stand.
-use borrow.Author.Rules.{rules}
 use mathlib.Core.Path.{sym, ap}
 use mathlib.Core.List.{List}
 use Prim.Native.Nat.{ℕ}

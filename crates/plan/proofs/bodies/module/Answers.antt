@@ -1,5 +1,4 @@
 -- The read's promise is rewritten; `numbers-laid` says at which offset the record's number stands.
-use borrow.Author.Rules.{rules}
 use mathlib.Core.Path.{sym, ap}
 use mathlib.Core.List.{List}
 use Prim.Native.Nat.{ℕ}

@@ -1,5 +1,4 @@
 -- Two cases: below the count the array's element is the one seen (`part-at`); behind stands the zero invocation (`part_behind`).
-use borrow.Author.Rules.{rules}
 use mathlib.Core.Path.{sym, ap}
 use native.Mathlib.Omega.{arith}
 use Rattle.rules.specs.Plan as rules

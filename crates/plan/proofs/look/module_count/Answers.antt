@@ -1,5 +1,4 @@
 -- The lesser of count and array size is the length of what is seen (`part_length`); the array's type gives its size (`sizes`).
-use borrow.Author.Rules.{rules}
 use mathlib.Core.Path.{◌∙◌, sym}
 use native.Mathlib.Omega.{arith}
 use Rattle.plan.specs.Memory.{seen, count_seen, module_seen}

@@ -1,5 +1,4 @@
 -- Two cases of `is_under_way`: under way it is what `divides` promises, else the conjunction is false.
-use borrow.Author.Rules.{rules}
 use Rattle.stationruns.proofs.Run.ends.Goals as goal
 
 pub returns-then-is_under_way : goal.returns-then-is_under_way

@@ -1,5 +1,4 @@
 -- Three exits: the tests taken decide the conjunction; where they leave it open, `since_release` gives the number compared.
-use borrow.Author.Rules.{rules}
 use Rattle.stationruns.proofs.Run.is_awaited.Goals as goal
 
 pub returns-then-given : goal.returns-then-given

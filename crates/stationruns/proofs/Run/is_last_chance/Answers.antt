@@ -1,5 +1,4 @@
 -- Two cases of the first test: passed, `since_release` gives the number compared; failed, the conjunction is false.
-use borrow.Author.Rules.{rules}
 use Rattle.stationruns.proofs.Run.is_last_chance.Goals as goal
 
 pub returns-then-both : goal.returns-then-both

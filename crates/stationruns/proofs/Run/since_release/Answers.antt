@@ -1,7 +1,6 @@
 -- The promises of `rest` and `less_one` are rewritten; the sum fits, for a remainder is at most what is divided (`mod-le`).
 use native.Mathlib.Omega.{arith}
 use native.Mathlib.Nat.{mod-le}
-use borrow.Author.Rules.{rules}
 use Rattle.stationruns.proofs.Run.since_release.Goals as goal
 
 pub overflow_add-result : goal.overflow_add-result
