@@ -62,7 +62,7 @@ fn say_what_to_run(folders: &[PathBuf]) {
         println!("cargo::error=there is no {ARCHIVE} in {}", folder.display());
     }
     println!(
-        "cargo::error=run `rt staticlib olbiothar` at the root of the repository, which proves and writes it"
+        "cargo::error=run `.ci/library` at the root of the repository, which proves and writes it"
     );
     println!(
         "cargo::error=or set OLBIOTHAR_FOLDER to the folder that has it: PREFIX/lib where it is installed"

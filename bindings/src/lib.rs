@@ -4,7 +4,7 @@
 //! no thread need wait for another. What is proved, and what not, stands in the repository's README; that the library's
 //! functions stay within the memory that they are lent is proved, and is what makes the calls here safe.
 //!
-//! The library is linked from where `rt staticlib olbiothar` writes it, or from the folder that the variable
+//! The library is linked from where `.ci/library` writes it, or from the folder that the variable
 //! `OLBIOTHAR_FOLDER` names. It is for x86-64 Linux.
 //!
 //! # From a plan to its table
