@@ -1,11 +1,11 @@
--- A beginning's answer, in the numbers that C has, is what the rules say; and what the lent station holds behind it.
-use mathlib.Core.Path.{◌≡◌, refl, sym, ap, ◌∙◌}
-use mathlib.Core.Bool.{true, false, true≢false}
+-- A beginning's answer, in the numbers that C has, is what the rules say.
+use mathlib.Core.Path.{◌≡◌, sym, ap, ◌∙◌}
+use mathlib.Core.Bool.{true, false}
 use Rattle.laws.specs.Res.{Res, ok, refuse}
 use Rattle.laws.proofs.Res.{refuse≢ok}
 use Rattle.rules.specs.Station as rules
 use Rattle.starting.specs.declared.Begun as beginning
-use Rattle.beginning.specs.Begins.{Begins, verdict}
+use Rattle.beginning.specs.Begins.{Begins}
 use Rattle.answers.specs.Refusals.{heard, said}
 use Rattle.answers.specs.declared.Refusal.{Refusal}
 use Rattle.answers.specs.declared.Verdict.TheVariants.{Fine, Refused}
@@ -13,9 +13,7 @@ use Rattle.station.specs.declared.Station.{Station}
 use Rattle.olbiothar.specs.declared.Begun.{Begun}
 use Rattle.outward.specs.Answers.{answer_of}
 use Rattle.outward.specs.declared.Answer.{Answer}
-use Rattle.olbiothar.specs.Playing.{BeginsIn, begun_by, station_in}
-
--- ---- by value
+use Rattle.olbiothar.specs.Playing.{begun_by}
 
 pub begun-fine : (rule : Res rules.Begun) (b : beginning.Begun) {r : Begun} → Begins b rule → b.answer ≡ Fine
     → r ≡ record { answer = answer_of (ok tt); begins = true; station = b.station } → r ≡ begun_by rule
@@ -29,13 +27,3 @@ begun-refused (refuse n p) b why h e c q =
     let same : said why ≡ refuse n p = sym (ap heard e) ∙ h.answered in
     q ∙ ap {B = Begun} (λ (z : Answer). record { answer = z; begins = false; station = b.station }) (c ∙ ap answer_of same)
     ∙ ap {B = Begun} (λ (z : Station). record { answer = answer_of (refuse n p); begins = false; station = z }) h.left
-
--- ---- in place
-
-pub begins-there : (rule : Res rules.Begun) (b : Begun) (before : Station) → b ≡ begun_by rule → b.begins ≡ true → BeginsIn rule before b.answer b.station
-begins-there (ok x) b before h e = rw h (record { answers = refl; leaves = refl })
-begins-there (refuse n p) b before h e = absurd (true≢false (sym e ∙ ap (λ (z : Begun). z.begins) h))
-
-pub begins-not : (rule : Res rules.Begun) (b : Begun) (before : Station) → b ≡ begun_by rule → b.begins ≡ false → BeginsIn rule before b.answer before
-begins-not (ok x) b before h e = absurd (true≢false (sym (ap (λ (z : Begun). z.begins) h) ∙ e))
-begins-not (refuse n p) b before h e = rw h (record { answers = refl; leaves = refl })

@@ -1,7 +1,7 @@
 -- What the passes of `check` leave in the lent rows, and its answer, are what the rules' `check` leaves.
 use mathlib.Core.Path.{◌≡◌, refl, sym, ap, ◌∙◌, subst}
 use mathlib.Core.Bool.{Bool, true, false}
-use mathlib.Core.List.{List, [], map}
+use mathlib.Core.List.{List, map}
 use mathlib.Core.Logic.{◌⊎◌, inl, inr}
 use lib.Dec.{lit≤}
 use lib.ListN.{length, length-map}

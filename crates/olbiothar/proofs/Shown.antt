@@ -2,7 +2,7 @@
 -- that answered number 0, the value in the lent station that a node shows of a task of another node that it consumes, and that a task's
 -- own node shows, is the one result of the last run of the task that has ended by the history of the calls that answered number 0: in the
 -- basic edition at every tick; in either edition at every tick on the task's own node, and on another where a task there reads it.
-use mathlib.Core.Path.{◌≡◌, refl, sym, ap, ◌∙◌, subst}
+use mathlib.Core.Path.{◌≡◌, refl, sym, ◌∙◌, subst}
 use mathlib.Core.Bool.{false}
 use mathlib.Core.List.{List, [], ◌∷◌}
 use mathlib.Core.Logic.{◌↔◌}

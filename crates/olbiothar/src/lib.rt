@@ -4,6 +4,7 @@
 // The lent frame rows are a slice of structs, and a tick changes a lent station in place. These are thin: functions below answer by value, and
 // the passes of `rows` bring it into the lent rows.
 #![tactic(auto)]
+
 pub mod texts;
 
 ghost use Rattle.std.specs.Prelude.{◌≡◌};
@@ -30,12 +31,7 @@ use stationruns::{Input, Starting};
 use units::{ByteCount, Frame};
 
 // The table of a plan in an edition, at the front of the lent bytes; its length, or refusals 19, 62 and 1 to 13.
-pub fn olbiothar_make(
-    plan: &[u8],
-    edition: u8,
-    rows: &mut [Frame],
-    table: &mut [u8],
-) -> Answer
+pub fn olbiothar_make(plan: &[u8], edition: u8, rows: &mut [Frame], table: &mut [u8]) -> Answer
     ensures { MakesRows result edition plan.now rows.old rows.new table.old table.new }
 {
     let mut tasks = zero_bytes();

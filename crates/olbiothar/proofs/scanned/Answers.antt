@@ -1,5 +1,5 @@
 -- The passes and `settled`, one after another; the rows keep their number.
-use Rattle.std.proofs.Common.{◌∙◌, ap, length, subst, ℕ}
+use Rattle.std.proofs.Common.{◌∙◌, ap, subst, ℕ}
 use Rattle.rows.specs.Passes.{rows_after, cleared_row}
 use Rattle.checked.specs.Checking.{lent_passed}
 use Rattle.checker.specs.Unscanned.{Settles}

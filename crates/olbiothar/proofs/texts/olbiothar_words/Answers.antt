@@ -1,0 +1,16 @@
+-- Two exits, one law each: too little room (`no_room`), else the words and a zero byte (`words-put`).
+use Rattle.meanings.specs.Meanings.{meaning}
+use Rattle.olbiothar.proofs.Words.{no_room, words-put}
+use Rattle.olbiothar.proofs.texts.olbiothar_words.Goals as goal
+
+pub returns-then-text-lt-LONGEST_WORDS : goal.returns-then-text-lt-LONGEST_WORDS
+returns-then-text-lt-LONGEST_WORDS c =
+    let a = c.args in
+    let all = no_room (meaning a.number) a.text.now c.if-text-lt-LONGEST_WORDS.true in
+    record { value = all.0; text_after = all.1 }
+
+pub returns : goal.returns
+returns c =
+    let a = c.args in
+    let all = words-put (meaning a.number) a.text.now c.if-text-lt-LONGEST_WORDS.false c.put_meaning-end.ensures.out_after.1 c.put_meaning-end.ensures.out_after.0 c.put_bytes.ensures.0 in
+    record { value = all.0; text_after = all.1 }
