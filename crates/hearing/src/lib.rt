@@ -419,7 +419,8 @@ pub fn attend<R: Read>(
     loop {
         let heard_to = lower(came, LONGEST);
         let end = line_end(&buf[..heard_to], at);
-        if end < heard_to {
+        let ended = end < heard_to;
+        if ended {
             lines += 1;
             let spoken = hear(rt, plan, table, rows, heard, lines, &buf[at..end]);
             let fine = spoken.fine;

@@ -33,19 +33,19 @@ shape_of-buf-then-is_over g c =
 
 pub returns-then-is_over : goal.returns-then-is_over
 returns-then-is_over g c =
-    let a = min-le_left c.loop-lines.came 262144 in let b = min-le_right c.loop-lines.came 262144 in record { heard_value = (λ e. between-stop c.args.plan.now c.args.table.now (between_turn c.args.plan.now c.args.table.now c.loop-lines.invariant.3 (omega (arith, c.line_end-end.ensures.within.1, c.if-end-heard_to.true)) (omega (arith, c.lower-heard_to.ensures, a, c.loop-lines.invariant.0)) c.line_end-end.ensures.value c.if-end-heard_to.true refl (c.hear-spoken.ensures e)) c.loop-lines.came c.loop-lines.invariant.0 (omega (arith, c.lower-heard_to.ensures, a, c.if-end-heard_to.true)) (omega (arith, c.lower-heard_to.ensures, b, c.if-end-heard_to.true)) (is-stopped c.is_over.ensures c.if-is_over.true e)); within = c.loop-lines.invariant.0 }
+    let a = min-le_left c.loop-lines.came 262144 in let b = min-le_right c.loop-lines.came 262144 in record { heard_value = (λ e. between-stop c.args.plan.now c.args.table.now (between_turn c.args.plan.now c.args.table.now c.loop-lines.invariant.3 (omega (arith, c.line_end-end.ensures.within.1, c.if-ended.true)) (omega (arith, c.lower-heard_to.ensures, a, c.loop-lines.invariant.0)) c.line_end-end.ensures.value c.if-ended.true refl (c.hear-spoken.ensures e)) c.loop-lines.came c.loop-lines.invariant.0 (omega (arith, c.lower-heard_to.ensures, a, c.if-ended.true)) (omega (arith, c.lower-heard_to.ensures, b, c.if-ended.true)) (is-stopped c.is_over.ensures c.if-is_over.true e)); within = c.loop-lines.invariant.0 }
 
 pub overflow_add-at : goal.overflow_add-at
 overflow_add-at g c =
-    let a = min-le_left c.loop-lines.came 262144 in let b = min-le_right c.loop-lines.came 262144 in omega (arith, c.lower-heard_to.ensures, b, c.if-end-heard_to.true)
+    let a = min-le_left c.loop-lines.came 262144 in let b = min-le_right c.loop-lines.came 262144 in omega (arith, c.lower-heard_to.ensures, b, c.if-ended.true)
 
-pub loop-lines-smaller-then-end-heard_to : goal.loop-lines-smaller-then-end-heard_to
-loop-lines-smaller-then-end-heard_to g c =
-    let a = min-le_left c.loop-lines.came 262144 in let b = min-le_right c.loop-lines.came 262144 in omega (arith, c.lower-heard_to.ensures, a, c.if-end-heard_to.true, c.line_end-end.ensures.within.1, c.loop-lines.invariant.0)
+pub loop-lines-smaller-then-ended : goal.loop-lines-smaller-then-ended
+loop-lines-smaller-then-ended g c =
+    let a = min-le_left c.loop-lines.came 262144 in let b = min-le_right c.loop-lines.came 262144 in omega (arith, c.lower-heard_to.ensures, a, c.if-ended.true, c.line_end-end.ensures.within.1, c.loop-lines.invariant.0)
 
-pub loop-lines-preserved-then-end-heard_to : goal.loop-lines-preserved-then-end-heard_to
-loop-lines-preserved-then-end-heard_to g c =
-    let a = min-le_left c.loop-lines.came 262144 in let b = min-le_right c.loop-lines.came 262144 in (c.loop-lines.invariant.0, (omega (arith, c.lower-heard_to.ensures, a, c.if-end-heard_to.true)), (omega (arith, c.lower-heard_to.ensures, b, c.if-end-heard_to.true)), between_turn c.args.plan.now c.args.table.now c.loop-lines.invariant.3 (omega (arith, c.line_end-end.ensures.within.1, c.if-end-heard_to.true)) (omega (arith, c.lower-heard_to.ensures, a, c.loop-lines.invariant.0)) c.line_end-end.ensures.value c.if-end-heard_to.true refl (c.hear-spoken.ensures (goes_on c.is_over.result c.hear-spoken.result.fine (is_stopped c.hear-spoken.result.heard.stage) c.is_over.ensures c.if-is_over.false)), c.loop-lines.invariant.4)
+pub loop-lines-preserved-then-ended : goal.loop-lines-preserved-then-ended
+loop-lines-preserved-then-ended g c =
+    let a = min-le_left c.loop-lines.came 262144 in let b = min-le_right c.loop-lines.came 262144 in (c.loop-lines.invariant.0, (omega (arith, c.lower-heard_to.ensures, a, c.if-ended.true)), (omega (arith, c.lower-heard_to.ensures, b, c.if-ended.true)), between_turn c.args.plan.now c.args.table.now c.loop-lines.invariant.3 (omega (arith, c.line_end-end.ensures.within.1, c.if-ended.true)) (omega (arith, c.lower-heard_to.ensures, a, c.loop-lines.invariant.0)) c.line_end-end.ensures.value c.if-ended.true refl (c.hear-spoken.ensures (goes_on c.is_over.result c.hear-spoken.result.fine (is_stopped c.hear-spoken.result.heard.stage) c.is_over.ensures c.if-is_over.false)), c.loop-lines.invariant.4)
 
 pub shape_of-buf-in-Unreadable : goal.shape_of-buf-in-Unreadable
 shape_of-buf-in-Unreadable g c =
@@ -73,7 +73,7 @@ shape_of-buf-then-length-came g c =
 
 pub returns-then-length-came : goal.returns-then-length-came
 returns-then-length-came g c =
-    let a = min-le_left c.loop-lines.came 262144 in let b = min-le_right c.loop-lines.came 262144 in let l = length-take-le c.loop-lines.came c.read_more.new.buf (omega (arith, c.loop-lines.invariant.0, c.read_more.ensures.buf_unchanged.1)) in record { heard_value = (λ e. between_done c.args.plan.now c.args.table.now c.loop-lines.invariant.3 c.read_more.new.buf c.loop-lines.came c.read_more.ensures.buf_unchanged.0 c.loop-lines.invariant.0 (omega (arith, c.loop-lines.invariant.0, c.read_more.ensures.buf_unchanged.1)) c.lower-heard_to.ensures (at_most c.lower-heard_to.ensures c.loop-lines.invariant.1 c.loop-lines.invariant.2) (none_left c.line_end-end.ensures.value c.if-end-heard_to.false) c.hear_end.ensures.whole (c.hear_end.ensures.heard_value e)); within = omega (arith, l, c.hear_end.ensures.whole, c.loop-lines.invariant.0, c.read_more.ensures.buf_unchanged.1) }
+    let a = min-le_left c.loop-lines.came 262144 in let b = min-le_right c.loop-lines.came 262144 in let l = length-take-le c.loop-lines.came c.read_more.new.buf (omega (arith, c.loop-lines.invariant.0, c.read_more.ensures.buf_unchanged.1)) in record { heard_value = (λ e. between_done c.args.plan.now c.args.table.now c.loop-lines.invariant.3 c.read_more.new.buf c.loop-lines.came c.read_more.ensures.buf_unchanged.0 c.loop-lines.invariant.0 (omega (arith, c.loop-lines.invariant.0, c.read_more.ensures.buf_unchanged.1)) c.lower-heard_to.ensures (at_most c.lower-heard_to.ensures c.loop-lines.invariant.1 c.loop-lines.invariant.2) (none_left c.line_end-end.ensures.value c.if-ended.false) c.hear_end.ensures.whole (c.hear_end.ensures.heard_value e)); within = omega (arith, l, c.hear_end.ensures.whole, c.loop-lines.invariant.0, c.read_more.ensures.buf_unchanged.1) }
 
 pub loop-lines-smaller : goal.loop-lines-smaller
 loop-lines-smaller g c =
