@@ -7,7 +7,7 @@
  *
  * What the archive needs: `memcpy` and `memset`, and nothing else of a C library or of the system. It has no data that is written to, takes
  * nothing from a heap, has no state and no lock: threads may share it, and calls on different memory may run at the same time. What a call
- * takes of the stack is said below (OLBIOTHAR_STACK_..). It is machine code for x86-64 (with SSE2, as each has it) by the System V calling
+ * takes of the stack is said below (OLBIOTHAR_STACK_..). It is machine code for x86-64-v2 (SSE4.2, POPCNT) by the System V calling
  * convention, as Linux has it; it may stand at any address. Where the library is installed,
  *
  *     cc client.c $(pkg-config --cflags --libs olbiothar)
@@ -46,14 +46,14 @@ enum {
 /* Bytes of stack that a call takes at most, below its caller's own variables: arguments that go by the stack, the function, and all that
  * it calls. Measured (tests/needs paints a stack, and fails where a call takes more), not proved. No function calls itself, and the
  * number of frames does not matter. */
-#define OLBIOTHAR_STACK_MAKE 84992
-#define OLBIOTHAR_STACK_CHECK 90112
-#define OLBIOTHAR_STACK_BEGIN 134144
-#define OLBIOTHAR_STACK_TICK 14336
+#define OLBIOTHAR_STACK_MAKE 94208
+#define OLBIOTHAR_STACK_CHECK 99328
+#define OLBIOTHAR_STACK_BEGIN 267264
+#define OLBIOTHAR_STACK_TICK 21504
 #define OLBIOTHAR_STACK_TIME 256
 #define OLBIOTHAR_STACK_MODULE 2048
 #define OLBIOTHAR_STACK_TASK 2048
-#define OLBIOTHAR_STACK_SHEET 89088
+#define OLBIOTHAR_STACK_SHEET 96256
 #define OLBIOTHAR_STACK_SHEET_TABLE 14336
 #define OLBIOTHAR_STACK_PLAN_TEXT 1024
 #define OLBIOTHAR_STACK_TEXT_PLAN 1024
