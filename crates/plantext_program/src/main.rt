@@ -1,5 +1,6 @@
 // The program: it ends with the number that its function gives.
 #![tactic(auto)]
+
 use programs::olbiothar_run_plantext;
 use std::process::ExitCode;
 
