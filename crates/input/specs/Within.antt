@@ -1,4 +1,4 @@
--- What is known of an input once it was read. No contract says which bytes came: C's read puts them there.
+-- What is known of an input once it was read. No contract says which bytes came: the system puts them there.
 use Rattle.std.specs.Prelude.{List, length, ℕ, ◌≤◌}
 use Rattle.io.specs.Counts.{IsPrefixLen}
 use Rattle.input.specs.declared.Input.{Input}

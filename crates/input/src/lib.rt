@@ -11,10 +11,10 @@ use std::fs::File;
 use std::io::{Error, Read, Result};
 use std::rt::Env;
 
-// What Linux calls a name that is too long (ENAMETOOLONG), and one that names nothing (ENOENT).
+// What Linux calls a name that is too long (ENAMETOOLONG), and bytes that are no text (EILSEQ).
 const NAME_TOO_LONG: i32 = 36;
 
-const NO_SUCH_FILE: i32 = 2;
+const NO_TEXT: i32 = 84;
 
 #[derive(Clone, Copy)]
 pub enum Input {
@@ -106,11 +106,11 @@ pub fn read_named(rt: HostRuntime, path: &[u8], buf: &mut [u8]) -> Input
     }
 }
 
-// The file with this name. A name that is no text names none: the system is asked for names in UTF-8 alone.
+// The file with this name. A name that is no text cannot be asked for: the library opens files by names in UTF-8 alone.
 fn opened(rt: HostRuntime, path: &[u8]) -> Result<File> {
     match str::from_utf8(path) {
         Ok(name) => File::open(&rt, name),
-        Err(_) => Err(Error::from_raw_os_error(NO_SUCH_FILE)),
+        Err(_) => Err(Error::from_raw_os_error(NO_TEXT)),
     }
 }
 
