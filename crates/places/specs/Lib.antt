@@ -1,3 +1,4 @@
 pub mod Flags
 pub mod Found
 pub mod Bits
+pub mod Spot
