@@ -67,3 +67,10 @@ pub fn has_bit(bits: u32, place: usize) -> bool
         false
     }
 }
+
+// The entry at a place, or what is given where none stands there.
+pub fn entry_or<T: Copy>(entries: &[T], place: usize, otherwise: T) -> T
+    ensures { result ≡ get_or entries.now place otherwise }
+{
+    entries.get(place).copied().unwrap_or(otherwise)
+}
