@@ -9,7 +9,8 @@ use lib.ListN.{length, get_or, drop}
 use lib.Seq.{drop-append_seam}
 use borrow.Author.Tests.{lt-ltb, le-ltb}
 use Prim.Native.Nat.{ℕ, zero, suc, ◌+◌, ◌-◌, ◌*◌, ◌^◌, ◌≤◌, ◌<◌}
-use Rattle.text.specs.declared.Number.TheVariants.{Digits, None}
+use Rattle.std.specs.Prelude.{Option, Some, None}
+use Rattle.text.specs.declared.Digits.{Digits}
 use Rattle.text.specs.Text.{decimal, is_digit, run_on, digit_run, value_from, number_at, read_decimal}
 use Rattle.text.proofs.Decimals.{decimal-long, value-decimal, run-decimal}
 
@@ -37,6 +38,9 @@ value_grows : (v : ℕ) (l : List ℕ) → v ≤ value_from v l
 value_grows v [] = omega arith
 value_grows v (b ∷ l) = let h : 10 * v + (b - 48) ≤ value_from (10 * v + (b - 48)) l = value_grows (10 * v + (b - 48)) l in omega arith
 
+abbrev found : ℕ → ℕ → Option Digits
+found value next = Some (record { value = value; next = next })
+
 -- ---- the ways out, with the run R that stands at `at`
 
 module _ (R : List ℕ) (at : ℕ) where
@@ -56,10 +60,10 @@ module _ (R : List ℕ) (at : ℕ) where
           let large : 2 ^ 64 ≤ value_from 0 (b ∷ r) = rw (← q) (omega (arith, value_grows v l)) in
           rw (le-ltb (value_from 0 (b ∷ r)) (2 ^ 64) large)
 
-  pub all_read : (v next : ℕ) → v < 2 ^ 64 → (next ≡ at → ⊥) → next ≡ at + length R → v ≡ value_from 0 R → Digits v next ≡ number_at R at
+  pub all_read : (v next : ℕ) → v < 2 ^ 64 → (next ≡ at → ⊥) → next ≡ at + length R → v ≡ value_from 0 R → found v next ≡ number_at R at
   all_read v next h f e q = go R e q
     where
-      go : (r : List ℕ) → next ≡ at + length r → v ≡ value_from 0 r → Digits v next ≡ number_at r at
+      go : (r : List ℕ) → next ≡ at + length r → v ≡ value_from 0 r → found v next ≡ number_at r at
       go [] e q = absurd (f (e ∙ add-zero at))
       go (b ∷ r) e q =
           let fits : value_from 0 (b ∷ r) < 2 ^ 64 = rw (← q) h in
@@ -72,7 +76,7 @@ decimal-some n at e = absurd (omega (arith, decimal-long n))
 
 -- a number behind any text and in front of what is no digit
 pub read_back : (before : List ℕ) (n b : ℕ) (l : List ℕ) → n < 2 ^ 64 → is_digit b ≡ false
-    → read_decimal (before ++ (decimal n ++ b ∷ l)) (length before) ≡ Digits n (length before + length (decimal n))
+    → read_decimal (before ++ (decimal n ++ b ∷ l)) (length before) ≡ found n (length before + length (decimal n))
 unfolding read_decimal
 read_back before n b l h p =
     ap (λ (s : List ℕ). number_at (digit_run s) (length before)) (drop-append_seam before (decimal n ++ b ∷ l))

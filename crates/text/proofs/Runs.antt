@@ -14,7 +14,7 @@ use Rattle.laws.specs.Lists.{all, joined}
 use Rattle.laws.proofs.Members.{All, empty, also}
 use Rattle.text.specs.Text.{run_on, front, line_feed, ended}
 use Rattle.text.specs.Lines.{run_end, is_other, one_line, line_end, in_front, or_feed, lines_of, behind_end, starts_with, behind_word}
-use Rattle.text.specs.declared.lines.End.TheVariants.{At, Wrong}
+use Rattle.std.specs.Prelude.{Some, None}
 
 pub drop_all : (i : ℕ) (l : List ℕ) → length l ≤ i → drop i l ≡ []
 drop_all zero [] h = refl
@@ -177,7 +177,7 @@ pub matched-none : {s word : List ℕ} {at : ℕ} → Matched s word at at 0
 matched-none {s} {word} {at} = record { place = sym (add-zero at); rest = refl }
 
 module _ {s word : List ℕ} {at next i : ℕ} (m : Matched s word at next i) where
-  decided : (b : Bool) → starts_with (drop i word) (drop next s) ≡ b → behind_word s at word ≡ cond b (At (at + length word)) Wrong
+  decided : (b : Bool) → starts_with (drop i word) (drop next s) ≡ b → behind_word s at word ≡ cond b (Some (at + length word)) None
   unfolding behind_word
   decided b e = rw (← m.rest, e)
 
@@ -190,14 +190,14 @@ module _ {s word : List ℕ} {at next i : ℕ} (m : Matched s word at next i) wh
         rest = rw (drop_here word i h, drop_here s next w, same) at whole;
       }
 
-  pub matched-short : i < length word → length s ≤ next → Wrong ≡ behind_word s at word
+  pub matched-short : i < length word → length s ≤ next → None ≡ behind_word s at word
   matched-short h w = sym (decided false (rw (drop_here word i h, drop_all next s w)))
 
-  pub matched-wrong : i < length word → next < length s → (get_or s next 0 ≡ get_or word i 0 → ⊥) → Wrong ≡ behind_word s at word
+  pub matched-wrong : i < length word → next < length s → (get_or s next 0 ≡ get_or word i 0 → ⊥) → None ≡ behind_word s at word
   matched-wrong h w f =
       sym (decided false (rw (drop_here word i h, drop_here s next w, ne_eqb (get_or s next 0) (get_or word i 0) f)))
 
-  pub matched-end : i ≤ length word → length word ≤ i → At next ≡ behind_word s at word
+  pub matched-end : i ≤ length word → length word ≤ i → Some next ≡ behind_word s at word
   matched-end h w =
       let all : i ≡ length word = le_antisymm h w in
-      sym (decided true (rw (drop_all i word w)) ∙ ap At (ap (λ (k : ℕ). at + k) (sym all) ∙ sym m.place))
+      sym (decided true (rw (drop_all i word w)) ∙ ap Some (ap (λ (k : ℕ). at + k) (sym all) ∙ sym m.place))

@@ -9,10 +9,10 @@ ghost use Rattle.text.specs.Text.{digits, decimal, marked, numbered_line, refuse
 pub mod lines;
 
 // A number read: its value and the place behind its digits.
-#[derive(Clone, Copy)]
-pub enum Number {
-    Digits { value: u64, next: usize },
-    None,
+#[derive(Clone, Copy, PartialEq, Eq)]
+pub struct Digits {
+    pub value: u64,
+    pub next: usize,
 }
 
 fn store(buf: &mut [u8], at: usize, x: u8)
@@ -164,7 +164,7 @@ fn digit_value(b: u8) -> u64
 }
 
 // The number that the longest run of digits from `at` on stands for, if there is a digit and 64 bits hold it.
-pub fn read_decimal(s: &[u8], at: usize) -> Number
+pub fn read_decimal(s: &[u8], at: usize) -> Option<Digits>
     ensures { result ≡ read_decimal s.now at }
 {
     let mut value: u64 = 0;
@@ -173,14 +173,14 @@ pub fn read_decimal(s: &[u8], at: usize) -> Number
     while is_digit(b) {
         let digit = digit_value(b);
         if value > (18446744073709551615 - digit) / 10 {
-            return Number::None;
+            return None;
         }
         value = 10 * value + digit;
         next += 1;
         b = byte_at(s, next);
     }
     if next == at {
-        return Number::None;
+        return None;
     }
-    Number::Digits { value, next }
+    Some(Digits { value, next })
 }

@@ -2,55 +2,38 @@
 ghost use Rattle.std.specs.Prelude.{◌≡◌, ◌≤◌, ◌<◌, length};
 ghost use Rattle.text.specs.Lines.{behind_end, behind_word, is_blank, is_end, is_letter, is_other, is_word, line_end, next_word, run_end, uncommented, whole_number};
 
-use crate::{Number, read_decimal};
-
-// The place behind a part of a line, if that part is there.
-#[derive(Clone, Copy)]
-pub enum End {
-    At(usize),
-    Wrong,
-}
+use crate::read_decimal;
 
 // A word by its places: its first byte's, and the one behind its last.
-#[derive(Clone, Copy)]
-pub enum Word {
-    Stands { from: usize, to: usize },
-    None,
-}
-
-// The number that a text is.
-#[derive(Clone, Copy)]
-pub enum Whole {
-    Value(u64),
-    None,
+#[derive(Clone, Copy, PartialEq, Eq)]
+pub struct Word {
+    pub from: usize,
+    pub to: usize,
 }
 
 // The place behind a word, if the word stands at a place.
-pub fn behind(s: &[u8], at: usize, word: &[u8]) -> End
+pub fn behind(s: &[u8], at: usize, word: &[u8]) -> Option<usize>
     ensures { result ≡ behind_word s.now at word.now }
 {
     let mut next = at;
     let mut i = 0;
     while i < word.len() {
         if s.len() <= next {
-            return End::Wrong;
+            return None;
         }
         if s[next] != word[i] {
-            return End::Wrong;
+            return None;
         }
         next += 1;
         i += 1;
     }
-    End::At(next)
+    Some(next)
 }
 
-pub fn is_end(s: &[u8], end: End) -> bool
+pub fn is_end(s: &[u8], end: Option<usize>) -> bool
     ensures { result ≡ is_end s.now end }
 {
-    match end {
-        End::Wrong => false,
-        End::At(next) => next == s.len(),
-    }
+    end == Some(s.len())
 }
 
 // Whether the text is the word, and nothing more.
@@ -131,29 +114,26 @@ fn word_end(s: &[u8], from: usize) -> usize
 }
 
 // The first word from a place on.
-pub fn next_word(s: &[u8], at: usize) -> Word
+pub fn next_word(s: &[u8], at: usize) -> Option<Word>
     ensures { result ≡ next_word s.now at }
 {
     let from = blanks_end(s, at);
     if from < s.len() {
         let to = word_end(s, from);
-        return Word::Stands { from, to };
+        return Some(Word { from, to });
     }
-    Word::None
+    None
 }
 
 // The number that a text is, if it is digits and nothing more, and 64 bits hold it.
-pub fn whole_number(s: &[u8]) -> Whole
+#[tactic(auto, unfolding(crate::specs::Lines::whole_number))]
+pub fn whole_number(s: &[u8]) -> Option<u64>
     ensures { result ≡ whole_number s.now }
 {
-    match read_decimal(s, 0) {
-        Number::None => Whole::None,
-        Number::Digits { value, next } => {
-            if next == s.len() {
-                Whole::Value(value)
-            } else {
-                Whole::None
-            }
-        }
+    let digits = read_decimal(s, 0)?;
+    if digits.next == s.len() {
+        Some(digits.value)
+    } else {
+        None
     }
 }
