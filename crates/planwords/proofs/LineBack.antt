@@ -21,7 +21,7 @@ use Rattle.text.proofs.Words.{decimal-wordy, left_padded, spaces_passed, whole-d
 use Rattle.text.proofs.Padded.{all_both, all_left, all_right, decimal-other}
 use Rattle.planwords.specs.declared.Name.{Name}
 use Rattle.planwords.specs.declared.Item.{Item}
-use Rattle.planwords.specs.declared.Item.TheVariants.{Word, Number, End}
+use Rattle.planwords.specs.declared.Item.TheVariants.{Word, Number}
 use Rattle.planwords.specs.Items.{spelled, no_form, forms, form_of, first_of, items_of, thing_of}
 use Rattle.planwords.specs.PlanText.{items_text, record_text, counted_as, comment_text, plan_line}
 use Rattle.planwords.specs.TextPlan.{matched, fits, of_kind, words_read, says, line_read, kind_by, may_come}
@@ -36,7 +36,6 @@ item_words [] ns = []
 item_words (Word name ∷ items) ns = spelled name ∷ item_words items ns
 item_words (Number wide columns ∷ items) [] = []
 item_words (Number wide columns ∷ items) (n ∷ ns) = decimal n ∷ item_words items ns
-item_words (End ∷ items) ns = []
 
 items-blank : {items : List Item} {ns : List ℕ} (f : Fits items ns) (rest : List ℕ) → blank_first rest ≡ true
     → blank_first (items_text items ns ++ rest) ≡ true
@@ -69,7 +68,6 @@ abbrev is_narrow : List Item → Bool
 is_narrow [] = true
 is_narrow (Word name ∷ items) = is_narrow items
 is_narrow (Number wide columns ∷ items) = leb wide 8 && is_narrow items
-is_narrow (End ∷ items) = is_narrow items
 
 narrow_items : {kind : ℕ} → PlanKind kind → is_narrow (items_of kind) ≡ true
 unfolding items_of form_of forms

@@ -24,7 +24,7 @@ use Rattle.text.specs.declared.lines.Whole.TheVariants as whole
 use Rattle.text.proofs.Runs.{is_feedless, lines-joined}
 use Rattle.planwords.specs.declared.Name.{Name}
 use Rattle.planwords.specs.declared.Item.{Item}
-use Rattle.planwords.specs.declared.Item.TheVariants.{Word, Number, End}
+use Rattle.planwords.specs.declared.Item.TheVariants.{Word, Number}
 use Rattle.planwords.specs.declared.Reason.{Reason}
 use Rattle.planwords.specs.declared.Reason.TheVariants.{Expected, NumberTooLarge}
 use Rattle.planwords.specs.Items.{spelled, items_of}
@@ -203,7 +203,6 @@ matched-fits (Word name ∷ items) (w ∷ ws) ns e =
 matched-fits (Number wide columns ∷ items) [] ns e = fails≢fits e
 matched-fits (Number wide columns ∷ items) (w ∷ ws) ns e =
     number-taken wide columns items (whole_number w) (matched items ws) ns (λ ms q. matched-fits items ws ms q) e
-matched-fits (End ∷ items) ws ns e = fails≢fits e
 
 -- a record that a line says may stand where the line does, and its numbers fit
 pub record MayFollow (previous : ℕ) (r : Rec) : Type 0 where

@@ -15,7 +15,7 @@ use Rattle.text.specs.declared.lines.Whole.{Whole}
 use Rattle.text.specs.declared.lines.Whole.TheVariants as whole
 use Rattle.text.proofs.Runs.{front-taken}
 use Rattle.planwords.specs.declared.Item.{Item}
-use Rattle.planwords.specs.declared.Item.TheVariants.{Word, Number, End}
+use Rattle.planwords.specs.declared.Item.TheVariants.{Word, Number}
 use Rattle.planwords.specs.declared.Reason.TheVariants.{Expected, NumberTooLarge}
 use Rattle.planwords.specs.Items.{spelled, forms, form_of, items_of}
 use Rattle.planwords.specs.TextPlan.{
@@ -146,7 +146,6 @@ matched-long (Number wide columns ∷ items) (w ∷ ws) ns e = go (whole_number 
         → ((ms : List ℕ) → matched items ws ≡ fits ms → length ws ≡ length items) → suc (length ws) ≡ suc (length items)
     go whole.None q rest = fails≢fits q
     go (whole.Value n) q rest = fitting n (ltb n (256 ^ wide)) q rest
-matched-long (End ∷ items) ws ns e = fails≢fits e
 
 -- a record has fewer bytes than twice as many as its line has words
 record_few : {kind : ℕ} → PlanKind kind → {ns : List ℕ} → Fits (items_of kind) ns

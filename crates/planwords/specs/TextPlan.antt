@@ -8,7 +8,7 @@ use Rattle.text.specs.Lines.{is_word, lines_of, uncommented, whole_number, words
 use Rattle.text.specs.declared.lines.Whole.{Whole}
 use Rattle.text.specs.declared.lines.Whole.TheVariants as whole
 use Rattle.planwords.specs.declared.Item.{Item}
-use Rattle.planwords.specs.declared.Item.TheVariants.{Word, Number, End}
+use Rattle.planwords.specs.declared.Item.TheVariants.{Word, Number}
 use Rattle.planwords.specs.declared.Name.TheVariants.{Bus, Nodes, Module, Mode, Task, Run, Connect}
 use Rattle.planwords.specs.declared.Reason.{Reason}
 use Rattle.planwords.specs.declared.Reason.TheVariants as reason
@@ -57,7 +57,6 @@ matched (Word name ∷ items) [] = fails (reason.Expected name)
 matched (Word name ∷ items) (w ∷ ws) = cond (is_word (spelled name) w) (matched items ws) (fails (reason.Expected name))
 matched (Number bytes columns ∷ items) [] = fails reason.NumberExpected
 matched (Number bytes columns ∷ items) (w ∷ ws) = with_number bytes (whole_number w) (matched items ws)
-matched (End ∷ items) ws = fails reason.EndExpected
 
 -- What a line says: nothing, a record, or that it cannot be read.
 pub data LineRead : Type 0 where

@@ -31,12 +31,11 @@ pub enum Name {
     To,
 }
 
-// What stands at a place of a line: a word; a number that has so many bytes in the record and is printed in so many columns; nothing.
+// What stands at a place of a line: a word; a number that has so many bytes in the record and is printed in so many columns.
 #[derive(Clone, Copy)]
 pub enum Item {
     Word(Name),
     Number { bytes: u8, columns: u8 },
-    End,
 }
 
 // Why a line cannot be read.
