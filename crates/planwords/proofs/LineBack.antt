@@ -15,7 +15,7 @@ use Rattle.laws.proofs.Members.{All, empty, also, all-get_or-or}
 use Rattle.rules.specs.Records.{Rec}
 use Rattle.text.specs.Text.{ascii, decimal, marked, pad_left, pad_right, spaces}
 use Rattle.text.specs.Lines.{blank_first, is_blank, is_other, uncommented, whole_number, words}
-use Rattle.text.specs.declared.lines.Whole.TheVariants as whole
+use Rattle.std.specs.Prelude.{Some}
 use Rattle.text.proofs.Runs.{front_over, is_no_stop, is_feedless}
 use Rattle.text.proofs.Words.{decimal-wordy, left_padded, spaces_passed, whole-decimal, word_then}
 use Rattle.text.proofs.Padded.{all_both, all_left, all_right, decimal-other}
@@ -80,7 +80,7 @@ narrow_items a_run = refl
 narrow_items a_connection = refl
 narrow_items framed_bus = refl
 
-number_read : (wide n : ℕ) → leb wide 8 ≡ true → n < 256 ^ wide → whole_number (decimal n) ≡ whole.Value n
+number_read : (wide n : ℕ) → leb wide 8 ≡ true → n < 256 ^ wide → whole_number (decimal n) ≡ Some n
 number_read wide n e h =
     let most : 256 ^ wide ≤ 256 ^ 8 = pow-le-pow_right (lit< tt) (leb-true wide 8 e) in
     let below : n < 2 ^ 64 = lt_of_lt_of_le h most in
