@@ -1,7 +1,7 @@
 // What a tick is given, and the run of a task that it meets: whether a result is awaited, whether it fits, whether the run ends.
 #![tactic(auto)]
 
-ghost use Rattle.std.specs.Prelude.{◌≡◌, not, ◌||◌, ltb, ◌-◌, ◌^◌};
+ghost use Rattle.std.specs.Prelude.{◌≡◌, not, ◌||◌, ltb, ◌^◌};
 ghost use Rattle.rules.specs.Station.{fits_in};
 ghost use Rattle.stationruns.specs.Inputs.{given_if, no_input};
 ghost use Rattle.stationruns.specs.Runs.{awaits, ends_run, last_chance, period_at, run_at, since_release, under_way};
