@@ -1,19 +1,19 @@
-use Rattle.stationsteps.proofs.Ways.{out-read}
-use mathlib.Core.Path.{◌∙◌}
-use Rattle.laws.proofs.Turns.{filled_none, filled_turn, filled_next, filled-end}
 use borrow.Author.Rules.{rules}
+use Rattle.laws.proofs.Turns.{filled_turn, filled_next, filled-end}
+use Rattle.stationsteps.proofs.Ways.{out-read}
 use Rattle.stationsteps.proofs.out_after.Goals as goal
-
-pub loop-t-init : goal.loop-t-init
-loop-t-init c = (search rules, filled_none)
+use Rattle.stationsteps.proofs.out_after.Goals.{then-is_set, else-is_set}
 
 pub loop-t-preserved : goal.loop-t-preserved
 loop-t-preserved c =
-    let c1 = c.before in
-    (search rules, filled_turn c1.loop-t.invariant.1 (c.out_at.ensures ∙ rw (c.is_set.ensures, filled_next c1.loop-t.invariant.1 0)))
+    let so_far = c.loop-t.invariant in
+    elim c.if-is_set.branch [
+      | then-is_set w ↦ rw w.value-items-is (filled_turn so_far (rw (← c.is_set.ensures, w.if-is_set.true)))
+      | else-is_set w ↦ rw w.value-items-is (filled_turn so_far (rw (filled_next so_far 0, ← c.is_set.ensures, w.if-is_set.false)))
+    ]
 
 pub returns : goal.returns
 returns c =
     let a = c.args in
-    let e = filled-end c.loop-t.invariant.1 c.loop-t.invariant.0 c.loop-t-test.false in
+    let e = filled-end c.loop-t.invariant c.loop-t.auto.t-end c.loop-t-test.false in
     record { value = e; reads = out-read a.results.now a.given a.out (search rules) (search rules) e }

@@ -1,11 +1,7 @@
--- Invariant: the places so far are filled by `out_rule` (`Filled`); reads behind the array are told by `out-read`.
-use Prim.Native.Nat.{◌≤◌, ◌-◌}
+-- Invariant: the places so far are filled by `out_rule` (`Filled`).
 use Rattle.laws.proofs.Turns.{Filled}
 use Rattle.stationsteps.specs.Steps.{out_rule}
 use Rattle.stationsteps.proofs.out_after.Given as goal
 
 abbrev pub invariant-loop-t : goal.invariant-loop-t
-invariant-loop-t l = (l.t ≤ 32) × Filled l.initial.out (out_rule l.results l.given l.initial.out) l.t l.out
-
-abbrev pub decreases-loop-t : goal.decreases-loop-t
-decreases-loop-t l = 32 - l.t
+invariant-loop-t l = Filled l.initial.value-items (out_rule l.results l.given l.initial.value-items) l.t l.value-items
