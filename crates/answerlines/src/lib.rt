@@ -9,7 +9,6 @@ ghost use Rattle.text.specs.Text.{texts};
 ghost use Rattle.answerlines.specs.Writing.{begun_text, control_line, data_line, node_shown, only_if, place_shown, quiet_text, refusal_line, said_text, same_on, same_place, shown_at, shown_line, speaks, ticked_text, times_text};
 
 use answers::{Refusal, Verdict};
-use figures::both;
 use stationmoves::{ControlRow, DataRow, Said};
 use stationnodes::Node;
 use text::{put_bytes, put_marked, put_numbered};
@@ -29,16 +28,14 @@ fn put_place(out: &mut [u8], at: usize, n: usize, t: usize, value: u64) -> usize
     put_marked(&mut *out, value_at, b"=", value)
 }
 
-fn put_node<'a>(out: &mut [u8], at: usize, n: usize, shown: &'a [u64; TaskNo::MOST]) -> usize
+fn put_node(out: &mut [u8], at: usize, n: usize, shown: &[u64; TaskNo::MOST]) -> usize
     requires { at + 2016 ≤ 18446744073709551615 }
     ensures out_after { (out.new ≡ sets out.old at (texts (shown_at n shown.now) most_tasks)) × (result ≡ at + length (texts (shown_at n shown.now) most_tasks)) }
     ensures few { result ≤ at + 2016 }
 {
     let mut next = at;
-    let mut t = 0;
-    while t < TaskNo::MOST {
-        next = put_place(&mut *out, next, n, t, shown[t]);
-        t += 1;
+    for (t, value) in shown.iter().enumerate() {
+        next = put_place(&mut *out, next, n, t, *value);
     }
     next
 }
@@ -49,11 +46,8 @@ fn put_nodes(out: &mut [u8], at: usize, nodes: [Node; NodeNo::MOST]) -> usize
     ensures few { result ≤ at + 16128 }
 {
     let mut next = at;
-    let mut n = 0;
-    while n < NodeNo::MOST {
-        let node = nodes[n];
+    for (n, node) in nodes.iter().enumerate() {
         next = put_node(&mut *out, next, n, &node.shown);
-        n += 1;
     }
     next
 }
@@ -170,19 +164,12 @@ pub fn put_ticked(out: &mut [u8], rows: bool, said: Said, nodes: [Node; NodeNo::
     put_said(out, 0, rows, said, true, nodes)
 }
 
-fn either(a: bool, b: bool) -> bool
-    ensures { result ≡ (a || b) }
-{
-    if a { true } else { b }
-}
-
 // Something is said of a quiet tick.
 fn speaks(rows: bool, said: Said, shows: bool) -> bool
     ensures { result ≡ speaks rows said shows }
 {
     match said {
-        Said::Control(_) => either(rows, shows),
-        Said::Data(_) => either(rows, shows),
+        Said::Control(_) | Said::Data(_) => rows || shows,
         Said::Quiet => shows,
         Said::Refused(_) => true,
     }
@@ -218,29 +205,23 @@ pub fn put_begun(out: &mut [u8], answer: Verdict) -> usize
     }
 }
 
-fn same_places<'a>(a: &'a [u64; TaskNo::MOST], b: &'a [u64; TaskNo::MOST]) -> bool
+fn same_places(a: &[u64; TaskNo::MOST], b: &[u64; TaskNo::MOST]) -> bool
     ensures { result ≡ all (same_place a.now b.now) (up_to most_tasks) }
 {
-    let mut same = true;
-    let mut t = 0;
-    while t < TaskNo::MOST {
-        same = both(same, a[t] == b[t]);
-        t += 1;
-    }
-    same
+    a == b
 }
 
 // Whether the same is shown, on every node of every task.
 pub fn same_shown(a: [Node; NodeNo::MOST], b: [Node; NodeNo::MOST]) -> bool
     ensures { result ≡ all (same_on a b) (up_to most_nodes) }
 {
-    let mut same = true;
-    let mut n = 0;
-    while n < NodeNo::MOST {
+    for n in 0..NodeNo::MOST {
         let first = a[n];
         let second = b[n];
-        same = both(same, same_places(&first.shown, &second.shown));
-        n += 1;
+        let same = same_places(&first.shown, &second.shown);
+        if !same {
+            return false;
+        }
     }
-    same
+    true
 }
