@@ -3,7 +3,7 @@
 
 ghost use Rattle.std.specs.Prelude.{◌≡◌, ◌<◌};
 ghost use Rattle.laws.specs.Lists.{all, up_to};
-ghost use Rattle.answers.specs.Refusals.{heard};
+ghost use Rattle.answers.specs.Answered.{judged};
 ghost use Rattle.rules.specs.Limits.{most_nodes};
 ghost use Rattle.stationrefusals.specs.Refusing.{judged_by, kept_test, held_test, refused_by, state_test};
 
@@ -166,8 +166,8 @@ fn judged<'a>(
     fixed: Fixed,
     play: Play,
     runs: &'a [u32; ModeNo::MOST * TaskNo::MOST],
-) -> Verdict
-    ensures { heard result ≡ judged_by input fixed play runs.now }
+) -> Result<(), Refusal>
+    ensures { judged result ≡ judged_by input fixed play runs.now }
 {
     let before = judged_results(
         &input.results,
@@ -181,7 +181,7 @@ fn judged<'a>(
         &fixed.tasks.sizes,
         &fixed.tasks.worsts,
     );
-    judged_changes(
+    match judged_changes(
         before,
         &input.modes,
         &input.changed,
@@ -191,7 +191,10 @@ fn judged<'a>(
         &fixed.modes.switches,
         &play.running,
         &play.ages,
-    )
+    ) {
+        Verdict::Fine => Ok(()),
+        Verdict::Refused(why) => Err(why),
+    }
 }
 
 // Refusals 40 to 44.
@@ -205,8 +208,8 @@ pub fn refused<'a>(
     pair_deadlines: &'a [u32; Frame::MOST],
     pair_starts: &'a [u32; Frame::MOST],
     pair_stops: &'a [u32; Frame::MOST],
-) -> Verdict
-    ensures { heard result ≡ refused_by input fixed play runs.now pair_tasks.now pair_deadlines.now pair_starts.now pair_stops.now }
+) -> Result<(), Refusal>
+    ensures { judged result ≡ refused_by input fixed play runs.now pair_tasks.now pair_deadlines.now pair_starts.now pair_stops.now }
 {
     let kept = kept_in_range(
         fixed,
@@ -219,6 +222,6 @@ pub fn refused<'a>(
     if kept && state_in_range(fixed, play) {
         judged(input, fixed, play, runs)
     } else {
-        Verdict::Refused(Refusal::NotBegun(ModuleNo(0)))
+        Err(Refusal::NotBegun(ModuleNo(0)))
     }
 }
