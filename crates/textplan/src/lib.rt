@@ -10,18 +10,17 @@ ghost use Rattle.textplan.specs.Answer.{answer_for, status_for};
 use input::Input;
 use manners::{FAILED, Response, Start, put_lines};
 use planitems::put_reason;
-use planreader::Back;
-use planwords::Reason;
+use planreader::{Unread, Unreadable};
 use text::{put_bytes, put_marked, put_too_long};
 
 // The line `unreadable line L: REASON` at the front of the buffer; its length.
-fn put_unreadable(out: &mut [u8], line: u64, why: Reason) -> usize
-    ensures out_after { (out.new ≡ sets out.old 0 (unreadable_text line why)) × (result ≡ length (unreadable_text line why)) }
+fn put_unreadable(out: &mut [u8], unread: Unreadable) -> usize
+    ensures out_after { (out.new ≡ sets out.old 0 (unreadable_text unread.line unread.why)) × (result ≡ length (unreadable_text unread.line unread.why)) }
     ensures few { result ≤ 64 }
 {
-    let colon_at = put_marked(&mut *out, 0, b"unreadable line ", line);
+    let colon_at = put_marked(&mut *out, 0, b"unreadable line ", unread.line);
     let why_at = put_bytes(&mut *out, colon_at, b": ");
-    let end = put_reason(&mut *out, why_at, why);
+    let end = put_reason(&mut *out, why_at, unread.why);
     put_bytes(&mut *out, end, b"\n")
 }
 
@@ -33,11 +32,11 @@ fn respond(lines: &[u8], out: &mut [u8]) -> Response
     ensures prefix_len { IsPrefixLen result.length out.new }
 {
     match planreader::read(lines, &mut *out) {
-        Back::Plan(length) => Response::done(length),
-        Back::Unreadable { line, why } => Response::refused(put_unreadable(&mut *out, line, why)),
-        Back::TooLong => Response::refused(put_too_long(&mut *out)),
+        Ok(length) => Response::done(length),
+        Err(Unread::Unreadable(line)) => Response::refused(put_unreadable(&mut *out, line)),
+        Err(Unread::TooLong) => Response::refused(put_too_long(&mut *out)),
         // No plan that is read is longer than what is lent.
-        Back::Needs(bytes) => Response::refused(bytes),
+        Err(Unread::Needs(bytes)) => Response::refused(bytes),
     }
 }
 
