@@ -7,7 +7,7 @@ ghost use Rattle.answers.specs.Answered.{judged};
 ghost use Rattle.rules.specs.Limits.{most_nodes};
 ghost use Rattle.stationrefusals.specs.Refusing.{judged_by, kept_test, held_test, refused_by, state_test};
 
-use answers::{Refusal, Verdict};
+use answers::Refusal;
 use stationjudge::{judged_changes, judged_results};
 use stationruns::Input;
 use units::{Frame, ModeNo, ModuleNo, NodeNo, TaskNo, Ticks};
@@ -181,7 +181,7 @@ fn judged<'a>(
         &fixed.tasks.sizes,
         &fixed.tasks.worsts,
     );
-    match judged_changes(
+    judged_changes(
         before,
         &input.modes,
         &input.changed,
@@ -191,10 +191,7 @@ fn judged<'a>(
         &fixed.modes.switches,
         &play.running,
         &play.ages,
-    ) {
-        Verdict::Fine => Ok(()),
-        Verdict::Refused(why) => Err(why),
-    }
+    )
 }
 
 // Refusals 40 to 44.
