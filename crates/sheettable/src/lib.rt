@@ -9,7 +9,7 @@ ghost use Rattle.sheettable.specs.Answer.{answer_for, status_for};
 
 use input::Input;
 use manners::{FAILED, Response, Start, put_lines};
-use sheetreader::Back;
+use sheetreader::NoTable;
 use units::ByteCount;
 
 // The answer at the front of `out`, which has room for the longest table, and how the program ends.
@@ -23,10 +23,10 @@ fn respond(sheet: &[u8], out: &mut [u8]) -> Response
         return Response::refused(text::put_too_long(&mut *out));
     }
     match sheetreader::read_back(sheet, &mut *out) {
-        Back::Table(length) => Response::done(length),
-        Back::Unreadable(line) => Response::refused(text::put_unreadable(&mut *out, line)),
+        Ok(length) => Response::done(length),
+        Err(NoTable::Unreadable(line)) => Response::refused(text::put_unreadable(&mut *out, line)),
         // No table that is read is longer than what is lent.
-        Back::Needs(bytes) => Response::refused(bytes),
+        Err(NoTable::Needs(bytes)) => Response::refused(bytes),
     }
 }
 
