@@ -10,7 +10,8 @@ use Rattle.outward.specs.declared.Answer.{Answer}
 use Rattle.outward.specs.Answers.{answer_of}
 use Rattle.text.specs.Text.{is_short}
 use Rattle.sheet.specs.Back.{read_back}
-use Rattle.sheetreader.specs.declared.Back.{Back}
+use Rattle.std.specs.Prelude.{Result}
+use Rattle.sheetreader.specs.declared.NoTable.{NoTable}
 use Rattle.sheetreader.specs.Memory.{back_for, left_by}
 use Rattle.sheetwriter.specs.declared.Written.{Written}
 use Rattle.sheetwriter.specs.Writing.{Writes}
@@ -45,7 +46,7 @@ module _ (text old : List ℕ) where
   unfolding is_short
   too_long h e = rw (lt-leb (length text) longest_sheet h, e) (refl, refl)
 
-  pub table_back : {left : List ℕ} {r : Answer} {b : Back} → length text ≤ longest_sheet → b ≡ back_for (read_back text) old → left ≡ left_by (read_back text) old → r ≡ back_said b
+  pub table_back : {left : List ℕ} {r : Answer} {b : Result ℕ NoTable} → length text ≤ longest_sheet → b ≡ back_for (read_back text) old → left ≡ left_by (read_back text) old → r ≡ back_said b
       → TableIs r text old left
   unfolding is_short
   table_back h is l e = rw (le-leb (length text) longest_sheet h, e, is, l) (refl, refl)

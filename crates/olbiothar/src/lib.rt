@@ -25,7 +25,7 @@ use outward::{
     refused, task_now, time_now,
 };
 use rows::passes::{clear, fill, some_early, zero_bytes, zero_words};
-use sheetreader::Back;
+use sheetreader::NoTable;
 use station::{Station, nodes_after_tick};
 use stationruns::{Input, Starting};
 use units::{ByteCount, Frame};
@@ -222,19 +222,19 @@ pub fn olbiothar_sheet(plan: &[u8], table: &[u8], text: &mut [u8]) -> SheetAnswe
 }
 
 // What reading a sheet back comes to: 60 at the line that cannot be read, 13 at the bytes that the table needs.
-fn read_said(back: Back) -> Answer
+fn read_said(back: Result<usize, NoTable>) -> Answer
     ensures { result ≡ back_said back }
 {
     match back {
-        Back::Table(length) => Answer {
+        Ok(length) => Answer {
             number: 0,
             place: length as u64,
         },
-        Back::Unreadable(line) => Answer {
+        Err(NoTable::Unreadable(line)) => Answer {
             number: 60,
             place: line,
         },
-        Back::Needs(bytes) => Answer {
+        Err(NoTable::Needs(bytes)) => Answer {
             number: 13,
             place: bytes as u64,
         },

@@ -1,11 +1,11 @@
 -- By cases of what was read; each is rewritten into the definition.
 use Rattle.olbiothar.proofs.read_said.Goals as goal
 
-pub returns-in-Table : goal.returns-in-Table
-returns-in-Table c = rw c.in-Table.is
+pub returns-in-Ok : goal.returns-in-Ok
+returns-in-Ok c = rw c.in-Ok.is
 
-pub returns-in-Unreadable : goal.returns-in-Unreadable
-returns-in-Unreadable c = rw c.in-Unreadable.is
+pub returns-in-Err-Unreadable : goal.returns-in-Err-Unreadable
+returns-in-Err-Unreadable c = rw (c.in-Err-Unreadable.is, c.in-Err-Unreadable.field-0-is)
 
-pub returns-in-Needs : goal.returns-in-Needs
-returns-in-Needs c = rw c.in-Needs.is
+pub returns-in-Err-Needs : goal.returns-in-Err-Needs
+returns-in-Err-Needs c = rw (c.in-Err-Needs.is, c.in-Err-Needs.field-0-is)
