@@ -129,11 +129,13 @@ pub fn first_unfit(p: Plan) -> Option<usize>
     if let Some(mode) = first_bad_switch(&p.modes[..modes]) {
         return Some(first_mode + mode);
     }
-    let first_invocation = first_mode + modes + look::task_count(p);
+    let tasks = look::task_count(p);
+    let first_invocation = first_mode + modes + tasks;
     if let Some(run) = first_misfit(p) {
         return Some(first_invocation + run);
     }
-    let first_connection = first_invocation + look::invocation_count(p);
+    let runs = look::invocation_count(p);
+    let first_connection = first_invocation + runs;
     if let Some(connection) = first_doubtful(p) {
         return Some(first_connection + connection);
     }

@@ -1,7 +1,9 @@
 -- What the reading of a file answers, and the plan that it leaves.
-use Rattle.std.specs.Prelude.{◌≡◌}
+use Rattle.std.specs.Prelude.{◌≡◌, Result, Ok, Err}
 use Rattle.laws.specs.Res.{Res, ok, refuse}
 use Rattle.rules.specs.Plan as rules
+use Rattle.answers.specs.declared.Refusal.{Refusal}
+use Rattle.answers.specs.declared.Verdict.TheVariants.{Fine, Refused}
 use Rattle.answers.specs.Refusals.{heard}
 use Rattle.plan.specs.declared.Plan.{Plan}
 use Rattle.plan.specs.Memory.{lay_out, empty_plan}
@@ -20,3 +22,8 @@ plan_left (refuse n place) = empty_plan
 pub record Reads (r : Reading) (rule : Res rules.Plan) : Type 0 where
   pub answered : heard r.answer ≡ verdict rule
   pub left : r.plan ≡ plan_left rule
+
+-- a plan or a refusal as a reading
+abbrev pub reading_of : Result Plan Refusal → Reading
+reading_of (Ok p) = record { answer = Fine; plan = p }
+reading_of (Err why) = record { answer = Refused why; plan = empty_plan }

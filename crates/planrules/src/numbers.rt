@@ -7,7 +7,6 @@ ghost use Rattle.planrules.specs.Tests.{listed, firsts_of, bus_is_within};
 ghost use Rattle.plan.specs.Memory.{bus_seen};
 
 use figures::both;
-use places::Found;
 use plan::{Bus, Invocation, Mode, Task, bodies};
 use records::{Sort, Step};
 use units::{ByteBits, RecordNo};
@@ -16,8 +15,8 @@ use units::{ByteBits, RecordNo};
 // every other number is within its range.
 #[derive(Clone, Copy)]
 pub struct Firsts {
-    pub named: Found,
-    pub ranged: Found,
+    pub named: Option<usize>,
+    pub ranged: Option<usize>,
 }
 
 fn within(low: u32, x: u32, high: u32) -> bool
@@ -111,13 +110,10 @@ fn numbers_are_within(kind: u8, body: &[u8]) -> bool
 }
 
 // What was found before, else the n-th record if it is bad.
-fn earlier(found: Found, good: bool, n: RecordNo) -> Found
+fn earlier(found: Option<usize>, good: bool, n: RecordNo) -> Option<usize>
     ensures { result ≡ earlier_of found good n.0 }
 {
-    match found {
-        Found::At(k) => Found::At(k),
-        Found::Nothing => { if good { Found::Nothing } else { Found::At(n.0) } }
-    }
+    if good { found } else { found.or(Some(n.0)) }
 }
 
 // The numbers of the first records that break the two rules, in a file that keeps the record rules.
@@ -128,8 +124,8 @@ pub fn first_bad(s: &[u8], counts: [usize; 8]) -> Firsts
     let mut previous: u8 = 0;
     let mut at: usize = 0;
     let mut n: usize = 0;
-    let mut named = Found::Nothing;
-    let mut ranged = Found::Nothing;
+    let mut named = None;
+    let mut ranged = None;
     loop {
         match records::next(s, Sort::Plan, previous, at) {
             Step::Record {

@@ -19,14 +19,14 @@ returns-in-Some-first_bad_switch c =
 
 pub returns-in-Some-first_misfit : goal.returns-in-Some-first_misfit
 returns-in-Some-first_misfit c =
-    rw (c.module_count-first_mode.ensures.0, c.mode_count-modes.ensures.0, c.task_count.ensures.0)
+    rw (c.module_count-first_mode.ensures.0, c.mode_count-modes.ensures.0, c.task_count-tasks.ensures.0)
     (invocation_bad (seen c.args.p) (is_nowhere c.first_without_mode.ensures c.in_default.is)
     (is_nowhere (bad-switch c.args.p _ c.mode_count-modes.ensures.0 c.first_bad_switch.ensures) c.in_default-first_bad_switch.is)
     (is_at c.first_misfit.ensures c.in-Some-first_misfit.is))
 
 pub returns-in-Some-first_doubtful : goal.returns-in-Some-first_doubtful
 returns-in-Some-first_doubtful c =
-    rw (c.module_count-first_mode.ensures.0, c.mode_count-modes.ensures.0, c.task_count.ensures.0, c.invocation_count.ensures.0)
+    rw (c.module_count-first_mode.ensures.0, c.mode_count-modes.ensures.0, c.task_count-tasks.ensures.0, c.invocation_count-runs.ensures.0)
     (connection_bad (seen c.args.p) (is_nowhere c.first_without_mode.ensures c.in_default.is)
     (is_nowhere (bad-switch c.args.p _ c.mode_count-modes.ensures.0 c.first_bad_switch.ensures) c.in_default-first_bad_switch.is)
     (is_nowhere c.first_misfit.ensures c.in_default-first_misfit.is)
@@ -52,7 +52,7 @@ overflow_add-result-in-Some-first_misfit c =
       h.invocations,
       c.module_count-first_mode.ensures.1,
       c.mode_count-modes.ensures.1,
-      c.task_count.ensures.1,
+      c.task_count-tasks.ensures.1,
       first_bad-up_to-within (rules.invocation_keeps (seen c.args.p)) (length (seen c.args.p).invocations) c.in-Some-first_misfit.run' (is_at c.first_misfit.ensures c.in-Some-first_misfit.is),
     )
 
@@ -64,7 +64,7 @@ overflow_add-result-in-Some-first_doubtful c =
       h.connections,
       c.module_count-first_mode.ensures.1,
       c.mode_count-modes.ensures.1,
-      c.task_count.ensures.1,
-      c.invocation_count.ensures.1,
+      c.task_count-tasks.ensures.1,
+      c.invocation_count-runs.ensures.1,
       first_bad-up_to-within (rules.connection_keeps (seen c.args.p).connections) (length (seen c.args.p).connections) c.in-Some-first_doubtful.connection (is_at c.first_doubtful.ensures c.in-Some-first_doubtful.is),
     )
