@@ -16,8 +16,8 @@ use Rattle.rules.specs.Plan.{Bus, Plan, Task, no_task, the_task}
 use Rattle.rules.specs.Frames.{of_bits, on_bus, sending_time, gap_on_bus, gap_time}
 use Rattle.rules.proofs.PlanKept.{PlanKept, BusKept}
 use Rattle.plan.specs.declared.Plan as plan
-use Rattle.plan.specs.Memory.{seen, task_seen, task_laid}
-use Rattle.bus.proofs.Things.{task-here}
+use Rattle.plan.specs.Memory.{seen, count_seen, task_seen, task_laid}
+use Rattle.plan.proofs.Parts.{part-at}
 use Rattle.payloads.specs.Tests.{task_time}
 
 module _ (b : Bus) (k : BusKept b) where
@@ -47,8 +47,8 @@ module _ (b : Bus) (k : BusKept b) where
 
 -- the number of bytes that a struct has for a task
 pub size_of : (p : plan.Plan) (t : ℕ) → t < length (seen p).tasks → (get_or p.tasks t (task_laid no_task)).size.0 ≡ (the_task (seen p) t).size
-unfolding the_task task_seen task_laid
-size_of p t h = sym (ap (λ (x : Task). x.size) (task-here p t h))
+unfolding the_task seen task_seen task_laid
+size_of p t h = sym (ap (λ (x : Task). x.size) (part-at task_seen (count_seen p 5) p.tasks t (task_laid no_task) h))
 
 module _ (p : Plan) where
   task-small : PlanKept p → (t : ℕ) → (the_task p t).size ≤ 256

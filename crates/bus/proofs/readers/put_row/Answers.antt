@@ -1,4 +1,3 @@
-use borrow.Author.Rules.{rules}
 use mathlib.Core.Path.{◌≡◌, refl}
 use native.Mathlib.Omega.{arith}
 use Prim.Native.Nat.{◌<◌, ◌*◌}
@@ -7,7 +6,7 @@ use Rattle.laws.proofs.Rows.{sets_more}
 use Rattle.bus.proofs.readers.put_row.Goals as goal
 
 pub loop-k-init : goal.loop-k-init
-loop-k-init c = (search rules, refl)
+loop-k-init c = refl
 
 pub loop-k-preserved : goal.loop-k-preserved
 loop-k-preserved c =
@@ -15,9 +14,9 @@ loop-k-preserved c =
     let a = loop.args in
     let l = loop.loop-k in
     let h : l.k < length a.row = omega arith in
-    (search rules, rw l.invariant.1 (sets_more a.periods.now (a.t * 64) a.row l.k 0 h))
+    rw l.invariant (sets_more a.periods.now (a.t * 64) a.row l.k 0 h)
 
 pub returns : goal.returns
 returns c =
     let e : c.loop-k.k ≡ c.args.n = omega arith in
-    rw e at c.loop-k.invariant.1
+    rw e at c.loop-k.invariant
