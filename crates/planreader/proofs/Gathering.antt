@@ -212,11 +212,3 @@ module _ {text old out : List ℕ} {previous end at line : ℕ} (g : Gathering t
       let stored = g.stored in
       let none = drop_all at text w in
       (e.0 ∙ rw (add-one line) (rw none at result), e.1 ∙ (rw none at stored))
-
-  pub last-kept : {r : Result ℕ Unreadable} {out' : List ℕ}
-      → (r ≡ reading_from end (read_lines (line + 1) previous [])) × (out' ≡ sets out end (stored_lines previous [])) → length out' ≡ length old
-  last-kept e = ap length e.1 ∙ length-sets out end (stored_lines previous []) ∙ g.long
-
-  -- no place and no line's number wraps
-  pub gathering_near : (line ≤ 262144) × (end ≤ 262144)
-  gathering_near = (omega (arith, g.counted, g.within, g.short), omega (arith, g.few, g.within, g.short))

@@ -131,9 +131,6 @@ pub record Holding (s : List ℕ) (from : ℕ) (items : List Item) (old : List �
   pub few : k ≤ length items
   pub long : length out ≡ length old
 
-pub holding_none : {s : List ℕ} {from : ℕ} {items : List Item} {old : List ℕ} {at : ℕ} → Holding s from items old at old from at 0
-holding_none = record { result = refl; stored = refl; near = omega arith; few = omega arith; long = refl }
-
 module _ {s : List ℕ} {from : ℕ} {items : List Item} {old : List ℕ} {at : ℕ} {out : List ℕ} {next end k : ℕ}
     (g : Holding s from items old at out next end k) where
   module _ (d : Item) {i : Item} {f : Result Passed Reason} (w : k < length items) (here : i ≡ get_or items k d) (read : f ≡ found_at s next i) where
@@ -175,10 +172,6 @@ module _ {s : List ℕ} {from : ℕ} {items : List Item} {old : List ℕ} {at : 
           few = omega arith;
           long = ap length put.0.0 ∙ length-sets out end (bytes p.number.wide p.number.value) ∙ g.long;
         }
-
-  -- no place wraps
-  pub holding_near : length items ≤ 14 → k < length items → end + 255 ≤ at + 3570
-  holding_near h w = omega (arith, g.near)
 
   pub holding_end : {r : Result ℕ Reason} → length items ≤ k → r ≡ matching (matched [] (words (drop next s))) end
       → (r ≡ outcome items (words (drop from s)) at) × (out ≡ sets old at (taken items (words (drop from s))))

@@ -17,9 +17,6 @@ pub record Laying (old : List ℕ) (at wide n : ℕ) (out : List ℕ) (rest left
   pub few : wide ≤ 255
   pub long : length out ≡ length old
 
-pub laying_none : {old : List ℕ} {at wide n : ℕ} → wide ≤ 255 → Laying old at wide n old n wide at
-laying_none h = record { run = refl; place = refl; few = h; long = refl }
-
 module _ {old : List ℕ} {at wide n : ℕ} {out : List ℕ} {rest left end : ℕ} (l : Laying old at wide n out rest left end) where
   pub laying_turn : {out' : List ℕ} → 0 < left → out' ≡ sets out end (bytes 1 (rest % 256)) → Laying old at wide n out' (rest / 256) (left - 1) (end + 1)
   laying_turn {out'} h e = go left refl
@@ -36,9 +33,6 @@ module _ {old : List ℕ} {at wide n : ℕ} {out : List ℕ} {rest left end : �
             few = l.few;
             long = ap length e ∙ length-sets out end (bytes 1 (rest % 256)) ∙ l.long;
           }
-
-  pub laying_near : end + left ≤ at + 255
-  laying_near = omega (arith, l.place, l.few)
 
   pub laying_end : left ≤ 0 → Put old at (bytes wide n) out end × (end ≤ at + 255)
   laying_end h = go left refl

@@ -210,59 +210,50 @@ fn why_not(previous: u8, kind: u8) -> Reason
     Reason::OutOfOrder
 }
 
-// What a line comes to: the kind of the last record behind it and the place behind what was stored, which a blank line leaves as they are.
+// Where some lines end: the kind of their last record, 0 where they have none, and the place behind what was stored of them.
 #[derive(Clone, Copy, PartialEq, Eq)]
 struct Last {
     kind: u8,
     end: usize,
 }
 
-// A line of a kind that has its other words from a place on; its record goes to `out`, from `at` on.
-fn kind_said(
-    s: &[u8],
-    from: usize,
-    previous: u8,
-    kind: u8,
-    out: &mut [u8],
-    at: usize,
-) -> Result<Last, Reason>
-    requires { at + 3571 ≤ 18446744073709551615 }
-    ensures value { result ≡ said_of previous (at + length (kind_stored previous kind (words (drop from s.now)))) (of_kind previous kind (words (drop from s.now))) }
-    ensures out_after { out.new ≡ sets out.old at (kind_stored previous kind (words (drop from s.now))) }
+// A line of a kind that has its other words from a place on, behind some lines; its record goes to `out`, behind what was stored.
+fn kind_said(s: &[u8], from: usize, last: Last, kind: u8, out: &mut [u8]) -> Result<Last, Reason>
+    requires { last.end + 3571 ≤ 18446744073709551615 }
+    ensures value { result ≡ said_of last.kind (last.end + length (kind_stored last.kind kind (words (drop from s.now)))) (of_kind last.kind kind (words (drop from s.now))) }
+    ensures out_after { out.new ≡ sets out.old last.end (kind_stored last.kind kind (words (drop from s.now))) }
 {
-    if !may_come(previous, kind) {
-        return Err(why_not(previous, kind));
+    if !may_come(last.kind, kind) {
+        return Err(why_not(last.kind, kind));
     }
-    little::put8(&mut *out, at, kind);
-    let end = put_items(s, from, kind, out, at + 1)?;
+    little::put8(&mut *out, last.end, kind);
+    let end = put_items(s, from, kind, out, last.end + 1)?;
     Ok(Last { kind, end })
 }
 
-fn words_said(s: &[u8], previous: u8, out: &mut [u8], at: usize) -> Result<Last, Reason>
-    requires { at + 3571 ≤ 18446744073709551615 }
-    ensures value { result ≡ said_of previous (at + length (words_stored previous (words s.now))) (words_read previous (words s.now)) }
-    ensures out_after { out.new ≡ sets out.old at (words_stored previous (words s.now)) }
+// A line's words; a blank line leaves things as they are.
+fn words_said(s: &[u8], last: Last, out: &mut [u8]) -> Result<Last, Reason>
+    requires { last.end + 3571 ≤ 18446744073709551615 }
+    ensures value { result ≡ said_of last.kind (last.end + length (words_stored last.kind (words s.now))) (words_read last.kind (words s.now)) }
+    ensures out_after { out.new ≡ sets out.old last.end (words_stored last.kind (words s.now)) }
 {
     match next_word(s, 0) {
-        None => Ok(Last {
-            kind: previous,
-            end: at,
-        }),
+        None => Ok(last),
         Some(word) => {
             let kind = kind_of(&s[word.from..word.to], count_words(s, word.to));
-            kind_said(s, word.to, previous, kind, out, at)
+            kind_said(s, word.to, last, kind, out)
         }
     }
 }
 
-// A line behind a record of the kind `previous`: its comment is left out.
-fn line_said(line: &[u8], previous: u8, out: &mut [u8], at: usize) -> Result<Last, Reason>
-    requires { at + 3571 ≤ 18446744073709551615 }
-    ensures value { result ≡ said_of previous (at + length (line_stored previous line.now)) (line_read previous line.now) }
-    ensures out_after { out.new ≡ sets out.old at (line_stored previous line.now) }
+// A line without its comment.
+fn line_said(line: &[u8], last: Last, out: &mut [u8]) -> Result<Last, Reason>
+    requires { last.end + 3571 ≤ 18446744073709551615 }
+    ensures value { result ≡ said_of last.kind (last.end + length (line_stored last.kind line.now)) (line_read last.kind line.now) }
+    ensures out_after { out.new ≡ sets out.old last.end (line_stored last.kind line.now) }
 {
     let end = comment_start(line);
-    words_said(&line[..end], previous, out, at)
+    words_said(&line[..end], last, out)
 }
 
 // ---- the whole text
@@ -274,20 +265,20 @@ pub struct Unreadable {
     pub why: Reason,
 }
 
-// Behind the last line: the end record, where it may stand.
-fn finish(previous: u8, line: u64, out: &mut [u8], at: usize) -> Result<usize, Unreadable>
-    requires { at + 1 ≤ 18446744073709551615 }
-    ensures value { result ≡ reading_from at (read_lines line previous []) }
-    ensures out_after { out.new ≡ sets out.old at (stored_lines previous []) }
+// Behind the last line: the end record, where it may stand; the place behind it.
+fn finish(last: Last, line: u64, out: &mut [u8]) -> Result<usize, Unreadable>
+    requires { last.end + 1 ≤ 18446744073709551615 }
+    ensures value { result ≡ reading_from last.end (read_lines line last.kind []) }
+    ensures out_after { out.new ≡ sets out.old last.end (stored_lines last.kind []) }
 {
-    if !plan_follows(previous, 0) {
+    if !plan_follows(last.kind, 0) {
         return Err(Unreadable {
             line,
-            why: why_not(previous, 0),
+            why: why_not(last.kind, 0),
         });
     }
-    little::put8(out, at, 0);
-    Ok(at + 1)
+    little::put8(out, last.end, 0);
+    Ok(last.end + 1)
 }
 
 // Line by line, to the length of the text's plan; the records go to `out`, as far as it has room, up to the first line that cannot be read.
@@ -296,23 +287,21 @@ fn gather(text: &[u8], out: &mut [u8]) -> Result<usize, Unreadable>
     ensures value { result ≡ reading_from 0 (text_read text.now) }
     ensures out_after { out.new ≡ sets out.old 0 (stored_text text.now) }
 {
-    let mut previous: u8 = 0;
-    let mut end = 0;
+    let mut last = Last { kind: 0, end: 0 };
     let mut at = 0;
     let mut line: u64 = 0;
     while at < text.len() {
         let stop = line_end(text, at);
         line += 1;
-        match line_said(&text[at..stop], previous, &mut *out, end) {
+        match line_said(&text[at..stop], last, &mut *out) {
             Err(why) => return Err(Unreadable { line, why }),
-            Ok(last) => {
-                previous = last.kind;
-                end = last.end;
+            Ok(behind) => {
+                last = behind;
                 at = behind_end(text, stop);
             }
         }
     }
-    finish(previous, line + 1, out, end)
+    finish(last, line + 1, out)
 }
 
 // Why no plan stands at the front of the lent bytes, which are then as they were: the first line that cannot be read; how many bytes the plan

@@ -46,9 +46,6 @@ pub number_put : (b b₁ b₂ : List ℕ) (at k₁ k₂ columns x : ℕ) {blanks
 unfolding pad_left
 number_put b b₁ b₂ at k₁ k₂ columns x {blanks} e p q = rw e at (both_put b b₁ b₂ (spaces blanks) (decimal x) at k₁ k₂ p q)
 
-pub nothing_put : (b : List ℕ) (at : ℕ) → Put b at [] b at
-nothing_put b at = (refl, omega arith)
-
 -- a body's bytes by the items are the record's numbers by the fields
 pub items_are : (kind : ℕ) (body : List ℕ) → items_in (items_of kind) body ≡ items_text (items_of kind) (record_of kind body).numbers
 unfolding items_of form_of forms record_of fields kinds items_text number_in
@@ -96,24 +93,7 @@ module _ {old : List ℕ} {at kind : ℕ} {body : List ℕ} where
       let none : drop k (items_of kind) ≡ [] = drop_of_length-le (items_of kind) far in
       rest_end (rw none at i.still)
 
-  pub itemed_length : {k from : ℕ} {buf : List ℕ} {next : ℕ} → Itemed old at kind body k from buf next → length buf ≡ length old
-  itemed_length i = i.still.kept
-
 -- ---- the comment
-
-pub no_thing : (kind : ℕ) → (kind ≡ 3 → ⊥) → (kind ≡ 4 → ⊥) → (kind ≡ 5 → ⊥) → (kind ≡ 6 → ⊥) → (kind ≡ 7 → ⊥) → thing_of kind ≡ []
-unfolding thing_of form_of forms
-no_thing zero a b c d e = refl
-no_thing (suc zero) a b c d e = refl
-no_thing (suc (suc zero)) a b c d e = refl
-no_thing (suc (suc (suc zero))) a b c d e = absurd (a refl)
-no_thing (suc (suc (suc (suc zero)))) a b c d e = absurd (b refl)
-no_thing (suc (suc (suc (suc (suc zero))))) a b c d e = absurd (c refl)
-no_thing (suc (suc (suc (suc (suc (suc zero)))))) a b c d e = absurd (d refl)
-no_thing (suc (suc (suc (suc (suc (suc (suc zero))))))) a b c d e = absurd (e refl)
-no_thing (suc (suc (suc (suc (suc (suc (suc (suc zero)))))))) a b c d e = refl
-no_thing (suc (suc (suc (suc (suc (suc (suc (suc (suc zero))))))))) a b c d e = refl
-no_thing (suc (suc (suc (suc (suc (suc (suc (suc (suc (suc kind)))))))))) a b c d e = refl
 
 pub comment_put : (b b₁ b₂ b₃ : List ℕ) (at k₁ k₂ k₃ kind k number : ℕ) → Put b at (ascii "  # ") b₁ k₁ → Put b₁ k₁ (counted_as (thing_of kind) k) b₂ k₂
     → Put b₂ k₂ (marked (ascii "record ") number) b₃ k₃ → Put b at (comment_text kind k number) b₃ k₃

@@ -23,12 +23,12 @@ slice_bounds-kind_of-end c =
 pub returns-in-None : goal.returns-in-None
 returns-in-None c =
     let a = c.args in
-    let h = no_words a.previous (words a.s.now) a.at a.out.now (none_found a.s.now 0 c.next_word.ensures c.in-None.is) in
+    let h = no_words a.last.kind (words a.s.now) a.last.end a.out.now (none_found a.s.now 0 c.next_word.ensures c.in-None.is) in
     record { value = h.0; out_after = h.1 }
 
 pub returns-in-Some : goal.returns-in-Some
 returns-in-Some c =
     let a = c.args in
-    let h = some_words a.previous (words a.s.now) _ _ a.at a.out.now (word-found a.s.now 0 c.next_word.ensures c.in-Some.is)
+    let h = some_words a.last.kind (words a.s.now) _ _ a.last.end a.out.now (word-found a.s.now 0 c.next_word.ensures c.in-Some.is)
     c.count_words.ensures c.kind_of-kind.ensures (c.kind_said.ensures.value, c.kind_said.ensures.out_after) in
     record { value = h.0; out_after = h.1 }
