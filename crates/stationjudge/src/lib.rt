@@ -4,7 +4,6 @@
 ghost use Rattle.std.specs.Prelude.{◌≡◌, ◌<◌};
 ghost use Rattle.laws.specs.Lists.{first_bad, up_to};
 ghost use Rattle.rules.specs.Limits.{most_modules, most_tasks};
-ghost use Rattle.stationruns.specs.Inputs.{given_if};
 ghost use Rattle.places.specs.Spot.{spot_in};
 ghost use Rattle.stationjudge.specs.Judging.{allowed_test, allows, awaited_test, changes_judged, fits_test, in_time_test, results_judged};
 ghost use Rattle.answers.specs.Answered.{judged};
@@ -48,8 +47,8 @@ pub fn too_large<'a>(
     ensures { spot_in result ≡ first_bad (fits_test results.now given.now sizes.now) (up_to most_tasks) }
 {
     for t in 0..TaskNo::MOST {
-        let size = ByteCount(u32::from(sizes[t]));
-        if !fits(is_set(given[t]), results[t], size) {
+        let result = is_set(given[t]).then_some(results[t]);
+        if !fits(result, ByteCount(u32::from(sizes[t]))) {
             return Some(t);
         }
     }
@@ -81,8 +80,7 @@ pub fn overdue<'a>(
 }
 
 fn is_allowed<'a>(
-    changed: bool,
-    mode: ModeNo,
+    change: Option<u8>,
     m: ModuleNo,
     module_count: u8,
     mode_count: u8,
@@ -90,13 +88,17 @@ fn is_allowed<'a>(
     switch: Ticks,
     age: Ticks,
 ) -> bool
-    ensures { result ≡ allows module_count mode_count homes.now switch.0 age.0 m.0 (given_if changed mode.0) }
+    ensures { result ≡ allows module_count mode_count homes.now switch.0 age.0 m.0 (spot_in change) }
 {
-    !changed
-        || m.0 < module_count
-            && mode.0 < mode_count
-            && entry_or(homes, mode.place(), 0) == m.0
-            && divides(switch.0, age.0)
+    match change {
+        Some(mode) => {
+            m.0 < module_count
+                && mode < mode_count
+                && entry_or(homes, ModeNo(mode).place(), 0) == m.0
+                && divides(switch.0, age.0)
+        }
+        None => true,
+    }
 }
 
 // 44: the first module place with a change that is not allowed.
@@ -115,8 +117,7 @@ pub fn not_allowed<'a>(
     for m in 0..ModuleNo::MOST {
         let switch = Ticks(entry_or(switches, ModeNo(running[m]).place(), 0));
         if !is_allowed(
-            is_set(changed[m]),
-            ModeNo(modes[m]),
+            is_set(changed[m]).then_some(modes[m]),
             ModuleNo(m as u8),
             module_count,
             mode_count,

@@ -3,7 +3,8 @@
 
 ghost use Rattle.std.specs.Prelude.{◌≡◌, not, ◌||◌, ltb, ◌^◌};
 ghost use Rattle.rules.specs.Station.{fits_in};
-ghost use Rattle.stationruns.specs.Inputs.{given_if, no_input};
+ghost use Rattle.places.specs.Spot.{spot_in};
+ghost use Rattle.stationruns.specs.Inputs.{no_input};
 ghost use Rattle.stationruns.specs.Runs.{awaits, ends_run, last_chance, period_at, run_at, since_release, under_way};
 
 use figures::{divides, rest};
@@ -139,10 +140,14 @@ fn has_bytes(value: u64, size: ByteCount) -> bool
     }
 }
 
-pub fn fits(given: bool, res: u64, size: ByteCount) -> bool
-    ensures { result ≡ fits_in size.0 (given_if given res) }
+// Whether the result, if one is given, has at most so many bytes.
+pub fn fits(given: Option<u64>, size: ByteCount) -> bool
+    ensures { result ≡ fits_in size.0 (spot_in given) }
 {
-    !given || has_bytes(res, size)
+    match given {
+        Some(value) => has_bytes(value, size),
+        None => true,
+    }
 }
 
 pub fn is_in_time(given: bool, run: Run, in_plan: bool, had: bool, worst: Ticks) -> bool
