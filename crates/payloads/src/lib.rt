@@ -10,9 +10,8 @@ ghost use Rattle.plan.specs.Memory.{seen};
 ghost use Rattle.bus.specs.Senders.{every_byte};
 ghost use Rattle.payloads.specs.Tests.{flag_at, message_keeps, payload_keeps, task_time};
 
-use bus::BYTES;
+use bus::{BYTES, lists};
 use plan::Plan;
-use plan::look::task_count;
 use times::sending_time;
 use units::{ByteCount, TaskNo};
 
@@ -34,19 +33,14 @@ pub fn some_bus_task(tasks: [bool; BYTES], count: usize) -> bool
 fn message_keeps(sends: bool, size: ByteCount, most: ByteCount) -> bool
     ensures { result ≡ cond sends (leb size.0 most.0) true }
 {
-    if sends {
-        return size.0 <= most.0;
-    }
-    true
+    !sends || size <= most
 }
 
 pub fn messages_fit(p: Plan, tasks: [bool; BYTES]) -> bool
     ensures { result ≡ all (message_keeps tasks (seen p)) (up_to (length (seen p).tasks)) }
 {
     let bus = p.bus;
-    let count = task_count(p);
-    for t in 0..count {
-        let task = p.tasks[t];
+    for (t, task) in lists::tasks(&p).iter().enumerate() {
         if !message_keeps(tasks[t], task.size, bus.most) {
             return false;
         }
@@ -74,11 +68,9 @@ pub fn message_times(p: Plan) -> [u32; TaskNo::MOST]
     ensures { result ≡ tab (task_time (seen p)) 0 most_tasks }
 {
     let bus = p.bus;
-    let count = task_count(p);
     let none = sending_time(bus, ByteCount(0)).0 as u32;
     let mut times = [none; TaskNo::MOST];
-    for t in 0..count {
-        let task = p.tasks[t];
+    for (t, task) in lists::tasks(&p).iter().enumerate() {
         times[t] = sending_time(bus, task.size).0 as u32;
     }
     times
