@@ -67,12 +67,6 @@ fn same_run(run: Invocation, other: Invocation) -> bool
     run.mode == other.mode && run.task == other.task
 }
 
-fn is_repeat(run: Invocation, earlier: &[Invocation]) -> bool
-    ensures { result ≡ list_any (λ x. rules.same_run (invocation_seen run) (invocation_seen x)) earlier.now }
-{
-    earlier.iter().any(|other| same_run(run, *other))
-}
-
 // The first invocation that does not fit its mode, or whose task and mode an earlier one has.
 fn first_misfit(p: Plan) -> Option<usize>
     ensures { result ≡ spot_of (first_bad (rules.invocation_keeps (seen p)) (up_to (length (seen p).invocations))) }
@@ -80,14 +74,21 @@ fn first_misfit(p: Plan) -> Option<usize>
     let modes = &p.modes[..look::mode_count(p)];
     let tasks = &p.tasks[..look::task_count(p)];
     let runs = &p.invocations[..look::invocation_count(p)];
-    for (k, run) in runs.iter().enumerate() {
+    let mut repeat = None;
+    'pairs: for (k, run) in runs.iter().enumerate() {
         let mode = entry_or(modes, run.mode.place(), Mode::default());
         let task = entry_or(tasks, run.task.place(), Task::default());
-        if !fits_its_mode(run.rate, mode, task) || is_repeat(*run, &runs[..k]) {
+        if !fits_its_mode(run.rate, mode, task) {
             return Some(k);
         }
+        for other in &runs[..k] {
+            if same_run(*run, *other) {
+                repeat = Some(k);
+                break 'pairs;
+            }
+        }
     }
-    None
+    repeat
 }
 
 #[tactic(auto, unfolding(rules::specs::Plan::is_own, plan::specs::Memory::connection_seen))]
