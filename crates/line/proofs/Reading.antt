@@ -16,9 +16,8 @@ use Rattle.answers.specs.Refusals.{said, number_of, place_of, heard}
 use Rattle.answers.specs.declared.Verdict.TheVariants.{Fine, Refused}
 use Rattle.planrules.specs.declared.Reading.{Reading}
 use Rattle.planrules.specs.Reading.{Reads, verdict}
-use Rattle.line.specs.declared.Laid.{Laid}
-use Rattle.answers.specs.declared.Verdict.TheVariants as line
-use Rattle.line.specs.Line.{no_line, line_in}
+use Rattle.std.specs.Prelude.{Result, Err}
+use Rattle.line.specs.declared.Line.{Line}
 use Rattle.line.specs.Laying.{Lays, laid, file_laid}
 use Rattle.line.proofs.Ways.{verdict-refused, lays_as}
 use Rattle.rules.specs.Traffic.{read_in, plan_in}
@@ -75,7 +74,7 @@ module _ (consumers : Bool) (file : List ℕ) (r : Reading) (h : Reads r (read_i
       verdict-ok (read_in consumers file) (rw (← h.answered, e)) λ p q.
       rw (h.left, q, read_in_seen consumers file p q) (readable_kept_in consumers file p q, edition-kept consumers file p q)
 
-  pub sound-laid : (x : Laid) {tasks releases deadlines : List ℕ} → r.answer ≡ Fine → Lays x tasks releases deadlines (laid (seen r.plan))
+  pub sound-laid : (x : Result Line Refusal) {tasks releases deadlines : List ℕ} → r.answer ≡ Fine → Lays x tasks releases deadlines (laid (seen r.plan))
       → Lays x tasks releases deadlines (file_laid consumers file)
   unfolding file_laid
   sound-laid x e l =
@@ -84,7 +83,7 @@ module _ (consumers : Bool) (file : List ℕ) (r : Reading) (h : Reads r (read_i
       rw q (rw same at l)
 
   -- the arrays of frames are left as they were lent
-  pub refused-laid : (x : Laid) (why : Refusal) {tasks releases deadlines : List ℕ} → r.answer ≡ Refused why → x ≡ record { answer = line.Refused why; line = line_in no_line }
+  pub refused-laid : (x : Result Line Refusal) (why : Refusal) {tasks releases deadlines : List ℕ} → r.answer ≡ Refused why → x ≡ Err why
       → (tasks ≡ replicate most_frames 0) × (releases ≡ replicate most_frames 0) × (deadlines ≡ replicate most_frames 0) → Lays x tasks releases deadlines (file_laid consumers file)
   unfolding file_laid
   refused-laid x why e q z =

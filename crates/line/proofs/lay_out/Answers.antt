@@ -1,5 +1,6 @@
 -- Two cases of the reading: a sound plan is kept and laid out (`sound-laid`), a refusal is passed on (`refused-laid`).
 use Rattle.line.proofs.Reading.{sound-kept, sound-laid, refused-laid}
+use mathlib.Core.Path.{refl}
 use Rattle.line.proofs.lay_out.Goals as goal
 
 pub of_plan-requires : goal.of_plan-requires
@@ -17,4 +18,4 @@ returns-in-Fine c =
 pub returns-in-Refused : goal.returns-in-Refused
 returns-in-Refused c =
     refused-laid c.args.consumers c.args.s.now c.read_in-reading.result c.read_in-reading.ensures _ _
-    c.in-Refused.is c.refused.ensures c.requires
+    c.in-Refused.is refl c.requires
