@@ -4,7 +4,6 @@ ghost use Rattle.laws.specs.Lists.{first_bad, up_to};
 ghost use Rattle.places.specs.Spot.{spot_of};
 ghost use Rattle.planrules.specs.Tests.{counts_fit};
 
-use figures::both;
 use plan::{Connection, Invocation};
 use units::{ModeNo, ModuleNo, NodeNo, TaskNo};
 
@@ -20,12 +19,13 @@ const MOST: [usize; 6] = [
     Connection::MOST,
 ];
 
+#[tactic(auto, unfolding(crate::specs::Tests::counts_fit, rules::specs::Plan::least_counts, rules::specs::Plan::most_counts))]
 fn fits(counts: [usize; 8], k: usize) -> bool
     requires { k < 6 }
     ensures { result ≡ counts_fit counts k }
 {
     let count = counts[2 + k];
-    both(LEAST[k] <= count, count <= MOST[k])
+    LEAST[k] <= count && count <= MOST[k]
 }
 
 // How far behind kind 2 the first kind stands whose count is outside its range.
