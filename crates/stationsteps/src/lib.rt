@@ -1,15 +1,27 @@
 // The steps (a), (c) and (d) of a tick, each on the array that it changes; what it reads is lent.
 #![tactic(auto)]
 
-ghost use Rattle.std.specs.Prelude.{◌≡◌, cond, false, not, ◌&&◌, ◌||◌, get_or, replicate, ℕ, ◌<◌};
+ghost use Rattle.std.specs.Prelude.{◌≡◌, cond, false, not, ◌&&◌, ◌||◌, get_or, length, replicate, ℕ, ◌<◌};
 ghost use Rattle.laws.specs.Loops.{stores};
 ghost use Rattle.rules.specs.Limits.{most_modules, most_tasks};
 ghost use Rattle.rules.specs.Station.{one_on};
-ghost use Rattle.stationsteps.specs.Steps.{age_rule, ends_rule, had_rule, mode_rule, out_rule};
+ghost use Rattle.stationsteps.specs.Steps.{age_rule, ends_rule, had_rule, mode_rule, out_rule, taken_rule};
 
 use places::{entry_or, flag_at, flag_byte, is_set};
 use stationruns::run_at;
 use units::{ModeNo, ModuleNo, TaskNo, Ticks};
+
+// Each place takes the value that it is given, where it is given one.
+fn take_given<T: Copy>(places: &mut [T], values: &[T], given: &[u8])
+    requires { (length values.now ≡ length places.old) × (length given.now ≡ length places.old) }
+    ensures { (outside : T) → places.new ≡ stores places.old (taken_rule values.now given.now places.old outside) (length places.old) }
+{
+    for (k, place) in places.iter_mut().enumerate() {
+        if is_set(given[k]) {
+            *place = values[k];
+        }
+    }
+}
 
 // (a) The flags go by value, for an array by value has its length: behind it nothing is given.
 pub fn out_after<'a>(
@@ -20,11 +32,7 @@ pub fn out_after<'a>(
     ensures value { result ≡ stores out (out_rule results.now given out) most_tasks }
     ensures reads { (t : ℕ) → get_or result t 0 ≡ out_rule results.now given out t }
 {
-    for (t, value) in out.iter_mut().enumerate() {
-        if is_set(given[t]) {
-            *value = results[t];
-        }
-    }
+    take_given(&mut out, results, &given);
     out
 }
 
@@ -53,11 +61,7 @@ pub fn modes_after<'a>(
     ensures value { result ≡ stores running (mode_rule modes.now changed running) most_modules }
     ensures reads { (m : ℕ) → get_or result m 0 ≡ mode_rule modes.now changed running m }
 {
-    for (m, mode) in running.iter_mut().enumerate() {
-        if is_set(changed[m]) {
-            *mode = modes[m];
-        }
-    }
+    take_given(&mut running, modes, &changed);
     running
 }
 
