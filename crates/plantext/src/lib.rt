@@ -4,12 +4,12 @@
 ghost use Rattle.std.specs.Prelude.{◌≡◌, ◌≤◌, ◌<◌, length};
 ghost use Rattle.std.proofs.lemmas.List.Edits.{sets};
 ghost use Rattle.io.specs.Counts.{IsPrefixLen};
+ghost use Rattle.manners.specs.Status.{number_of};
 ghost use Rattle.input.specs.Room.{zeros};
 ghost use Rattle.text.specs.Text.{refused_line};
 ghost use Rattle.plantext.specs.Answer.{answer_for, longest_text, status_for};
 
-use input::Input;
-use manners::{FAILED, Response, Start, put_lines};
+use manners::{Failed, Response, Status, put_lines};
 use meanings::put_help_lines;
 use planwriter::Unprinted;
 use text::{put_refused, put_too_long};
@@ -33,7 +33,7 @@ fn put_refusal(out: &mut [u8], place: usize) -> usize
 fn respond(plan: &[u8], out: &mut [u8]) -> Response
     requires { longest_text ≤ length out.old }
     ensures out_after { (out.new ≡ sets out.old 0 (answer_for plan.now)) × (result.length ≡ length (answer_for plan.now)) }
-    ensures status_value { result.status ≡ status_for plan.now }
+    ensures status_value { number_of result.status ≡ status_for plan.now }
     ensures prefix_len { IsPrefixLen result.length out.new }
 {
     match planwriter::print(plan, &mut *out) {
@@ -45,15 +45,12 @@ fn respond(plan: &[u8], out: &mut [u8]) -> Response
     }
 }
 
-fn print(rt: HostRuntime) -> i32 {
+fn print(rt: HostRuntime) -> Result<Status, Failed> {
     let mut plan = input::file_room();
-    let Input::Bytes(n) = input::read_open(rt, &mut rt.stdin(), b"standard input", &mut plan) else {
-        return FAILED;
-    };
+    let n = input::read_open(rt, &mut rt.stdin(), b"standard input", &mut plan)?;
     let mut out = longest_room();
     let answer = respond(&plan[..n], &mut out);
-    let length = answer.length;
-    manners::write_out(rt, &out[..length], answer.status as i32)
+    manners::write_out(rt, &out[..answer.length], answer.status)
 }
 
 // What `--help` says behind the usage.
@@ -73,11 +70,11 @@ fn put_help(out: &mut [u8]) -> usize
     put_help_lines(&mut *out, refusals_at, 1, 1)
 }
 
-// The program; the number that it ends with.
-pub fn run(rt: HostRuntime) -> i32 {
+// The program, and how it ends.
+pub fn run(rt: HostRuntime) -> Result<Status, Failed> {
     let mut help = io::buffer();
     let end = put_help(&mut help);
-    let start = manners::opening(
+    let opened = manners::opening(
         rt,
         b"plantext",
         b"plantext < PLAN > TEXT",
@@ -85,8 +82,8 @@ pub fn run(rt: HostRuntime) -> i32 {
         1,
         0,
     );
-    match start {
-        Start::Works => print(rt),
-        Start::Ends(status) => status,
+    match opened {
+        Some(ended) => ended,
+        None => print(rt),
     }
 }
