@@ -22,7 +22,6 @@ use answers::{Refusal, Verdict};
 use bus::BYTES;
 use bus::senders::Senders;
 use datarows::release_of;
-use figures::{lower, place, wide};
 use judging::judge;
 use line::{Line, of_plan, read_in};
 use naming::numbers;
@@ -54,14 +53,14 @@ fn control_cells(
     ensures { result ≡ sheet.control_cells (seen p) (record { node = node.0; start = start.0; stop = stop.0 }) }
 {
     let bus = p.bus;
-    let sent = on_bus(bus, ByteCount(wide(payloads[place(node.0)])));
+    let sent = on_bus(bus, ByteCount(u32::from(payloads[usize::from(node.0)])));
     [
-        Cell::Count(node.0 as u64),
+        Cell::Count(u64::from(node.0)),
         Cell::Dash,
         Cell::Dash,
         Cell::Dash,
-        Cell::Count(start.0 as u64),
-        Cell::Count(stop.0 as u64),
+        Cell::Count(u64::from(start.0)),
+        Cell::Count(u64::from(stop.0)),
         Cell::Count(sent.bits.0),
         Cell::Count(sent.ticks.0),
         Cell::Dash,
@@ -84,12 +83,12 @@ fn data_cells(
     let bus = p.bus;
     let sent = on_bus(bus, sender.size);
     [
-        Cell::Count(home.node.0 as u64),
-        Cell::Count(task.0 as u64),
-        Cell::Count(release.0 as u64),
-        Cell::Count(deadline.0 as u64),
-        Cell::Count(start.0 as u64),
-        Cell::Count(stop.0 as u64),
+        Cell::Count(u64::from(home.node.0)),
+        Cell::Count(u64::from(task.0)),
+        Cell::Count(u64::from(release.0)),
+        Cell::Count(u64::from(deadline.0)),
+        Cell::Count(u64::from(start.0)),
+        Cell::Count(u64::from(stop.0)),
         Cell::Count(sent.bits.0),
         Cell::Count(sent.ticks.0),
         difference(start.0, release.0),
@@ -113,8 +112,7 @@ fn put_controls<'a>(
     ensures few { result ≤ at + 1968 }
 {
     let mut next = at;
-    let mut k = 0;
-    while k < controls {
+    for k in 0..controls {
         let cells = control_cells(
             p,
             payloads,
@@ -123,7 +121,6 @@ fn put_controls<'a>(
             Ticks(stops[k]),
         );
         next = put_row(&mut *buf, next, b"control", cells, 1 + k as u64);
-        k += 1;
     }
     next
 }
@@ -147,8 +144,7 @@ fn put_datas<'a>(
     ensures few { result ≤ at + 251904 }
 {
     let mut next = at;
-    let mut k = 0;
-    while k < rows {
+    for k in 0..rows {
         let release = release_of(releases, FrameNo(frames[k]));
         let cells = data_cells(
             p,
@@ -159,7 +155,6 @@ fn put_datas<'a>(
             Ticks(stops[k]),
         );
         next = put_row(&mut *buf, next, b"data", cells, (first + k) as u64);
-        k += 1;
     }
     next
 }
@@ -183,8 +178,8 @@ fn put_sheet<'a>(
 {
     let senders = Senders::of(p);
     let payloads = senders.payloads;
-    let controls = lower(heading.controls, NodeNo::MOST);
-    let rows = lower(heading.rows, Frame::MOST);
+    let controls = heading.controls.min(NodeNo::MOST);
+    let rows = heading.rows.min(Frame::MOST);
     let head = heading.header;
     let head_at = put_cycle(&mut *buf, at, p.consumers, head.period.0);
     let controls_at = put_head(&mut *buf, head_at);
@@ -321,7 +316,7 @@ fn by_plan<'a>(
         line.frames,
         &row_tasks,
         &row_deadlines,
-        lower(heading.rows, Frame::MOST),
+        heading.rows.min(Frame::MOST),
         &mut frames,
     );
     printed(
