@@ -10,7 +10,6 @@ use crate::BYTES;
 use crate::lists::connections;
 use crate::senders::{invoked, nodes_of_tasks};
 use plan::{Connection, Plan};
-use units::TaskNo;
 
 #[derive(Clone, Copy)]
 struct Left {
@@ -29,11 +28,7 @@ fn connections_left(p: Plan, nodes: [u8; BYTES], invoked: [bool; BYTES]) -> Left
     requires invoked_value { invoked ≡ by_number (invoked_by (seen p).invocations) }
     ensures { result ≡ left_laid (keep (is_left (seen p)) (seen p).connections) }
 {
-    let none = Connection {
-        producer: TaskNo(0),
-        consumer: TaskNo(0),
-    };
-    let mut left = [none; Connection::MOST];
+    let mut left = [Connection::default(); Connection::MOST];
     let mut count = 0;
     for connection in connections(&p) {
         let t = usize::from(connection.producer.0);

@@ -62,8 +62,8 @@ pub fn bus_period(runs: Runs, grid: Ticks) -> Ticks
     ensures { (result.0 ≡ period_of_runs (runs_seen runs)) × (result.0 ≤ grid.0) }
 {
     let mut period: u32 = 1;
-    for k in 0..runs.count {
-        period = lcm(runs.periods[k], period) as u32;
+    for each in &runs.periods[..runs.count] {
+        period = lcm(*each, period) as u32;
     }
     Ticks(period)
 }

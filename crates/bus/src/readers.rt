@@ -144,8 +144,8 @@ fn put_row(
     ensures { periods.new ≡ sets periods.old (t * most_invocations) (take n row) }
 {
     let from = t * Invocation::MOST;
-    for k in 0..n {
-        periods[from + k] = row[k];
+    for (k, period) in row[..n].iter().enumerate() {
+        periods[from + k] = *period;
     }
 }
 

@@ -1,4 +1,5 @@
 use native.Mathlib.Omega.{arith}
+use Rattle.std.proofs.Common.{◌≡◌, rules as needs}
 use Prim.Native.Nat.{◌≤◌, ◌<◌}
 use lib.ListN.{length, get_or}
 use lib.Seq.{take_all}
@@ -11,7 +12,9 @@ use Rattle.bus.proofs.edition.connections_left.Goals.{then-is_left, else-is_left
 
 pub loop-connection-init : goal.loop-connection-init
 unfolding connection_laid
-loop-connection-init c = left-none (seen c.args.p)
+loop-connection-init c =
+    let zero : c.default-left.result ≡ connection_laid no_connection = search needs in
+    rw zero (left-none (seen c.args.p))
 
 pub bounds-left-count : goal.bounds-left-count
 bounds-left-count c = omega (arith, left-few (seen c.args.p) c.loop-connection.connection-index c.loop-connection.count c.loop-connection.left c.loop-connection.invariant (omega (arith, c.connections-connection-items.ensures.count.0)))
