@@ -30,6 +30,7 @@ use Rattle.rules.proofs.StationStays.{kept-begins}
 use Rattle.answers.specs.Refusals.{heard, number_of, place_of, said}
 use Rattle.answers.specs.declared.Refusal.{Refusal}
 use Rattle.answers.specs.declared.Verdict.TheVariants.{Fine, Refused}
+use Rattle.std.specs.Prelude.{Err}
 use Rattle.plan.specs.Memory.{seen}
 use Rattle.line.specs.Line.{line_of}
 use Rattle.line.proofs.Drawn.{Drawn, drawn}
@@ -98,7 +99,7 @@ passed_of p t = record { plan = p; traffic = traffic p; layout = layout_of p; ta
 module _ (plan table : List ℕ) (x : Passing) {tasks deadlines starts : List ℕ} (says : Passes x tasks deadlines starts (check_files plan table)) where
   -- the checker's number
   pub refused-begins : (starting : Starting) (why : Refusal) {r : Begun} → x.answer ≡ Refused why
-      → r ≡ record { answer = Refused why; station = not_begun } → Begins r (rules.begin plan table (starting_at starting))
+      → r ≡ record { answer = Err why; station = not_begun } → Begins r (rules.begin plan table (starting_at starting))
   unfolding rules.begin
   refused-begins starting why e q =
       let refuses : check_files plan table ≡ said why = verdict-refused (number_of why) (place_of why) (check_files plan table) (sym says.answered ∙ ap heard e) in
