@@ -6,10 +6,10 @@ ghost use Rattle.std.proofs.lemmas.List.Edits.{sets};
 ghost use Rattle.laws.specs.Lists.{all, up_to};
 ghost use Rattle.rules.specs.Limits.{most_nodes, most_tasks};
 ghost use Rattle.text.specs.Text.{texts};
-ghost use Rattle.answerlines.specs.Writing.{begun_text, control_line, data_line, node_shown, only_if, place_shown, quiet_text, refusal_line, said_text, same_on, same_place, shown_at, shown_line, speaks, ticked_text, times_text};
+ghost use Rattle.answerlines.specs.Writing.{begun_text, control_line, data_line, node_shown, only_if, place_shown, quiet_text, refusal_line, row_line, said_text, same_on, same_place, shown_at, shown_line, speaks, ticked_text, times_text};
 
-use answers::{Refusal, Verdict};
-use stationmoves::{ControlRow, DataRow, Said};
+use answers::Refusal;
+use stationmoves::{ControlRow, DataRow, StartedRow};
 use stationnodes::Node;
 use text::{put_bytes, put_marked, put_numbered};
 use units::{NodeNo, TaskNo, Ticks};
@@ -129,12 +129,24 @@ fn put_data(rows: bool, out: &mut [u8], at: usize, row: DataRow) -> usize
     at
 }
 
+// The line of the row that starts, where rows are asked for.
+fn put_row(rows: bool, out: &mut [u8], at: usize, row: StartedRow) -> usize
+    requires { at + 118 ≤ 18446744073709551615 }
+    ensures out_after { (out.new ≡ sets out.old at (only_if rows (row_line row))) × (result ≡ at + length (only_if rows (row_line row))) }
+    ensures few { result ≤ at + 118 }
+{
+    match row {
+        StartedRow::Control(control) => put_control(rows, out, at, control),
+        StartedRow::Data(data) => put_data(rows, out, at, data),
+    }
+}
+
 // What is said of a tick: its refusal; else the row that starts, where `rows` are asked for, and what is shown, where `shows` asks for it.
 fn put_said(
     out: &mut [u8],
     at: usize,
     rows: bool,
-    said: Said,
+    said: Result<Option<StartedRow>, Refusal>,
     shows: bool,
     nodes: [Node; NodeNo::MOST],
 ) -> usize
@@ -143,21 +155,22 @@ fn put_said(
     ensures few { result ≤ at + 16254 }
 {
     match said {
-        Said::Control(row) => {
-            let next = put_control(rows, &mut *out, at, row);
+        Ok(Some(row)) => {
+            let next = put_row(rows, &mut *out, at, row);
             put_shown_if(shows, &mut *out, next, nodes)
         }
-        Said::Data(row) => {
-            let next = put_data(rows, &mut *out, at, row);
-            put_shown_if(shows, &mut *out, next, nodes)
-        }
-        Said::Quiet => put_shown_if(shows, &mut *out, at, nodes),
-        Said::Refused(why) => put_refusal(&mut *out, at, why),
+        Ok(None) => put_shown_if(shows, &mut *out, at, nodes),
+        Err(why) => put_refusal(&mut *out, at, why),
     }
 }
 
 // The answer to a tick.
-pub fn put_ticked(out: &mut [u8], rows: bool, said: Said, nodes: [Node; NodeNo::MOST]) -> usize
+pub fn put_ticked(
+    out: &mut [u8],
+    rows: bool,
+    said: Result<Option<StartedRow>, Refusal>,
+    nodes: [Node; NodeNo::MOST],
+) -> usize
     ensures out_after { (out.new ≡ sets out.old 0 (ticked_text rows said nodes)) × (result ≡ length (ticked_text rows said nodes)) }
     ensures few { result ≤ 16254 }
 {
@@ -165,13 +178,13 @@ pub fn put_ticked(out: &mut [u8], rows: bool, said: Said, nodes: [Node; NodeNo::
 }
 
 // Something is said of a quiet tick.
-fn speaks(rows: bool, said: Said, shows: bool) -> bool
+fn speaks(rows: bool, said: Result<Option<StartedRow>, Refusal>, shows: bool) -> bool
     ensures { result ≡ speaks rows said shows }
 {
     match said {
-        Said::Control(_) | Said::Data(_) => rows || shows,
-        Said::Quiet => shows,
-        Said::Refused(_) => true,
+        Ok(Some(_)) => rows || shows,
+        Ok(None) => shows,
+        Err(_) => true,
     }
 }
 
@@ -180,7 +193,7 @@ pub fn put_quiet(
     out: &mut [u8],
     k: u64,
     rows: bool,
-    said: Said,
+    said: Result<Option<StartedRow>, Refusal>,
     shows: bool,
     nodes: [Node; NodeNo::MOST],
 ) -> usize
@@ -195,13 +208,13 @@ pub fn put_quiet(
 }
 
 // The answer to a beginning: `begun`, or its refusal.
-pub fn put_begun(out: &mut [u8], answer: Verdict) -> usize
+pub fn put_begun(out: &mut [u8], answer: Result<(), Refusal>) -> usize
     ensures out_after { (out.new ≡ sets out.old 0 (begun_text answer)) × (result ≡ length (begun_text answer)) }
     ensures few { result ≤ 53 }
 {
     match answer {
-        Verdict::Fine => put_bytes(out, 0, b"begun\n"),
-        Verdict::Refused(why) => put_refusal(out, 0, why),
+        Ok(()) => put_bytes(out, 0, b"begun\n"),
+        Err(why) => put_refusal(out, 0, why),
     }
 }
 
