@@ -8,11 +8,13 @@
 pub mod texts;
 
 ghost use Rattle.std.specs.Prelude.{◌≡◌};
+ghost use Rattle.answers.specs.Refusals.{heard};
+ghost use Rattle.outward.specs.Answers.{answer_of};
 ghost use Rattle.olbiothar.specs.Lent.{ChecksRows, MakesRows};
 ghost use Rattle.olbiothar.specs.Scanned.{Scans};
 ghost use Rattle.rules.specs.Station.{begin};
 ghost use Rattle.stationruns.specs.Inputs.{starting_at};
-ghost use Rattle.olbiothar.specs.Playing.{BeginsIn, Ticks, begun_by};
+ghost use Rattle.olbiothar.specs.Playing.{BeginsIn, Ticks};
 ghost use Rattle.station.specs.Memory.{kept_of, state_of};
 ghost use Rattle.station.specs.Parts.{Valued};
 ghost use Rattle.outward.specs.Seen.{module_now, task_now, time_now};
@@ -21,8 +23,8 @@ ghost use Rattle.olbiothar.specs.Sheets.{back_said, has_room, is_read, sheet_lef
 use answers::Verdict;
 use checker::CheckedRows;
 use outward::{
-    Answer, ModuleNow, TaskNow, TickAnswer, TimeNow, answer_before_nodes, judged, made, module_now,
-    refused, task_now, time_now,
+    Answer, ModuleNow, TaskNow, TickAnswer, TimeNow, answer_before_nodes, module_now, task_now,
+    time_now,
 };
 use rows::passes::{clear, fill, some_early, zero_bytes, zero_words};
 use sheetreader::NoTable;
@@ -49,7 +51,7 @@ pub fn olbiothar_make(plan: &[u8], edition: u8, rows: &mut [Frame], table: &mut 
         &mut starts,
     );
     fill(rows, making.frames, &tasks, &releases, &deadlines, &starts);
-    made(making.answer)
+    Answer::from(making.answer)
 }
 
 // A table file by its plan: refusals 19, 1 to 11 and 20 to 28, or that it passes. Rule 25 is decided by the scan of the lent rows; only where
@@ -92,34 +94,13 @@ fn scanned(plan: &[u8], table: &[u8], rows: &mut [Frame], unscanned: CheckedRows
     judged(settled.answer)
 }
 
-// A beginning by value: the answer, whether the station begins, and the station.
-#[derive(Clone, Copy)]
-pub struct Begun {
-    pub answer: Answer,
-    pub begins: bool,
-    pub station: Station,
-}
-
-fn begin_by_value(plan: &[u8], table: &[u8], starting: Starting) -> Begun
-    ensures { result ≡ begun_by (begin plan.now table.now (starting_at starting)) }
+// What was judged, in the numbers that C has.
+fn judged(answer: Verdict) -> Answer
+    ensures { result ≡ answer_of (heard answer) }
 {
-    let b = beginning::begin(plan, table, starting);
-    let answer = b.answer;
-    let station = b.station;
     match answer {
-        Verdict::Fine => Begun {
-            answer: Answer {
-                number: 0,
-                place: 0,
-            },
-            begins: true,
-            station,
-        },
-        Verdict::Refused(why) => Begun {
-            answer: refused(why),
-            begins: false,
-            station,
-        },
+        Verdict::Fine => Answer::default(),
+        Verdict::Refused(why) => Answer::from(why),
     }
 }
 
@@ -132,11 +113,11 @@ pub fn olbiothar_begin(
 ) -> Answer
     ensures { BeginsIn (begin plan.now table.now (starting_at starting)) station.old result station.new }
 {
-    let b = begin_by_value(plan, table, starting);
-    if b.begins {
-        *station = b.station;
+    let begun = beginning::begin(plan, table, starting);
+    if begun.answer.is_ok() {
+        *station = begun.station;
     }
-    b.answer
+    Answer::from(begun.answer)
 }
 
 // What the nodes hold landed and shown fits its type, as of every station. A look behind the reference makes the type's word known; nothing is
