@@ -6,7 +6,8 @@ ghost use Rattle.std.proofs.lemmas.List.Edits.{sets};
 ghost use Rattle.rules.specs.Limits.{longest_sheet, most_nodes, most_frames};
 ghost use Rattle.rules.specs.Traffic.{control_payload};
 ghost use Rattle.rules.specs.Checker.{is_for_consumers};
-ghost use Rattle.answers.specs.Refusals.{heard, number_of, place_of, said};
+ghost use Rattle.answers.specs.Answered.{judged};
+ghost use Rattle.answers.specs.Refusals.{number_of, place_of, said};
 ghost use Rattle.plan.specs.Memory.{lay_out, seen};
 ghost use Rattle.bus.specs.Senders.{by_number};
 ghost use Rattle.line.specs.Line.{drawing, line_of};
@@ -18,7 +19,7 @@ ghost use Rattle.sheet.specs.Sheet as sheet;
 ghost use Rattle.sheetwriter.specs.Memory.{control_text_in, data_cells_in, data_text_in, printed_text, sheet_in};
 ghost use Rattle.sheetwriter.specs.Writing.{FromFile, Prints, Writes, table_located};
 
-use answers::{Refusal, Verdict};
+use answers::Refusal;
 use bus::BYTES;
 use bus::senders::Senders;
 use datarows::release_of;
@@ -38,7 +39,7 @@ use units::{ByteCount, Frame, FrameNo, NodeNo, TaskNo, Ticks};
 // What check says of plan and table, and how long the text is.
 #[derive(Clone, Copy)]
 pub struct Written {
-    pub answer: Verdict,
+    pub answer: Result<(), Refusal>,
     pub length: usize,
 }
 
@@ -215,7 +216,7 @@ fn refused(why: Refusal, out: &mut [u8]) -> Written
 {
     let length = put_refused(out, why.number(), why.place());
     Written {
-        answer: Verdict::Refused(why),
+        answer: Err(why),
         length,
     }
 }
@@ -223,7 +224,7 @@ fn refused(why: Refusal, out: &mut [u8]) -> Written
 // What is printed of a table that was judged: a refusal before 25 alone, else the sheet, below the refusal if there is one.
 fn printed<'a>(
     out: &mut [u8],
-    answer: Verdict,
+    answer: Result<(), Refusal>,
     p: Plan,
     heading: Heading,
     tasks: &'a [u8; Frame::MOST],
@@ -233,24 +234,24 @@ fn printed<'a>(
     releases: &'a [u32; Frame::MOST],
     frames: &'a [usize; Frame::MOST],
 ) -> Written
-    ensures prints { Prints result out.old out.new (heard answer) (printed_text (heard answer) (sheet_in (seen p) (table_with heading tasks.now deadlines.now starts.now stops.now) releases.now frames.now)) }
+    ensures prints { Prints result out.old out.new (judged answer) (printed_text (judged answer) (sheet_in (seen p) (table_with heading tasks.now deadlines.now starts.now stops.now) releases.now frames.now)) }
     ensures few { result.length ≤ longest_sheet }
 {
     match answer {
-        Verdict::Fine => {
+        Ok(()) => {
             let length = put_sheet(
                 out, 0, p, heading, tasks, deadlines, starts, stops, releases, frames,
             );
             Written {
-                answer: Verdict::Fine,
+                answer: Ok(()),
                 length,
             }
         }
-        Verdict::Refused(why) => {
+        Err(why) => {
             let top = put_refused(&mut *out, why.number(), why.place());
             if why.number() < 25 {
                 return Written {
-                    answer: Verdict::Refused(why),
+                    answer: Err(why),
                     length: top,
                 };
             }
@@ -258,7 +259,7 @@ fn printed<'a>(
                 out, top, p, heading, tasks, deadlines, starts, stops, releases, frames,
             );
             Written {
-                answer: Verdict::Refused(why),
+                answer: Err(why),
                 length,
             }
         }
@@ -340,20 +341,19 @@ pub fn write(plan: &[u8], table: &[u8], out: &mut [u8]) -> Written
 {
     let reading = read_in(plan, is_for_consumers(table));
     let answer = reading.answer;
-    if let Verdict::Refused(why) = answer {
+    if let answers::Verdict::Refused(why) = answer {
         return refused(why, out);
     }
     let mut tasks: [u8; Frame::MOST] = [0; Frame::MOST];
     let mut releases: [u32; Frame::MOST] = [0; Frame::MOST];
     let mut deadlines: [u32; Frame::MOST] = [0; Frame::MOST];
-    let laid = of_plan(reading.plan, &mut tasks, &mut releases, &mut deadlines);
-    let placed = laid.answer;
-    if let Verdict::Refused(why) = placed {
-        return refused(why, out);
-    }
+    let line = match of_plan(reading.plan, &mut tasks, &mut releases, &mut deadlines) {
+        Ok(line) => line,
+        Err(why) => return refused(why, out),
+    };
     by_plan(
         reading.plan,
-        laid.line,
+        line,
         table,
         &tasks,
         &releases,

@@ -11,32 +11,32 @@ returns-in-Refused c =
     let a = c.args in
     let read = rw c.is_for_consumers.ensures at c.read_in-reading.ensures in record { writes = way_unread a.plan.now a.table.now _ read _ c.in-Refused.is c.refused.ensures.prints; few = omega (arith, c.refused.ensures.few) }
 
-pub of_plan-laid-requires : goal.of_plan-laid-requires
-of_plan-laid-requires c =
+pub of_plan-requires : goal.of_plan-requires
+of_plan-requires c =
     let a = c.args in
     record { plan_kept = sound-kept _ a.plan.now _ c.read_in-reading.ensures c.in_default.is; tasks_value = (refl, refl, refl) }
 
-pub returns-in-Refused-placed : goal.returns-in-Refused-placed
-returns-in-Refused-placed c =
+pub returns-in-Err : goal.returns-in-Err
+returns-in-Err c =
     let a = c.args in
     let read = rw c.is_for_consumers.ensures at c.read_in-reading.ensures in record {
-      writes = way_unlaid a.plan.now a.table.now _ read c.in_default.is _ c.of_plan-laid.ensures _
-          c.in-Refused-placed.is c.refused-in-Refused-placed.ensures.prints;
-      few = omega (arith, c.refused-in-Refused-placed.ensures.few);
+      writes = way_unlaid a.plan.now a.table.now _ read c.in_default.is _ c.of_plan.ensures _
+          c.in-Err.is c.refused-in-Err.ensures.prints;
+      few = omega (arith, c.refused-in-Err.ensures.few);
     }
 
 pub by_plan-requires : goal.by_plan-requires
 by_plan-requires c =
     let a = c.args in
     let read = rw c.is_for_consumers.ensures at c.read_in-reading.ensures in
-    way_ready a.plan.now a.table.now _ read c.in_default.is _ c.of_plan-laid.ensures
-    c.in_default-placed.is
+    way_ready a.plan.now a.table.now _ read c.in_default.is _ c.of_plan.ensures
+    c.in-Ok.is
 
 pub returns : goal.returns
 returns c =
     let a = c.args in
     let read = rw c.is_for_consumers.ensures at c.read_in-reading.ensures in record {
-      writes = way_on a.plan.now a.table.now _ read c.in_default.is _ c.of_plan-laid.ensures
-          c.in_default-placed.is c.by_plan.ensures.prints;
+      writes = way_on a.plan.now a.table.now _ read c.in_default.is _ c.of_plan.ensures
+          c.in-Ok.is c.by_plan.ensures.prints;
       few = c.by_plan.ensures.few;
     }
