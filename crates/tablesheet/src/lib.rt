@@ -3,24 +3,24 @@
 
 ghost use Rattle.std.specs.Prelude.{◌≡◌, ◌≤◌, length};
 ghost use Rattle.std.proofs.lemmas.List.Edits.{sets};
-ghost use Rattle.answers.specs.Refusals.{heard};
+ghost use Rattle.answers.specs.Answered.{judged};
 ghost use Rattle.io.specs.Counts.{IsPrefixLen};
 ghost use Rattle.manners.specs.Status.{number_of, status_of};
 ghost use Rattle.rules.specs.Limits.{longest_sheet};
 ghost use Rattle.tablesheet.specs.Answer.{answer_for, status_for};
 
-use answers::Verdict;
+use answers::Refusal;
 use input::{file_room, read_argument, text_room};
 use manners::{Failed, Response, Status, put_lines};
 use meanings::put_help_lines;
 
 // A text of so many bytes, and the status by the checker's answer.
-fn ending(answer: Verdict, n: usize) -> Response
-    ensures { (result.length ≡ n) × (number_of result.status ≡ status_of (heard answer)) }
+fn ending(answer: Result<(), Refusal>, n: usize) -> Response
+    ensures { (result.length ≡ n) × (number_of result.status ≡ status_of (judged answer)) }
 {
     match answer {
-        Verdict::Fine => Response::done(n),
-        Verdict::Refused(_) => Response::refused(n),
+        Ok(()) => Response::done(n),
+        Err(_) => Response::refused(n),
     }
 }
 
