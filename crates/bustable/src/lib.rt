@@ -7,7 +7,6 @@ ghost use Rattle.io.specs.Counts.{IsPrefixLen};
 ghost use Rattle.manners.specs.Status.{number_of};
 ghost use Rattle.bustable.specs.Answer.{answer_for, status_for};
 
-use linetable::Answer;
 use manners::{Failed, Response, Status, is_argument, put_lines};
 use meanings::put_help_lines;
 use units::{ByteCount, Frame};
@@ -35,10 +34,9 @@ fn respond(plan: &[u8], consumers: bool, out: &mut [u8]) -> Response
         &mut deadlines,
         &mut starts,
     );
-    let answer = made.answer;
-    match answer {
-        Answer::Made(length) => Response::done(length),
-        Answer::Refused(refusal) => {
+    match made.answer {
+        Ok(length) => Response::done(length),
+        Err(refusal) => {
             Response::refused(text::put_refused(&mut *out, refusal.number(), refusal.place()))
         }
     }

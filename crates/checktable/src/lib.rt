@@ -7,7 +7,6 @@ ghost use Rattle.io.specs.Counts.{IsPrefixLen};
 ghost use Rattle.manners.specs.Status.{number_of};
 ghost use Rattle.checktable.specs.Answer.{answer_for, status_for};
 
-use answers::Verdict;
 use input::{file_room, read_argument};
 use manners::{Failed, Response, Status, put_lines};
 use meanings::put_help_lines;
@@ -38,10 +37,9 @@ fn respond(plan: &[u8], table: &[u8], out: &mut [u8]) -> Response
         &mut deadlines,
         &mut starts,
     );
-    let answer = checked.answer;
-    match answer {
-        Verdict::Fine => Response::done(text::put_passed(&mut *out)),
-        Verdict::Refused(why) => {
+    match checked.answer {
+        Ok(()) => Response::done(text::put_passed(&mut *out)),
+        Err(why) => {
             Response::refused(text::put_refused(&mut *out, why.number(), why.place()))
         }
     }
