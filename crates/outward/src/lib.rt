@@ -4,7 +4,7 @@
 ghost use Rattle.std.specs.Prelude.{◌≡◌};
 ghost use Rattle.answers.specs.Answered.{judged};
 ghost use Rattle.answers.specs.Refusals.{said};
-ghost use Rattle.linetable.specs.Making as making;
+ghost use Rattle.linetable.specs.Making.{heard_made};
 ghost use Rattle.outward.specs.Answers.{answer_of, made_of};
 ghost use Rattle.outward.specs.Numbers.{CompletesWith, row_of, tick_said};
 ghost use Rattle.outward.specs.Seen.{left_of, module_at, module_by, task_at, task_by, time_by};
@@ -51,16 +51,16 @@ impl From<Result<(), Refusal>> for Answer {
 }
 
 // Of a table: its length is the place.
-impl From<linetable::Answer> for Answer {
-    ghost from_gives = { λ made answer. answer ≡ made_of (making.heard_made made) };
+impl From<Result<usize, Refusal>> for Answer {
+    ghost from_gives = { λ made answer. answer ≡ made_of (heard_made made) };
 
-    fn from(made: linetable::Answer) -> Answer {
+    fn from(made: Result<usize, Refusal>) -> Answer {
         match made {
-            linetable::Answer::Made(length) => Answer {
+            Ok(length) => Answer {
                 number: 0,
                 place: length as u64,
             },
-            linetable::Answer::Refused(why) => Answer::from(why),
+            Err(why) => Answer::from(why),
         }
     }
 }
