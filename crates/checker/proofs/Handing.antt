@@ -15,13 +15,10 @@ use Rattle.rules.specs.Checker.{Passed, judged, table_of, check_files, is_for_co
 use Rattle.rules.proofs.RecordsExact.{records-refused}
 use Rattle.answers.specs.declared.Refusal.{Refusal}
 use Rattle.answers.specs.Refusals.{number_of, place_of, said}
-use Rattle.answers.specs.Refusals as verdicts
 use Rattle.answers.specs.Answered.{judged as heard}
-use Rattle.answers.specs.declared.Verdict.TheVariants.{Fine, Refused}
 use Rattle.std.specs.Prelude.{Result, Ok, Err}
 use Rattle.plan.specs.declared.Plan.{Plan}
 use Rattle.plan.specs.Memory.{seen, lay_out}
-use Rattle.planrules.specs.declared.Reading as planread
 use Rattle.planrules.specs.Reading as plans
 use Rattle.planrules.specs.Reading.{Reads}
 use Rattle.line.specs.declared.Line.{Line}
@@ -108,15 +105,15 @@ pub read-refused : (n at : ℕ) (rule : Res rules.Plan) → plans.verdict rule �
 read-refused n at (ok p) e = refuse≢ok (sym e)
 read-refused n at (refuse m k) e = rw (refuse-number e, refuse-place e)
 
-module _ (plan table : List ℕ) (reading : planread.Reading) (reads : Reads reading (read_in (is_for_consumers table) plan)) where
-  pub way_unread : (r : Result Passing Refusal) {tasks deadlines starts : List ℕ} (why : Refusal) → reading.answer ≡ Refused why → r ≡ Err why
+module _ (plan table : List ℕ) (reading : Result Plan Refusal) (reads : Reads reading (read_in (is_for_consumers table) plan)) where
+  pub way_unread : (r : Result Passing Refusal) {tasks deadlines starts : List ℕ} (why : Refusal) → reading ≡ Err why → r ≡ Err why
       → NoPairs tasks deadlines starts → Passes r tasks deadlines starts (check_files plan table)
   unfolding check_files
   way_unread r why q e z =
-      let n : read_in (is_for_consumers table) plan ≡ said why = read-refused (number_of why) (place_of why) (read_in (is_for_consumers table) plan) (sym reads.answered ∙ ap verdicts.heard q) in
+      let n : read_in (is_for_consumers table) plan ≡ said why = read-refused (number_of why) (place_of why) (read_in (is_for_consumers table) plan) (sym reads.answered ∙ ap plans.heard_reading q) in
       passes-refused why r (check_files plan table) e z (rw n)
 
-  module _ (sound : reading.answer ≡ Fine) (x : Result Line Refusal) {tasks releases deadlines : List ℕ} (lays : Lays x tasks releases deadlines (laid (seen reading.plan))) where
+  module _ {p : Plan} (sound : reading ≡ Ok p) (x : Result Line Refusal) {tasks releases deadlines : List ℕ} (lays : Lays x tasks releases deadlines (laid (seen p))) where
     lays_file : Lays x tasks releases deadlines (file_laid (is_for_consumers table) plan)
     lays_file = sound-laid (is_for_consumers table) plan reading reads x sound lays
 
@@ -135,17 +132,17 @@ module _ (plan table : List ℕ) (reading : planread.Reading) (reads : Reads rea
 
     module _ {line : Line} (fine : x ≡ Ok line) where
       -- the plan that was read is the one that is laid out
-      read_is : {C : Type 0} → ((q : rules.Plan) → file_laid (is_for_consumers table) plan ≡ ok q → drawing line tasks releases deadlines ≡ line_of q → reading.plan ≡ lay_out q → seen reading.plan ≡ q → C) → C
+      read_is : {C : Type 0} → ((q : rules.Plan) → file_laid (is_for_consumers table) plan ≡ ok q → drawing line tasks releases deadlines ≡ line_of q → p ≡ lay_out q → seen p ≡ q → C) → C
       read_is go =
           laid-sound (file_laid (is_for_consumers table) plan) x lays_file fine λ q is_laid same.
           file-laid (is_for_consumers table) plan q is_laid λ is_read _.
-          let held : reading.plan ≡ lay_out q = rw is_read at reads.left in
+          let held : p ≡ lay_out q = rw (sound, is_read) at reads.left in
           go q is_laid same held (rw held (read_in_seen (is_for_consumers table) plan q is_read))
 
-      pub way_ready : (reading.plan ≡ lay_out (seen reading.plan)) × (drawing line tasks releases deadlines ≡ line_of (seen reading.plan)) × Drawn (seen reading.plan)
+      pub way_ready : (p ≡ lay_out (seen p)) × (drawing line tasks releases deadlines ≡ line_of (seen p)) × Drawn (seen p)
       way_ready = read_is λ q is_laid same held is. rw is (held, same, file_drawn (is_for_consumers table) plan q is_laid)
 
-      pub way_on : {r : Result Passing Refusal} {pair_tasks pair_deadlines starts : List ℕ} → Passes r pair_tasks pair_deadlines starts (table_passed (seen reading.plan) table)
+      pub way_on : {r : Result Passing Refusal} {pair_tasks pair_deadlines starts : List ℕ} → Passes r pair_tasks pair_deadlines starts (table_passed (seen p) table)
           → Passes r pair_tasks pair_deadlines starts (check_files plan table)
       unfolding check_files table_passed
       way_on {r} h =

@@ -15,7 +15,7 @@ ghost use Rattle.checked.specs.Checking.{Checks, lent_passed, PassesExactly, Ref
 ghost use Rattle.checker.specs.Passing.{Passes, table_passed};
 ghost use Rattle.checker.specs.Unscanned.{ByTable, Judged, checking, refuses, Settles};
 
-use answers::{Refusal, Verdict};
+use answers::Refusal;
 use judging::judge;
 use line::{Line, lay_out, of_plan, read_in};
 use plan::Plan;
@@ -248,19 +248,8 @@ pub fn passed(
     requires { (tasks.old ≡ replicate most_frames 0) × (deadlines.old ≡ replicate most_frames 0) × (starts.old ≡ replicate most_frames 0) }
     ensures { Passes result tasks.new deadlines.new starts.new (check_files plan.now table.now) }
 {
-    let reading = read_in(plan, is_for_consumers(table));
-    if let Verdict::Refused(why) = reading.answer {
-        return Err(why);
-    }
+    let p = read_in(plan, is_for_consumers(table))?;
     let mut releases: [u32; Frame::MOST] = [0; Frame::MOST];
-    let line = of_plan(reading.plan, tasks, &mut releases, deadlines)?;
-    passed_on(
-        reading.plan,
-        line,
-        table,
-        tasks,
-        &releases,
-        deadlines,
-        starts,
-    )
+    let line = of_plan(p, tasks, &mut releases, deadlines)?;
+    passed_on(p, line, table, tasks, &releases, deadlines, starts)
 }

@@ -18,7 +18,7 @@ ghost use Rattle.control.specs.Control.{control_laid};
 ghost use Rattle.line.specs.Line.{no_line, line_of, line_in};
 ghost use Rattle.line.specs.Laying.{Closes, Lays, laid, framing, closing, file_laid};
 
-use answers::{Refusal, Verdict};
+use answers::Refusal;
 use bus::BYTES;
 use bus::edition::in_edition;
 use bus::marks::{counted_tasks, grid_modules};
@@ -32,7 +32,6 @@ use frames::laid::lay;
 use payloads::{controls_fit, message_times, messages_fit, some_bus_task};
 use plan::Plan;
 use plan::look::task_count;
-use planrules::Reading;
 use records::kinds::head_kind;
 use times::{Span, gap_time};
 use units::{Frame, NodeNo, TaskNo, Ticks};
@@ -232,18 +231,11 @@ pub fn of_plan(
 }
 
 // The plan of a file in an edition, or the first refusal of 1 to 5 that applies, at its lowest place.
-pub fn read_in(s: &[u8], consumers: bool) -> Reading
+pub fn read_in(s: &[u8], consumers: bool) -> Result<Plan, Refusal>
     ensures { Reads result (read_in consumers s.now) }
 {
-    let reading = planrules::read(s);
-    let answer = reading.answer;
-    match answer {
-        Verdict::Fine => Reading {
-            answer,
-            plan: in_edition(reading.plan, consumers),
-        },
-        Verdict::Refused(_) => reading,
-    }
+    let plan = planrules::read(s)?;
+    Ok(in_edition(plan, consumers))
 }
 
 // The frames and the line of a plan file in an edition, or the first refusal of 1 to 11 that applies, at its lowest place.
@@ -257,10 +249,6 @@ pub fn lay_out(
     requires { (tasks.old ≡ replicate most_frames 0) × (releases.old ≡ replicate most_frames 0) × (deadlines.old ≡ replicate most_frames 0) }
     ensures { Lays result tasks.new releases.new deadlines.new (file_laid consumers s.now) }
 {
-    let reading = read_in(s, consumers);
-    let answer = reading.answer;
-    match answer {
-        Verdict::Fine => of_plan(reading.plan, tasks, releases, deadlines),
-        Verdict::Refused(why) => Err(why),
-    }
+    let plan = read_in(s, consumers)?;
+    of_plan(plan, tasks, releases, deadlines)
 }

@@ -20,11 +20,9 @@ use Rattle.plan.specs.declared.Plan.{Plan}
 use Rattle.std.specs.Prelude.{Some, None, Result, Ok, Err}
 use Rattle.units.specs.declared.Offset.{Offset}
 use Rattle.std.specs.Prelude as code
-use Rattle.plan.specs.Memory.{lay_out, empty_plan, seen}
+use Rattle.plan.specs.Memory.{lay_out, seen}
 use Rattle.plangather.specs.Gather.{gathered_of}
 use Rattle.plan.proofs.Laid.{counts-placed, seen-laid}
-use Rattle.answers.specs.declared.Verdict.TheVariants.{Fine, Refused}
-use Rattle.planrules.specs.declared.Reading.{Reading}
 use Rattle.planrules.specs.Reading.{Reads}
 use Rattle.planfits.specs.Scans.{is_ok, first_bad_of, unfit_of}
 use Rattle.places.specs.Spot.{spot_of}
@@ -59,10 +57,10 @@ gathered-sound s p e = gathered_as p (records plan_follows 1 s) e λ rs w q. rw 
 
 -- ---- a reading that says what the rules say
 
-refused-reads : (r : Reading) (x : Refusal) (rule : Res rules.Plan) → r ≡ record { answer = Refused x; plan = empty_plan } → rule ≡ said x → Reads r rule
+refused-reads : (r : Result Plan Refusal) (x : Refusal) (rule : Res rules.Plan) → r ≡ Err x → rule ≡ said x → Reads r rule
 refused-reads r x rule e q = record { answered = rw (e, q); left = rw (e, q) }
 
-sound-reads : (r : Reading) (p : rules.Plan) (rule : Res rules.Plan) → r ≡ record { answer = Fine; plan = lay_out p } → rule ≡ ok p → Reads r rule
+sound-reads : (r : Result Plan Refusal) (p : rules.Plan) (rule : Res rules.Plan) → r ≡ Ok (lay_out p) → rule ≡ ok p → Reads r rule
 sound-reads r p rule e q = record { answered = rw (e, q); left = rw (e, q) }
 
 -- ---- the rules, from a file's records on
@@ -145,9 +143,9 @@ module _ (s : List ℕ) (p : Plan) (rs : List Rec) (walked : records plan_follow
 
 -- ---- the ways out of the code
 
-module _ (s : List ℕ) (p : Plan) (r : Reading) (g : gathered_of (records plan_follows 1 s) ≡ Ok p) where
+module _ (s : List ℕ) (p : Plan) (r : Result Plan Refusal) (g : gathered_of (records plan_follows 1 s) ≡ Ok p) where
   pub way_count : (k : ℕ) → Some k ≡ spot_of (first_bad (counts_fit p.counts) (up_to 6))
-      → r ≡ record { answer = Refused (BadCount (k + 2)); plan = empty_plan } → Reads r (rules.read_plan s)
+      → r ≡ Err (BadCount (k + 2)) → Reads r (rules.read_plan s)
   way_count k e w =
       gathered_as p (records plan_follows 1 s) g λ rs walked laid.
       refused-reads r (BadCount (k + 2)) (rules.read_plan s) w
@@ -155,26 +153,26 @@ module _ (s : List ℕ) (p : Plan) (r : Reading) (g : gathered_of (records plan_
 
   module _ (counted : None ≡ spot_of (first_bad (counts_fit p.counts) (up_to 6))) where
     pub way_names : (n : ℕ) → Some n ≡ spot_of (first_bad_of (rules.names_are_there (listed p.counts)) (records plan_follows 1 s))
-        → r ≡ record { answer = Refused (NotThere (record { 0 = n })); plan = empty_plan } → Reads r (rules.read_plan s)
+        → r ≡ Err (NotThere (record { 0 = n })) → Reads r (rules.read_plan s)
     way_names n q w =
         gathered_as p (records plan_follows 1 s) g λ rs walked laid.
         refused-reads r (NotThere (record { 0 = n })) (rules.read_plan s) w (not-there_of s p rs walked laid counted n q)
 
     module _ (named : None ≡ spot_of (first_bad_of (rules.names_are_there (listed p.counts)) (records plan_follows 1 s))) where
       pub way_ranges : (n : ℕ) → Some n ≡ spot_of (first_bad_of rules.numbers_are_within (records plan_follows 1 s))
-          → r ≡ record { answer = Refused (OutOfRange (record { 0 = n })); plan = empty_plan } → Reads r (rules.read_plan s)
+          → r ≡ Err (OutOfRange (record { 0 = n })) → Reads r (rules.read_plan s)
       way_ranges n q w =
           gathered_as p (records plan_follows 1 s) g λ rs walked laid.
           refused-reads r (OutOfRange (record { 0 = n })) (rules.read_plan s) w (out_of_range_of s p rs walked laid counted named n q)
 
       module _ (ranged : None ≡ spot_of (first_bad_of rules.numbers_are_within (records plan_follows 1 s))) where
         pub way_unfit : (n : ℕ) → unfit_of (Some n) ≡ rules.rule5 (seen p)
-            → r ≡ record { answer = Refused (Unfit (record { 0 = n })); plan = empty_plan } → Reads r (rules.read_plan s)
+            → r ≡ Err (Unfit (record { 0 = n })) → Reads r (rules.read_plan s)
         way_unfit n q w =
             gathered_as p (records plan_follows 1 s) g λ rs walked laid.
             refused-reads r (Unfit (record { 0 = n })) (rules.read_plan s) w (unfit-of s p rs walked laid counted named ranged n q)
 
-        pub way_sound : unfit_of None ≡ rules.rule5 (seen p) → r ≡ record { answer = Fine; plan = p } → Reads r (rules.read_plan s)
+        pub way_sound : unfit_of None ≡ rules.rule5 (seen p) → r ≡ Ok p → Reads r (rules.read_plan s)
         way_sound q w =
             gathered_as p (records plan_follows 1 s) g λ rs walked laid.
             sound-reads r (rules.plan_of rs) (rules.read_plan s) (w ∙ rw laid) (read_of s p rs walked laid counted named ranged q)
@@ -193,9 +191,9 @@ broken_as place (refuse n q) e one =
     let z : q ≡ place = ap place_in e in
     rw (one n q refl, z)
 
-pub way_broken : (s : List ℕ) (place : ℕ) (r : Reading)
+pub way_broken : (s : List ℕ) (place : ℕ) (r : Result Plan Refusal)
     → gathered_of (records plan_follows 1 s) ≡ Err (record { 0 = place })
-    → r ≡ record { answer = Refused (BadRecords (record { 0 = place })); plan = empty_plan } → Reads r (rules.read_plan s)
+    → r ≡ Err (BadRecords (record { 0 = place })) → Reads r (rules.read_plan s)
 unfolding rules.read_plan
 way_broken s place r e w =
     refused-reads r (BadRecords (record { 0 = place })) (rules.read_plan s) w

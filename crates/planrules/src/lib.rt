@@ -5,26 +5,19 @@ ghost use Rattle.std.specs.Prelude.{◌≡◌, Ok};
 ghost use Rattle.rules.specs.Records as records;
 ghost use Rattle.rules.specs.Plan.{read_plan};
 ghost use Rattle.plangather.specs.Gather.{gathered_of};
-ghost use Rattle.planrules.specs.Reading.{Reads, reading_of};
+ghost use Rattle.planrules.specs.Reading.{Reads};
 
 mod counts;
 mod numbers;
 
-use answers::{Refusal, Verdict};
+use answers::Refusal;
 use plan::Plan;
 use units::RecordNo;
-
-// What reading a file comes to, and the plan beside it: with nothing in it where the file is refused.
-#[derive(Clone, Copy)]
-pub struct Reading {
-    pub answer: Verdict,
-    pub plan: Plan,
-}
 
 // Refusals 2 to 5 of a file that keeps the record rules, whose plan is gathered.
 fn judged(s: &[u8], p: Plan) -> Result<Plan, Refusal>
     requires { gathered_of (records.records records.plan_follows 1 s.now) ≡ Ok p }
-    ensures { Reads (reading_of result) (read_plan s.now) }
+    ensures { Reads result (read_plan s.now) }
 {
     let counts = p.counts;
     if let Some(k) = counts::first_bad(counts) {
@@ -46,27 +39,11 @@ fn judged(s: &[u8], p: Plan) -> Result<Plan, Refusal>
 }
 
 // The plan that a file holds, or the first refusal of 1 to 5 that applies, at its lowest place.
-pub fn read_plan(s: &[u8]) -> Result<Plan, Refusal>
-    ensures { Reads (reading_of result) (read_plan s.now) }
+pub fn read(s: &[u8]) -> Result<Plan, Refusal>
+    ensures { Reads result (read_plan s.now) }
 {
     match plangather::gather(s) {
         Ok(plan) => judged(s, plan),
         Err(place) => Err(Refusal::BadRecords(place)),
-    }
-}
-
-// The same as an answer with a plan beside it.
-pub fn read(s: &[u8]) -> Reading
-    ensures { Reads result (read_plan s.now) }
-{
-    match read_plan(s) {
-        Ok(plan) => Reading {
-            answer: Verdict::Fine,
-            plan,
-        },
-        Err(why) => Reading {
-            answer: Verdict::Refused(why),
-            plan: Plan::empty(),
-        },
     }
 }

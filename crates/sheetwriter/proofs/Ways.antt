@@ -23,12 +23,10 @@ use Rattle.rules.proofs.RefusalNumbers.{shaped-gives, timed-gives}
 use Rattle.answers.specs.declared.Refusal.{Refusal}
 use Rattle.answers.specs.declared.Refusal.TheVariants.{BadTableRecords}
 use Rattle.units.specs.declared.Offset.{Offset}
-use Rattle.answers.specs.Refusals.{number_of, place_of, said, heard}
-use Rattle.answers.specs.declared.Verdict.TheVariants.{Fine, Refused}
+use Rattle.answers.specs.Refusals.{number_of, place_of, said}
 use Rattle.plan.specs.Memory as planned
 use Rattle.plan.specs.Memory.{seen}
-use Rattle.planrules.specs.declared.Reading as planread
-use Rattle.planrules.specs.Reading.{Reads}
+use Rattle.planrules.specs.Reading.{Reads, heard_reading}
 use Rattle.plan.specs.declared.Plan.{Plan}
 use Rattle.answers.specs.Answered as answered
 use Rattle.std.specs.Prelude.{Result, Ok, Err}
@@ -212,15 +210,15 @@ refused_writes : (plan table : List ℕ) (why : Refusal) → check_files plan ta
 unfolding sheet_text
 refused_writes plan table why e q h = rw (e, q) h
 
-module _ (plan table : List ℕ) (reading : planread.Reading) (reads : Reads reading (read_in (is_for_consumers table) plan)) where
-  pub way_unread : {r : Written} {old left : List ℕ} (why : Refusal) → reading.answer ≡ Refused why → Prints r old left (said why) (refused_line (number_of why) (place_of why))
+module _ (plan table : List ℕ) (reading : Result Plan Refusal) (reads : Reads reading (read_in (is_for_consumers table) plan)) where
+  pub way_unread : {r : Written} {old left : List ℕ} (why : Refusal) → reading ≡ Err why → Prints r old left (said why) (refused_line (number_of why) (place_of why))
       → Writes r old left plan table
   unfolding check_files located
   way_unread why q h =
-      let n : read_in (is_for_consumers table) plan ≡ said why = read-refused (number_of why) (place_of why) (read_in (is_for_consumers table) plan) (sym reads.answered ∙ ap heard q) in
+      let n : read_in (is_for_consumers table) plan ≡ said why = read-refused (number_of why) (place_of why) (read_in (is_for_consumers table) plan) (sym reads.answered ∙ ap heard_reading q) in
       refused_writes plan table why (rw n) (rw n) h
 
-  module _ (sound : reading.answer ≡ Fine) (x : Result Line Refusal) {tasks releases deadlines : List ℕ} (lays : Lays x tasks releases deadlines (laid (seen reading.plan))) where
+  module _ {p : Plan} (sound : reading ≡ Ok p) (x : Result Line Refusal) {tasks releases deadlines : List ℕ} (lays : Lays x tasks releases deadlines (laid (seen p))) where
     lays_file : Lays x tasks releases deadlines (file_laid (is_for_consumers table) plan)
     lays_file = sound-laid (is_for_consumers table) plan reading reads x sound lays
 
@@ -232,18 +230,18 @@ module _ (plan table : List ℕ) (reading : planread.Reading) (reads : Reads rea
 
     module _ {l : Line} (fine : x ≡ Ok l) where
       -- the plan that was read is the one that is laid out
-      read_is : {C : Type 0} → ((q : rules.Plan) → drawing l tasks releases deadlines ≡ line_of q → reading.plan ≡ planned.lay_out q → seen reading.plan ≡ q
+      read_is : {C : Type 0} → ((q : rules.Plan) → drawing l tasks releases deadlines ≡ line_of q → p ≡ planned.lay_out q → seen p ≡ q
           → read_in (is_for_consumers table) plan ≡ ok q → layout q ≡ ok (layout_of q) → C) → C
       read_is go =
           laid-sound (file_laid (is_for_consumers table) plan) x lays_file fine λ q is_laid same.
           file-laid (is_for_consumers table) plan q is_laid λ is_read drawn.
-          let held : reading.plan ≡ planned.lay_out q = rw is_read at reads.left in
+          let held : p ≡ planned.lay_out q = rw (sound, is_read) at reads.left in
           go q same held (rw held (read_in_seen (is_for_consumers table) plan q is_read)) is_read drawn
 
-      pub way_ready : (reading.plan ≡ planned.lay_out (seen reading.plan)) × (drawing l tasks releases deadlines ≡ line_of (seen reading.plan)) × FromFile (is_for_consumers table) (seen reading.plan)
+      pub way_ready : (p ≡ planned.lay_out (seen p)) × (drawing l tasks releases deadlines ≡ line_of (seen p)) × FromFile (is_for_consumers table) (seen p)
       way_ready = read_is λ q same held is is_read drawn. rw is (held, same, record { file = plan; is_read = is_read; is_laid = drawn })
 
-      pub way_on : {r : Written} {old left : List ℕ} → Prints r old left (verdict (table_passed (seen reading.plan) table)) (text_for (table_located (seen reading.plan) table))
+      pub way_on : {r : Written} {old left : List ℕ} → Prints r old left (verdict (table_passed (seen p) table)) (text_for (table_located (seen p) table))
           → Writes r old left plan table
       unfolding check_files located table_passed table_located sheet_text
       way_on h = read_is λ q same held is is_read drawn. rw (is_read, drawn) (rw is at h)

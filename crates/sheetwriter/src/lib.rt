@@ -339,25 +339,16 @@ pub fn write(plan: &[u8], table: &[u8], out: &mut [u8]) -> Written
     ensures writes { Writes result out.old out.new plan.now table.now }
     ensures few { result.length ≤ longest_sheet }
 {
-    let reading = read_in(plan, is_for_consumers(table));
-    let answer = reading.answer;
-    if let answers::Verdict::Refused(why) = answer {
-        return refused(why, out);
-    }
+    let p = match read_in(plan, is_for_consumers(table)) {
+        Ok(p) => p,
+        Err(why) => return refused(why, out),
+    };
     let mut tasks: [u8; Frame::MOST] = [0; Frame::MOST];
     let mut releases: [u32; Frame::MOST] = [0; Frame::MOST];
     let mut deadlines: [u32; Frame::MOST] = [0; Frame::MOST];
-    let line = match of_plan(reading.plan, &mut tasks, &mut releases, &mut deadlines) {
+    let line = match of_plan(p, &mut tasks, &mut releases, &mut deadlines) {
         Ok(line) => line,
         Err(why) => return refused(why, out),
     };
-    by_plan(
-        reading.plan,
-        line,
-        table,
-        &tasks,
-        &releases,
-        &deadlines,
-        out,
-    )
+    by_plan(p, line, table, &tasks, &releases, &deadlines, out)
 }

@@ -6,7 +6,6 @@
 
 ghost use Rattle.std.specs.Prelude.{◌<◌, ◌≤◌, ◌≡◌, length};
 
-use answers::Verdict;
 use lines::{say, say_left, say_refusal, say_rows, say_table};
 use little::read32;
 use manners::has_argument;
@@ -38,11 +37,9 @@ fn zeros(
 }
 
 fn read(rt: HostRuntime, plan: &[u8]) {
-    let reading = planrules::read(plan);
-    let answer = reading.answer;
-    match answer {
-        Verdict::Fine => say(rt, b"sound"),
-        Verdict::Refused(why) => say_refusal(rt, why),
+    match planrules::read(plan) {
+        Ok(_) => say(rt, b"sound"),
+        Err(why) => say_refusal(rt, why),
     }
 }
 
@@ -64,13 +61,13 @@ fn make_in(rt: HostRuntime, plan: &[u8], edition: u8, lent: usize, buf: &mut [u8
     let answer = made.answer;
     let mut end = 0;
     match answer {
-        linetable::Answer::Made(length) => {
+        Ok(length) => {
             say_table(rt, buf, length);
             say(rt, b" rows");
             say_rows(rt, made.frames, &tasks, &releases, &deadlines, &starts);
             end = length;
         }
-        linetable::Answer::Refused(why) => say_refusal(rt, why),
+        Err(why) => say_refusal(rt, why),
     }
     say_left(
         rt,
@@ -104,8 +101,8 @@ fn check(rt: HostRuntime, plan: &[u8], table: &[u8], lent: usize) {
     );
     let answer = checked.answer;
     match answer {
-        Verdict::Fine => say(rt, b"passed rows"),
-        Verdict::Refused(why) => say_refusal(rt, why),
+        Ok(()) => say(rt, b"passed rows"),
+        Err(why) => say_refusal(rt, why),
     }
     say_rows(rt, checked.frames, &tasks, &releases, &deadlines, &starts);
 }
