@@ -1,5 +1,5 @@
 -- A beginning in place is what the rules say: the station begins exactly where nothing is refused.
-use mathlib.Core.Path.{◌≡◌, refl, sym, ap, ◌∙◌}
+use mathlib.Core.Path.{◌≡◌, refl, sym}
 use mathlib.Core.Bool.{true, false}
 use Rattle.std.specs.Prelude.{Result, Ok, Err, is_ok}
 use Rattle.laws.specs.Res.{Res, ok, refuse}

@@ -5,7 +5,7 @@ use lib.ListN.{length}
 use borrow.Author.Tests.{le-leb, lt-leb}
 use Prim.Native.Nat.{ℕ, ◌≤◌, ◌<◌}
 use Rattle.rules.specs.Limits.{longest_sheet}
-use Rattle.answers.specs.Refusals.{heard}
+use Rattle.answers.specs.Answered.{judged}
 use Rattle.outward.specs.declared.Answer.{Answer}
 use Rattle.outward.specs.Answers.{answer_of}
 use Rattle.text.specs.Text.{is_short}
@@ -29,7 +29,7 @@ module _ (plan table old : List ℕ) where
   unfolding has_room
   no_room h e = rw (lt-leb longest_sheet (length old) h, e) (refl, refl)
 
-  pub sheet-written : {left : List ℕ} {r : SheetAnswer} (w : Written) → longest_sheet ≤ length old → Writes w old left plan table → {a : Answer} → a ≡ answer_of (heard w.answer)
+  pub sheet-written : {left : List ℕ} {r : SheetAnswer} (w : Written) → longest_sheet ≤ length old → Writes w old left plan table → {a : Answer} → a ≡ answer_of (judged w.answer)
       → r ≡ record { checked = a; length = w.length } → SheetIs r old left plan table
   unfolding has_room
   sheet-written w h by q e =

@@ -1,5 +1,5 @@
 -- What a beginning answers, and a tick, in the numbers that C has.
-use Rattle.std.specs.Prelude.{◌≡◌, true, false}
+use Rattle.std.specs.Prelude.{◌≡◌}
 use Rattle.laws.specs.Res.{Res, ok, refuse}
 use Rattle.rules.specs.Station as rules
 use Rattle.station.specs.Answers.{station_after}

@@ -8,8 +8,6 @@
 pub mod texts;
 
 ghost use Rattle.std.specs.Prelude.{◌≡◌};
-ghost use Rattle.answers.specs.Refusals.{heard};
-ghost use Rattle.outward.specs.Answers.{answer_of};
 ghost use Rattle.olbiothar.specs.Lent.{ChecksRows, MakesRows};
 ghost use Rattle.olbiothar.specs.Scanned.{Scans};
 ghost use Rattle.rules.specs.Station.{begin};
@@ -20,7 +18,6 @@ ghost use Rattle.station.specs.Parts.{Valued};
 ghost use Rattle.outward.specs.Seen.{module_now, task_now, time_now};
 ghost use Rattle.olbiothar.specs.Sheets.{back_said, has_room, is_read, sheet_left, sheet_said, table_left, table_said};
 
-use answers::Verdict;
 use checker::CheckedRows;
 use outward::{
     Answer, ModuleNow, TaskNow, TickAnswer, TimeNow, answer_before_nodes, module_now, task_now,
@@ -91,17 +88,7 @@ fn scanned(plan: &[u8], table: &[u8], rows: &mut [Frame], unscanned: CheckedRows
     let early = some_early(rows, unscanned.frames, false);
     let settled = checker::settled(plan, table, rows.len(), unscanned.answer, early);
     clear(rows, unscanned.frames, settled.refused);
-    judged(settled.answer)
-}
-
-// What was judged, in the numbers that C has.
-fn judged(answer: Verdict) -> Answer
-    ensures { result ≡ answer_of (heard answer) }
-{
-    match answer {
-        Verdict::Fine => Answer::default(),
-        Verdict::Refused(why) => Answer::from(why),
-    }
+    Answer::from(settled.answer)
 }
 
 // A station begins with a plan, a table and a mode for each module, in place; where that is refused it is left as it stood.
@@ -195,9 +182,8 @@ pub fn olbiothar_sheet(plan: &[u8], table: &[u8], text: &mut [u8]) -> SheetAnswe
         };
     }
     let written = sheetwriter::write(plan, table, text);
-    let answer = written.answer;
     SheetAnswer {
-        checked: judged(answer),
+        checked: Answer::from(written.answer),
         length: written.length as u64,
     }
 }
