@@ -14,12 +14,12 @@ ghost use Rattle.hearing.specs.Heard.{after_quiet, after_tick, begun_by, first_b
 ghost use Rattle.hearing.specs.Pieces.{answered, is_stopped, last_heard};
 
 use answerlines::{put_begun, put_quiet, put_ticked, same_shown};
-use answers::Verdict;
+use answers::Refusal;
 use history::{Line, Places, What, input_of, read_line, starting_of};
 use input::read_more;
 use manners::{Failed, Status, write_out};
 use station::Station;
-use stationmoves::Said;
+use stationmoves::StartedRow;
 use stationruns::Input;
 use std::io::Read;
 use text::lines::line_end;
@@ -77,19 +77,16 @@ fn answer_room() -> [u8; 16384]
     [0; 16384]
 }
 
-fn is_refused(said: Said) -> bool
+fn is_refused(said: Result<Option<StartedRow>, Refusal>) -> bool
     ensures { result ≡ is_refused said }
 {
-    matches!(said, Said::Refused(_))
+    said.is_err()
 }
 
-fn is_fine(answer: Verdict) -> bool
+fn is_fine(answer: Result<(), Refusal>) -> bool
     ensures { result ≡ is_fine answer }
 {
-    match answer {
-        Verdict::Fine => true,
-        Verdict::Refused(_) => false,
-    }
+    answer.is_ok()
 }
 
 // A tick, and its answer.
