@@ -39,9 +39,7 @@ fn respond(plan: &[u8], table: &[u8], out: &mut [u8]) -> Response
     );
     match checked.answer {
         Ok(()) => Response::done(text::put_passed(&mut *out)),
-        Err(why) => {
-            Response::refused(text::put_refused(&mut *out, why.number(), why.place()))
-        }
+        Err(why) => { Response::refused(text::put_refused(&mut *out, why.number(), why.place())) }
     }
 }
 
