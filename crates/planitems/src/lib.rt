@@ -1,11 +1,12 @@
 // What the lines of a plan's text have, place by place, and how their words are spelled: for what prints a plan and for what reads one.
 #![tactic(auto)]
 
-ghost use Rattle.std.specs.Prelude.{◌≡◌, ◌+◌, ◌≤◌, length};
+ghost use Rattle.std.specs.Prelude.{◌≡◌, ◌+◌, ◌-◌, ◌≤◌, length, take, drop};
 ghost use Rattle.std.proofs.lemmas.List.Edits.{sets};
 ghost use Rattle.text.specs.Lines.{is_word};
 ghost use Rattle.planwords.specs.Items.{spelled, first_of, items_of};
 ghost use Rattle.planwords.specs.TextPlan.{reason_text};
+ghost use Rattle.planitems.specs.declared.TheConstants.{ITEMS, WORDS};
 
 use planwords::{Item, Name, Reason};
 use text::lines::is_word;
@@ -43,8 +44,9 @@ const RATE: Item = Item::Number {
     columns: 5,
 };
 
-// What stands behind the first word of each kind's line. The last two of a bus only kind 9 has.
-const BUS: [Item; 14] = [
+// What stands behind the first word of each kind's line, one line behind the other: a bus, of which the last two are kind 9's alone, the
+// nodes, a module, a mode, a task, an invocation, a connection. Of lists apart the compiler would make a table of addresses, which is data.
+const ITEMS: [Item; 44] = [
     Item::Word(Name::Kbit),
     LONG,
     Item::Word(Name::Overhead),
@@ -59,13 +61,10 @@ const BUS: [Item; 14] = [
     LONG,
     Item::Word(Name::BitsPerByte),
     BYTE,
-];
-
-const NODES: [Item; 1] = [BYTE];
-
-const MODULE: [Item; 3] = [Item::Word(Name::On), Item::Word(Name::Node), BYTE];
-
-const MODE: [Item; 7] = [
+    BYTE,
+    Item::Word(Name::On),
+    Item::Word(Name::Node),
+    BYTE,
     Item::Word(Name::Of),
     Item::Word(Name::Module),
     THING,
@@ -73,9 +72,6 @@ const MODE: [Item; 7] = [
     TIME,
     Item::Word(Name::Switch),
     TIME,
-];
-
-const TASK: [Item; 7] = [
     Item::Word(Name::Of),
     Item::Word(Name::Module),
     THING,
@@ -83,9 +79,6 @@ const TASK: [Item; 7] = [
     BYTE,
     Item::Word(Name::Worst),
     TIME,
-];
-
-const RUN: [Item; 7] = [
     Item::Word(Name::In),
     Item::Word(Name::Mode),
     THING,
@@ -93,15 +86,19 @@ const RUN: [Item; 7] = [
     THING,
     Item::Word(Name::Rate),
     RATE,
-];
-
-const CONNECTION: [Item; 5] = [
     Item::Word(Name::Task),
     THING,
     Item::Word(Name::To),
     Item::Word(Name::Task),
     THING,
 ];
+
+// A part of a row: from its first place to before `to`.
+#[derive(Clone, Copy)]
+struct Span {
+    from: usize,
+    to: usize,
+}
 
 // The word that the line of a kind begins with.
 #[tactic(auto, unfolding(planwords::specs::Items::first_of, planwords::specs::Items::form_of, planwords::specs::Items::forms))]
@@ -119,56 +116,78 @@ pub fn first_of(kind: u8) -> Name
     }
 }
 
-// What stands behind that word.
+// Where a kind's line stands among the items.
 #[tactic(auto, unfolding(planwords::specs::Items::items_of, planwords::specs::Items::form_of, planwords::specs::Items::forms))]
+fn line_of(kind: u8) -> Span
+    ensures within { (result.from ≤ result.to) × ((result.to ≤ 44) × (result.to - result.from ≤ 14)) }
+    ensures items { take (result.to - result.from) (drop result.from ITEMS) ≡ items_of kind }
+{
+    match kind {
+        fields::bus::KIND => Span { from: 0, to: 12 },
+        fields::framed_bus::KIND => Span { from: 0, to: 14 },
+        fields::nodes::KIND => Span { from: 14, to: 15 },
+        fields::module::KIND => Span { from: 15, to: 18 },
+        fields::mode::KIND => Span { from: 18, to: 25 },
+        fields::task::KIND => Span { from: 25, to: 32 },
+        fields::invocation::KIND => Span { from: 32, to: 39 },
+        fields::connection::KIND => Span { from: 39, to: 44 },
+        _ => Span { from: 0, to: 0 },
+    }
+}
+
+// What stands behind that word.
 pub fn items_of(kind: u8) -> &'static [Item]
     ensures all { result.now ≡ items_of kind }
     ensures few { length result.now ≤ 14 }
 {
-    match kind {
-        fields::bus::KIND => &BUS[..12],
-        fields::framed_bus::KIND => &BUS,
-        fields::nodes::KIND => &NODES,
-        fields::module::KIND => &MODULE,
-        fields::mode::KIND => &MODE,
-        fields::task::KIND => &TASK,
-        fields::invocation::KIND => &RUN,
-        fields::connection::KIND => &CONNECTION,
-        _ => &[],
+    let line = line_of(kind);
+    &ITEMS[line.from..line.to]
+}
+
+// All words, one behind the other; of words apart there would be a table of addresses too.
+const WORDS: [u8; 149] =
+    *b"buskbit/soverhead-bytesleast-payloadlargest-payloadgap-bitsresolutionbits-per-bytenodesmoduleonnodemodeofperiodswitchtaskbytesworstruninrateconnectto";
+
+// A word's part of them.
+#[tactic(auto, unfolding(planwords::specs::Items::spelled))]
+fn part_of(name: Name) -> Span
+    ensures within { (result.from ≤ result.to) × ((result.to ≤ 149) × (result.to - result.from ≤ 15)) }
+    ensures word { take (result.to - result.from) (drop result.from WORDS) ≡ spelled name }
+{
+    match name {
+        Name::Bus => Span { from: 0, to: 3 },
+        Name::Kbit => Span { from: 3, to: 9 },
+        Name::Overhead => Span { from: 9, to: 23 },
+        Name::Least => Span { from: 23, to: 36 },
+        Name::Largest => Span { from: 36, to: 51 },
+        Name::Gap => Span { from: 51, to: 59 },
+        Name::Resolution => Span { from: 59, to: 69 },
+        Name::BitsPerByte => Span { from: 69, to: 82 },
+        Name::Nodes => Span { from: 82, to: 87 },
+        Name::Module => Span { from: 87, to: 93 },
+        Name::On => Span { from: 93, to: 95 },
+        Name::Node => Span { from: 95, to: 99 },
+        Name::Mode => Span { from: 99, to: 103 },
+        Name::Of => Span { from: 103, to: 105 },
+        Name::Period => Span { from: 105, to: 111 },
+        Name::Switch => Span { from: 111, to: 117 },
+        Name::Task => Span { from: 117, to: 121 },
+        Name::Bytes => Span { from: 121, to: 126 },
+        Name::Worst => Span { from: 126, to: 131 },
+        Name::Run => Span { from: 131, to: 134 },
+        Name::In => Span { from: 134, to: 136 },
+        Name::Rate => Span { from: 136, to: 140 },
+        Name::Connect => Span { from: 140, to: 147 },
+        Name::To => Span { from: 147, to: 149 },
     }
 }
 
 // How a word is spelled.
-#[tactic(auto, unfolding(planwords::specs::Items::spelled))]
 fn spelled(name: Name) -> &'static [u8]
     ensures { (result.now ≡ spelled name) × (length result.now ≤ 15) }
 {
-    match name {
-        Name::Bus => b"bus",
-        Name::Kbit => b"kbit/s",
-        Name::Overhead => b"overhead-bytes",
-        Name::Least => b"least-payload",
-        Name::Largest => b"largest-payload",
-        Name::Gap => b"gap-bits",
-        Name::Resolution => b"resolution",
-        Name::BitsPerByte => b"bits-per-byte",
-        Name::Nodes => b"nodes",
-        Name::Module => b"module",
-        Name::On => b"on",
-        Name::Node => b"node",
-        Name::Mode => b"mode",
-        Name::Of => b"of",
-        Name::Period => b"period",
-        Name::Switch => b"switch",
-        Name::Task => b"task",
-        Name::Bytes => b"bytes",
-        Name::Worst => b"worst",
-        Name::Run => b"run",
-        Name::In => b"in",
-        Name::Rate => b"rate",
-        Name::Connect => b"connect",
-        Name::To => b"to",
-    }
+    let part = part_of(name);
+    &WORDS[part.from..part.to]
 }
 
 // A word from a place on; the place behind it.
