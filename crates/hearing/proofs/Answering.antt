@@ -6,7 +6,7 @@ use Prim.Native.Nat.{ℕ}
 use Rattle.laws.specs.Res.{Res, ok, refuse}
 use Rattle.laws.proofs.Res.{ok_injective, refuse≢ok}
 use Rattle.rules.specs.Station as rules
-use Rattle.std.specs.Prelude.{Option, Some, None, Result, Ok, Err}
+use Rattle.std.specs.Prelude.{Result, Ok, Err}
 use Rattle.answers.specs.Refusals.{number_of, place_of}
 use Rattle.answers.specs.Answered.{judged}
 use Rattle.answers.specs.declared.Refusal.{Refusal}
