@@ -19,7 +19,9 @@ fn lacks<'a>(times: &'a [u32], count: usize, time: Ticks) -> bool
     ensures { result ≡ (leb count (length times.now) && all (has_other times.now time.0) (up_to count)) }
 {
     match times.get(..count) {
-        Some(rows) => rows.iter().fold(true, |other, row| other && *row != time.0),
+        Some(rows) => rows
+            .iter()
+            .fold(true, |other, row| other & (*row != time.0)),
         None => false,
     }
 }
