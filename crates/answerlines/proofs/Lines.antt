@@ -12,15 +12,13 @@ use Rattle.text.specs.Text.{ascii, at_word, line_feed, marked, numbered_line, re
 use Rattle.text.proofs.Putting.{Put, both_put, at_front}
 use Rattle.answers.specs.Refusals.{number_of, place_of}
 use Rattle.answers.specs.declared.Refusal.{Refusal}
-use Rattle.answers.specs.declared.Verdict.{Verdict}
-use Rattle.answers.specs.declared.Verdict.TheVariants.{Refused}
+use Rattle.std.specs.Prelude.{Option, Some, Result, Ok, Err}
 use Rattle.stationmoves.specs.declared.ControlRow.{ControlRow}
 use Rattle.stationmoves.specs.declared.DataRow.{DataRow}
-use Rattle.stationmoves.specs.declared.Said.{Said}
-use Rattle.stationmoves.specs.declared.Said.TheVariants.{Control, Data}
+use Rattle.stationmoves.specs.declared.StartedRow.{StartedRow}
 use Rattle.stationnodes.specs.declared.Node.{Node}
 use Rattle.units.specs.declared.Ticks.{Ticks}
-use Rattle.answerlines.specs.Writing.{begun_text, control_line, data_line, node_shown, only_if, or_dash, place_shown, quiet_text, refusal_line, said_text, shown_line, shown_word, speaks, times_text}
+use Rattle.answerlines.specs.Writing.{Said, begun_text, control_line, data_line, node_shown, only_if, or_dash, place_shown, quiet_text, refusal_line, row_line, said_text, shown_line, shown_word, speaks, times_text}
 
 -- a place, where it is zero and where not
 pub zero-put : (old : List ℕ) (at n t v : ℕ) → v ≡ 0 → Put old at (place_shown n t v) old at
@@ -48,7 +46,7 @@ unfolding refusal_line refused_line
 refusal_put b b₁ b₂ b₃ at k₁ k₂ k₃ why {n} {p} e f first second last =
     rw (← e, ← f) (three_put b b₁ b₂ b₃ (marked refused_word n) (marked at_word p) line_feed at k₁ k₂ k₃ first second last)
 
-pub refused-begun : (b b₁ : List ℕ) (k : ℕ) {answer : Verdict} {why : Refusal} → answer ≡ Refused why → Put b 0 (refusal_line why) b₁ k
+pub refused-begun : (b b₁ : List ℕ) (k : ℕ) {answer : Result (Unit {0}) Refusal} {why : Refusal} → answer ≡ Err why → Put b 0 (refusal_line why) b₁ k
     → (b₁ ≡ sets b 0 (begun_text answer)) × (k ≡ length (begun_text answer))
 refused-begun b b₁ k {answer} {why} e p = rw e (at_front b (refusal_line why) b₁ k p)
 
@@ -70,15 +68,15 @@ unfolding data_line
 data_put b b₁ b₂ b₃ at k₁ k₂ k₃ row p q r =
     three_put b b₁ b₂ b₃ (marked (ascii "row data task ") row.task.0) (marked (ascii " deadline ") row.deadline.0) (times_text row.start row.stop) at k₁ k₂ k₃ p q r
 
+-- what is said, where it is no refusal and a row starts
+pub starts : {said : Said} (some : Option StartedRow) (row : StartedRow) → said ≡ Ok some → some ≡ Some row → said ≡ Ok (Some row)
+starts some row e f = rw (e, f)
+
 -- what is said of a tick at which a row starts
 module _ (b b₁ b₂ : List ℕ) (at k₁ k₂ : ℕ) (rows shows : Bool) (nodes : List Node) {said : Said} where
-  pub control-said : {row : ControlRow} → said ≡ Control row → Put b at (only_if rows (control_line row)) b₁ k₁ → Put b₁ k₁ (only_if shows (shown_line nodes)) b₂ k₂
+  pub row-said : {row : StartedRow} → said ≡ Ok (Some row) → Put b at (only_if rows (row_line row)) b₁ k₁ → Put b₁ k₁ (only_if shows (shown_line nodes)) b₂ k₂
       → Put b at (said_text rows said shows nodes) b₂ k₂
-  control-said {row} e p q = rw e (both_put b b₁ b₂ (only_if rows (control_line row)) (only_if shows (shown_line nodes)) at k₁ k₂ p q)
-
-  pub data_said : {row : DataRow} → said ≡ Data row → Put b at (only_if rows (data_line row)) b₁ k₁ → Put b₁ k₁ (only_if shows (shown_line nodes)) b₂ k₂
-      → Put b at (said_text rows said shows nodes) b₂ k₂
-  data_said {row} e p q = rw e (both_put b b₁ b₂ (only_if rows (data_line row)) (only_if shows (shown_line nodes)) at k₁ k₂ p q)
+  row-said {row} e p q = rw e (both_put b b₁ b₂ (only_if rows (row_line row)) (only_if shows (shown_line nodes)) at k₁ k₂ p q)
 
 -- what is said of a quiet tick
 pub quiet_put : (b b₁ b₂ : List ℕ) (k₁ k₂ k : ℕ) (rows : Bool) (said : Said) (shows : Bool) (nodes : List Node) → speaks rows said shows ≡ true

@@ -1,17 +1,14 @@
 -- The answers to a history.
-use Rattle.std.specs.Prelude.{Bool, true, false, ◌||◌, List, [], ◌∷◌, ◌++◌, eqb, get_or, ℕ}
+use Rattle.std.specs.Prelude.{Bool, true, false, ◌||◌, List, [], ◌∷◌, ◌++◌, eqb, get_or, Option, None, Some, Result, Ok, Err, ℕ}
 use Rattle.laws.specs.Lists.{all, up_to}
 use Rattle.rules.specs.Limits.{most_nodes, most_tasks}
 use Rattle.text.specs.Text.{ascii, line_feed, marked, numbered_line, refused_line, texts}
 use Rattle.answers.specs.Refusals.{number_of, place_of}
 use Rattle.answers.specs.declared.Refusal.{Refusal}
-use Rattle.answers.specs.declared.Verdict.{Verdict}
-use Rattle.answers.specs.declared.Verdict.TheVariants.{Fine}
-use Rattle.answers.specs.declared.Verdict.TheVariants as verdict
 use Rattle.stationmoves.specs.declared.ControlRow.{ControlRow}
 use Rattle.stationmoves.specs.declared.DataRow.{DataRow}
-use Rattle.stationmoves.specs.declared.Said.{Said}
-use Rattle.stationmoves.specs.declared.Said.TheVariants.{Control, Data, Quiet, Refused}
+use Rattle.stationmoves.specs.declared.StartedRow.{StartedRow}
+use Rattle.stationmoves.specs.declared.StartedRow.TheVariants.{Control, Data}
 use Rattle.stationnodes.specs.Nodes.{no_node}
 use Rattle.stationnodes.specs.declared.Node.{Node}
 use Rattle.units.specs.declared.Ticks.{Ticks}
@@ -68,12 +65,19 @@ unfoldable pub data_line : DataRow → List ℕ
 data_line row =
     marked (ascii "row data task ") row.task.0 ++ (marked (ascii " deadline ") row.deadline.0 ++ times_text row.start row.stop)
 
+abbrev pub row_line : StartedRow → List ℕ
+row_line (Control row) = control_line row
+row_line (Data row) = data_line row
+
+-- what a tick says: a refusal, or the row that starts, if one does
+abbrev pub Said : Type 0
+Said = Result (Option StartedRow) Refusal
+
 -- a refusal; or the row that starts, where `rows` are asked for, and what is shown, where `shows` asks for it
 abbrev pub said_text : Bool → Said → Bool → List Node → List ℕ
-said_text rows (Control row) shows nodes = only_if rows (control_line row) ++ only_if shows (shown_line nodes)
-said_text rows (Data row) shows nodes = only_if rows (data_line row) ++ only_if shows (shown_line nodes)
-said_text rows Quiet shows nodes = only_if shows (shown_line nodes)
-said_text rows (Refused why) shows nodes = refusal_line why
+said_text rows (Ok (Some row)) shows nodes = only_if rows (row_line row) ++ only_if shows (shown_line nodes)
+said_text rows (Ok None) shows nodes = only_if shows (shown_line nodes)
+said_text rows (Err why) shows nodes = refusal_line why
 
 -- a tick is answered with what is shown
 unfoldable pub ticked_text : Bool → Said → List Node → List ℕ
@@ -81,19 +85,18 @@ ticked_text rows said nodes = said_text rows said true nodes
 
 -- something is said of a quiet tick
 abbrev pub speaks : Bool → Said → Bool → Bool
-speaks rows (Control row) shows = rows || shows
-speaks rows (Data row) shows = rows || shows
-speaks rows Quiet shows = shows
-speaks rows (Refused why) shows = true
+speaks rows (Ok (Some row)) shows = rows || shows
+speaks rows (Ok None) shows = shows
+speaks rows (Err why) shows = true
 
 -- the k-th of quiet ticks: `after K` and what is said, or nothing
 unfoldable pub quiet_text : ℕ → Bool → Said → Bool → List Node → List ℕ
 quiet_text k rows said shows nodes = only_if (speaks rows said shows) (numbered_line (ascii "after ") k ++ said_text rows said shows nodes)
 
 -- a beginning: `begun`, or its refusal
-abbrev pub begun_text : Verdict → List ℕ
-begun_text Fine = ascii "begun" ++ line_feed
-begun_text (verdict.Refused why) = refusal_line why
+abbrev pub begun_text : Result (Unit {0}) Refusal → List ℕ
+begun_text (Ok _) = ascii "begun" ++ line_feed
+begun_text (Err why) = refusal_line why
 
 -- the same is shown on every node of every task
 abbrev pub same_place : List ℕ → List ℕ → ℕ → Bool

@@ -6,11 +6,10 @@ ghost use Rattle.std.proofs.lemmas.List.Edits.{sets};
 ghost use Rattle.laws.specs.Lists.{all, up_to};
 ghost use Rattle.rules.specs.Limits.{most_nodes, most_tasks};
 ghost use Rattle.text.specs.Text.{texts};
-ghost use Rattle.answerlines.specs.Writing.{begun_text, control_line, data_line, node_shown, only_if, place_shown, quiet_text, refusal_line, said_text, same_on, same_place, shown_at, shown_line, speaks, ticked_text, times_text};
+ghost use Rattle.answerlines.specs.Writing.{begun_text, control_line, data_line, node_shown, only_if, place_shown, quiet_text, refusal_line, row_line, said_text, same_on, same_place, shown_at, shown_line, speaks, ticked_text, times_text};
 
-use answers::{Refusal, Verdict};
-use figures::both;
-use stationmoves::{ControlRow, DataRow, Said};
+use answers::Refusal;
+use stationmoves::{ControlRow, DataRow, StartedRow};
 use stationnodes::Node;
 use text::{put_bytes, put_marked, put_numbered};
 use units::{NodeNo, TaskNo, Ticks};
@@ -29,16 +28,14 @@ fn put_place(out: &mut [u8], at: usize, n: usize, t: usize, value: u64) -> usize
     put_marked(&mut *out, value_at, b"=", value)
 }
 
-fn put_node<'a>(out: &mut [u8], at: usize, n: usize, shown: &'a [u64; TaskNo::MOST]) -> usize
+fn put_node(out: &mut [u8], at: usize, n: usize, shown: &[u64; TaskNo::MOST]) -> usize
     requires { at + 2016 ≤ 18446744073709551615 }
     ensures out_after { (out.new ≡ sets out.old at (texts (shown_at n shown.now) most_tasks)) × (result ≡ at + length (texts (shown_at n shown.now) most_tasks)) }
     ensures few { result ≤ at + 2016 }
 {
     let mut next = at;
-    let mut t = 0;
-    while t < TaskNo::MOST {
-        next = put_place(&mut *out, next, n, t, shown[t]);
-        t += 1;
+    for (t, value) in shown.iter().enumerate() {
+        next = put_place(&mut *out, next, n, t, *value);
     }
     next
 }
@@ -49,11 +46,8 @@ fn put_nodes(out: &mut [u8], at: usize, nodes: [Node; NodeNo::MOST]) -> usize
     ensures few { result ≤ at + 16128 }
 {
     let mut next = at;
-    let mut n = 0;
-    while n < NodeNo::MOST {
-        let node = nodes[n];
+    for (n, node) in nodes.iter().enumerate() {
         next = put_node(&mut *out, next, n, &node.shown);
-        n += 1;
     }
     next
 }
@@ -135,12 +129,24 @@ fn put_data(rows: bool, out: &mut [u8], at: usize, row: DataRow) -> usize
     at
 }
 
+// The line of the row that starts, where rows are asked for.
+fn put_row(rows: bool, out: &mut [u8], at: usize, row: StartedRow) -> usize
+    requires { at + 118 ≤ 18446744073709551615 }
+    ensures out_after { (out.new ≡ sets out.old at (only_if rows (row_line row))) × (result ≡ at + length (only_if rows (row_line row))) }
+    ensures few { result ≤ at + 118 }
+{
+    match row {
+        StartedRow::Control(control) => put_control(rows, out, at, control),
+        StartedRow::Data(data) => put_data(rows, out, at, data),
+    }
+}
+
 // What is said of a tick: its refusal; else the row that starts, where `rows` are asked for, and what is shown, where `shows` asks for it.
 fn put_said(
     out: &mut [u8],
     at: usize,
     rows: bool,
-    said: Said,
+    said: Result<Option<StartedRow>, Refusal>,
     shows: bool,
     nodes: [Node; NodeNo::MOST],
 ) -> usize
@@ -149,42 +155,36 @@ fn put_said(
     ensures few { result ≤ at + 16254 }
 {
     match said {
-        Said::Control(row) => {
-            let next = put_control(rows, &mut *out, at, row);
+        Ok(Some(row)) => {
+            let next = put_row(rows, &mut *out, at, row);
             put_shown_if(shows, &mut *out, next, nodes)
         }
-        Said::Data(row) => {
-            let next = put_data(rows, &mut *out, at, row);
-            put_shown_if(shows, &mut *out, next, nodes)
-        }
-        Said::Quiet => put_shown_if(shows, &mut *out, at, nodes),
-        Said::Refused(why) => put_refusal(&mut *out, at, why),
+        Ok(None) => put_shown_if(shows, &mut *out, at, nodes),
+        Err(why) => put_refusal(&mut *out, at, why),
     }
 }
 
 // The answer to a tick.
-pub fn put_ticked(out: &mut [u8], rows: bool, said: Said, nodes: [Node; NodeNo::MOST]) -> usize
+pub fn put_ticked(
+    out: &mut [u8],
+    rows: bool,
+    said: Result<Option<StartedRow>, Refusal>,
+    nodes: [Node; NodeNo::MOST],
+) -> usize
     ensures out_after { (out.new ≡ sets out.old 0 (ticked_text rows said nodes)) × (result ≡ length (ticked_text rows said nodes)) }
     ensures few { result ≤ 16254 }
 {
     put_said(out, 0, rows, said, true, nodes)
 }
 
-fn either(a: bool, b: bool) -> bool
-    ensures { result ≡ (a || b) }
-{
-    if a { true } else { b }
-}
-
 // Something is said of a quiet tick.
-fn speaks(rows: bool, said: Said, shows: bool) -> bool
+fn speaks(rows: bool, said: Result<Option<StartedRow>, Refusal>, shows: bool) -> bool
     ensures { result ≡ speaks rows said shows }
 {
     match said {
-        Said::Control(_) => either(rows, shows),
-        Said::Data(_) => either(rows, shows),
-        Said::Quiet => shows,
-        Said::Refused(_) => true,
+        Ok(Some(_)) => rows || shows,
+        Ok(None) => shows,
+        Err(_) => true,
     }
 }
 
@@ -193,7 +193,7 @@ pub fn put_quiet(
     out: &mut [u8],
     k: u64,
     rows: bool,
-    said: Said,
+    said: Result<Option<StartedRow>, Refusal>,
     shows: bool,
     nodes: [Node; NodeNo::MOST],
 ) -> usize
@@ -208,39 +208,33 @@ pub fn put_quiet(
 }
 
 // The answer to a beginning: `begun`, or its refusal.
-pub fn put_begun(out: &mut [u8], answer: Verdict) -> usize
+pub fn put_begun(out: &mut [u8], answer: Result<(), Refusal>) -> usize
     ensures out_after { (out.new ≡ sets out.old 0 (begun_text answer)) × (result ≡ length (begun_text answer)) }
     ensures few { result ≤ 53 }
 {
     match answer {
-        Verdict::Fine => put_bytes(out, 0, b"begun\n"),
-        Verdict::Refused(why) => put_refusal(out, 0, why),
+        Ok(()) => put_bytes(out, 0, b"begun\n"),
+        Err(why) => put_refusal(out, 0, why),
     }
 }
 
-fn same_places<'a>(a: &'a [u64; TaskNo::MOST], b: &'a [u64; TaskNo::MOST]) -> bool
+fn same_places(a: &[u64; TaskNo::MOST], b: &[u64; TaskNo::MOST]) -> bool
     ensures { result ≡ all (same_place a.now b.now) (up_to most_tasks) }
 {
-    let mut same = true;
-    let mut t = 0;
-    while t < TaskNo::MOST {
-        same = both(same, a[t] == b[t]);
-        t += 1;
-    }
-    same
+    a == b
 }
 
 // Whether the same is shown, on every node of every task.
 pub fn same_shown(a: [Node; NodeNo::MOST], b: [Node; NodeNo::MOST]) -> bool
     ensures { result ≡ all (same_on a b) (up_to most_nodes) }
 {
-    let mut same = true;
-    let mut n = 0;
-    while n < NodeNo::MOST {
+    for n in 0..NodeNo::MOST {
         let first = a[n];
         let second = b[n];
-        same = both(same, same_places(&first.shown, &second.shown));
-        n += 1;
+        let same = same_places(&first.shown, &second.shown);
+        if !same {
+            return false;
+        }
     }
-    same
+    true
 }

@@ -1,10 +1,8 @@
 -- docs/RULES.md, sections 6, 7 and 8: the number and the place of each refusal.
 use Rattle.std.specs.Prelude.{ℕ}
-use Rattle.laws.specs.Res.{Res, ok, refuse}
+use Rattle.laws.specs.Res.{Res, refuse}
 use Rattle.rules.specs.Limits.{most_frames}
 use Rattle.answers.specs.declared.Refusal.{Refusal}
-use Rattle.answers.specs.declared.Verdict.{Verdict}
-use Rattle.answers.specs.declared.Verdict.TheVariants.{Fine, Refused}
 use Rattle.answers.specs.declared.Refusal.TheVariants.{
   BadRecords,
   BadCount,
@@ -104,7 +102,3 @@ place_of (ChangeNotAllowed home) = home.0
 -- what the rules say where the code answers with this case
 abbrev pub said : {A : Type 0} → Refusal → Res A
 said x = refuse (number_of x) (place_of x)
-
-abbrev pub heard : Verdict → Res (Unit {0})
-heard Fine = ok tt
-heard (Refused x) = said x

@@ -6,7 +6,7 @@ ghost use Rattle.answers.specs.Refusals.{number_of, place_of};
 
 use units::{ByteCount, Frame, FrameNo, ModuleNo, Offset, RecordNo, TaskNo};
 
-#[derive(Clone, Copy)]
+#[derive(Clone, Copy, PartialEq, Eq)]
 pub enum Refusal {
     // 1 to 5: the plan's records and what they say.
     BadRecords(Offset),
@@ -44,13 +44,6 @@ pub enum Refusal {
     ChangeNotAllowed(ModuleNo),
     // 62: the number that is no edition's.
     NoEdition(u8),
-}
-
-// What was judged: nothing to refuse, or the first refusal that applies.
-#[derive(Clone, Copy)]
-pub enum Verdict {
-    Fine,
-    Refused(Refusal),
 }
 
 impl Refusal {
@@ -95,7 +88,7 @@ impl Refusal {
     {
         match self {
             Refusal::BadRecords(offset) => offset.0,
-            Refusal::BadCount(kind) => kind as usize,
+            Refusal::BadCount(kind) => usize::from(kind),
             Refusal::NotThere(record) => record.0,
             Refusal::OutOfRange(record) => record.0,
             Refusal::Unfit(record) => record.0,
@@ -122,7 +115,7 @@ impl Refusal {
             Refusal::ResultTooLarge(task) => task.place(),
             Refusal::ResultOverdue(task) => task.place(),
             Refusal::ChangeNotAllowed(home) => home.place(),
-            Refusal::NoEdition(edition) => edition as usize,
+            Refusal::NoEdition(edition) => usize::from(edition),
         }
     }
 }

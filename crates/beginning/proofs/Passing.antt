@@ -27,15 +27,15 @@ use Rattle.rules.proofs.CheckerExact.{passed_says, passed_passes}
 use Rattle.rules.proofs.LaidOut.{laid_out}
 use Rattle.rules.proofs.PlanKept.{PlanKept}
 use Rattle.rules.proofs.StationStays.{kept-begins}
-use Rattle.answers.specs.Refusals.{heard, number_of, place_of, said}
+use Rattle.answers.specs.Refusals.{number_of, place_of, said}
 use Rattle.answers.specs.declared.Refusal.{Refusal}
-use Rattle.answers.specs.declared.Verdict.TheVariants.{Fine, Refused}
+use Rattle.std.specs.Prelude.{Ok, Err}
 use Rattle.plan.specs.Memory.{seen}
-use Rattle.line.specs.Line.{line_of}
+use Rattle.line.specs.Line.{line_in, line_of}
 use Rattle.line.proofs.Drawn.{Drawn, drawn}
 use Rattle.line.proofs.Reading.{read_in_seen}
 use Rattle.checked.specs.Checking.{verdict}
-use Rattle.checker.specs.Passing.{Passes, starts_of}
+use Rattle.checker.specs.Passing.{Passes, line_for, plan_for, starts_of}
 use Rattle.checker.specs.declared.Passing.{Passing}
 use Rattle.stationruns.specs.Inputs.{starting_at}
 use Rattle.stationruns.specs.declared.Starting.{Starting}
@@ -95,21 +95,27 @@ verdict-refused n p (refuse m q) e = rw (refuse-number e, refuse-place e)
 abbrev passed_of : Plan → TableRead → Passed
 passed_of p t = record { plan = p; traffic = traffic p; layout = layout_of p; table = t }
 
-module _ (plan table : List ℕ) (x : Passing) {tasks deadlines starts : List ℕ} (says : Passes x tasks deadlines starts (check_files plan table)) where
+module _ (plan table : List ℕ) {tasks deadlines starts : List ℕ} where
   -- the checker's number
-  pub refused-begins : (starting : Starting) (why : Refusal) {r : Begun} → x.answer ≡ Refused why
-      → r ≡ record { answer = Refused why; station = not_begun } → Begins r (rules.begin plan table (starting_at starting))
+  pub refused-begins : (starting : Starting) (why : Refusal) {r : Begun} → Passes (Err why) tasks deadlines starts (check_files plan table)
+      → r ≡ record { answer = Err why; station = not_begun } → Begins r (rules.begin plan table (starting_at starting))
   unfolding rules.begin
-  refused-begins starting why e q =
-      let refuses : check_files plan table ≡ said why = verdict-refused (number_of why) (place_of why) (check_files plan table) (sym says.answered ∙ ap heard e) in
+  refused-begins starting why says q =
+      let refuses : check_files plan table ≡ said why = verdict-refused (number_of why) (place_of why) (check_files plan table) (sym says.answered) in
       rw (q, refuses) (record { answered = refl; left = refl })
 
-  module _ (fine : x.answer ≡ Fine) where
+  module _ (x : Passing) (says : Passes (Ok x) tasks deadlines starts (check_files plan table)) where
+    plan-is : x.plan ≡ plan_for (check_files plan table)
+    plan-is = says.plan
+
+    line-is : x.line ≡ line_in (line_for (check_files plan table))
+    line-is = says.line
+
     passed_is : {C : Type 0}
         → ((p : Plan) (t : TableRead) → Drawn p → ObeysTable (layout_of p) t → read_in (is_for_consumers table) plan ≡ ok p → check_files plan table ≡ ok (passed_of p t) → C)
         → C
     passed_is go =
-        let c = verdict-ok (check_files plan table) (sym says.answered ∙ ap heard fine) in
+        let c = verdict-ok (check_files plan table) (sym says.answered) in
         let h = passed_says plan table c.0 c.1 in
         let p = h.read in
         let t = table_of h.rows in
@@ -131,7 +137,7 @@ module _ (plan table : List ℕ) (x : Passing) {tasks deadlines starts : List �
     unfolding line_of layout_of pairs
     kept_ready =
         passed_is λ p t d obeys is_read is.
-        rw (says.plan, says.line, says.tasks, says.starts, is, read_in_seen (is_for_consumers table) plan p is_read)
+        rw (plan-is, line-is, says.tasks, says.starts, is, read_in_seen (is_for_consumers table) plan p is_read)
         (d.kept, ((d.controls, d.few), fits p t d obeys is))
 
     -- the station begins as the rules say
@@ -142,7 +148,7 @@ module _ (plan table : List ℕ) (x : Passing) {tasks deadlines starts : List �
         passed_is λ p t d obeys is_read is.
         let c = passed_of p t in
         let kept : st ≡ kept_laid (rules.kept_of c) =
-        rw (h, says.plan, says.line, says.tasks, says.deadlines, says.starts, is, read_in_seen (is_for_consumers table) plan p is_read) (kept_whole p d t obeys) in
+        rw (h, plan-is, line-is, says.tasks, says.deadlines, says.starts, is, read_in_seen (is_for_consumers table) plan p is_read) (kept_whole p d t obeys) in
         let few : (rules.kept_of c).modes ≤ 32 = (kept-begins plan table c is).mode_count.most in
         rw (q, kept, start-same (rules.kept_of c) starting few, is)
         (begins_by (rules.kept_of c) starting (first_bad (starts_well (rules.kept_of c) (starting_at starting)) (up_to 16)))

@@ -40,10 +40,10 @@ use Rattle.station.specs.Memory.{kept_of, laid, not_begun, state_of}
 use Rattle.station.specs.declared.Station.{Station}
 use Rattle.station.proofs.Plays.{Plays, Behind, plays-follows}
 use Rattle.station.proofs.Sized.{Sized, laid_agrees, sized-laid}
-use Rattle.answers.specs.declared.Verdict.TheVariants.{Fine}
+use Rattle.std.specs.Prelude.{Ok}
 use Rattle.starting.specs.declared.Begun.{Begun}
 use Rattle.beginning.specs.Begins.{Begins, kept_laid, modes_laid, run_laid, station_laid}
-use Rattle.answers.specs.Refusals.{heard}
+use Rattle.answers.specs.Answered.{judged}
 
 -- a mode and one of the 32 tasks have a place of their own
 run-place : (k : Kept) (μ t : ℕ) → μ < 32 → t < 32 → get_or (tab (run_laid k) 0 1024) (μ * 32 + t) 0 ≡ k.run μ t
@@ -132,9 +132,9 @@ record Beginning (r : Begun) (rule : Res rules.Begun) : Type 0 where
   is : rule ≡ ok b
   station : r.station ≡ station_laid b
 
-begun-by : (r : Begun) (rule : Res rules.Begun) → Begins r rule → r.answer ≡ Fine → Beginning r rule
+begun-by : (r : Begun) (rule : Res rules.Begun) → Begins r rule → r.answer ≡ Ok tt → Beginning r rule
 begun-by r (ok b) h e = record { b = b; is = refl; station = h.left }
-begun-by r (refuse n p) h e = refuse≢ok (sym h.answered ∙ ap heard e)
+begun-by r (refuse n p) h e = refuse≢ok (sym h.answered ∙ ap judged e)
 
 -- The station of the rules' beginning, any calls, and the history of those that were accepted:
 module _ (b : rules.Begun) (history : List Input) (after : Station) (plays : Plays (station_laid b) history after) where
@@ -181,7 +181,7 @@ shows-read plan table starting b begins q reads history after plays =
 
 -- The same by the contracts of `begin` and `tick`:
 module _ (plan table : List ℕ) (starting : Starting) (r : Begun) (begins : Begins r (rules.begin plan table (starting_at starting)))
-    (started : r.answer ≡ Fine) where
+    (started : r.answer ≡ Ok tt) where
   abbrev by : Beginning r (rules.begin plan table (starting_at starting))
   by = begun-by r (rules.begin plan table (starting_at starting)) begins started
 

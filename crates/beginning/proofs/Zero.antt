@@ -11,18 +11,18 @@ use Rattle.stationruns.specs.declared.Input as given
 use Rattle.station.specs.Answers.{Answers, answer_of}
 use Rattle.station.specs.Memory.{kept_of, not_begun, ruled, state_of}
 use Rattle.station.specs.declared.Ticked.{Ticked}
-use Rattle.answers.specs.declared.Verdict.TheVariants.{Refused}
+use Rattle.std.specs.Prelude.{Err}
 use Rattle.starting.specs.declared.Begun.{Begun}
 use Rattle.beginning.specs.Begins.{Begins}
-use Rattle.answers.specs.Refusals.{heard}
+use Rattle.answers.specs.Answered.{judged}
 
 not-begun-ticked : (i : Input) → ticked (kept_of not_begun) (state_of not_begun) i ≡ refuse 40 0
 unfolding ticked in_range kept_in_range counts_in_range is_between kept_of not_begun
 not-begun-ticked i = refl
 
-module _ (r : Begun) (why : Refusal) (refused : r.answer ≡ Refused why) where
+module _ (r : Begun) (why : Refusal) (refused : r.answer ≡ Err why) where
   pub refused-zero : (rule : Res rules.Begun) → Begins r rule → r.station ≡ not_begun
-  refused-zero (ok b) h = refuse≢ok (sym (ap heard refused) ∙ h.answered)
+  refused-zero (ok b) h = refuse≢ok (sym (ap judged refused) ∙ h.answered)
   refused-zero (refuse n p) h = h.left
 
   pub refused_forty : (rule : Res rules.Begun) → Begins r rule → (input : given.Input) (x : Ticked)

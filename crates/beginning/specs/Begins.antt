@@ -10,7 +10,7 @@ use Rattle.rules.specs.Station.{Kept}
 use Rattle.station.specs.Memory.{laid, not_begun}
 use Rattle.station.specs.declared.Station.{Station}
 use Rattle.starting.specs.declared.Begun.{Begun}
-use Rattle.answers.specs.Refusals.{heard}
+use Rattle.answers.specs.Answered.{judged}
 
 -- the period of mode j / most_tasks and task j % most_tasks
 unfoldable pub run_laid : Kept → ℕ → ℕ
@@ -77,5 +77,5 @@ station_for (refuse n p) = not_begun
 
 -- A beginning says what the rules say: the same number and place, or that the station begins; and it leaves that station.
 pub record Begins (r : Begun) (rule : Res rules.Begun) : Type 0 where
-  pub answered : heard r.answer ≡ verdict rule
+  pub answered : judged r.answer ≡ verdict rule
   pub left : r.station ≡ station_for rule

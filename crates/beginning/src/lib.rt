@@ -5,7 +5,6 @@ ghost use Rattle.rules.specs.Station as rules;
 ghost use Rattle.stationruns.specs.Inputs.{starting_at};
 ghost use Rattle.beginning.specs.Begins.{Begins};
 
-use answers::Verdict;
 use checker::passed;
 use keeping::kept;
 use starting::{Begun, begin_with, refused};
@@ -19,12 +18,10 @@ pub fn begin(plan: &[u8], table: &[u8], starting: Starting) -> Begun
     let mut tasks: [u8; Frame::MOST] = [0; Frame::MOST];
     let mut deadlines: [u32; Frame::MOST] = [0; Frame::MOST];
     let mut starts: [u32; Frame::MOST] = [0; Frame::MOST];
-    let found = passed(plan, table, &mut tasks, &mut deadlines, &mut starts);
-    let answer = found.answer;
-    match answer {
-        Verdict::Refused(why) => refused(why),
-        Verdict::Fine => {
-            let station = kept(found.plan, found.line, &tasks, &deadlines, &starts);
+    match passed(plan, table, &mut tasks, &mut deadlines, &mut starts) {
+        Err(why) => refused(why),
+        Ok(passing) => {
+            let station = kept(passing.plan, passing.line, &tasks, &deadlines, &starts);
             begin_with(station, starting)
         }
     }

@@ -87,7 +87,7 @@ unfolding column
 column-at f z rs k e n w =
     get_or-pad_to 64 0 (map f rs) k (omega arith) ∙ ap (λ (d : ℕ). get_or (map f rs) k d) (sym e) ∙ get_or-map f rs k z
 
-abbrev no_run : Run
+abbrev pub no_run : Run
 no_run = record { mode = 0; task = 0; period = 0; worst = 0 }
 
 pub laid-seen : (rs : List Run) → length rs ≤ 64 → runs_seen (runs_laid rs) ≡ rs

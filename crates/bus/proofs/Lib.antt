@@ -1,5 +1,4 @@
 pub mod Tables
-pub mod Things
 pub mod Turns
 pub mod Columns
 pub mod Multiples
@@ -7,3 +6,6 @@ pub mod Marked
 pub mod Leaving
 pub mod Thinning
 pub mod Rows
+pub mod Fronts
+pub mod Marking
+pub mod Given

@@ -1,18 +1,25 @@
 -- The bus period and the grid of mode changes as loops meet them: one run more, one mode more.
 use mathlib.Core.Path.{◌≡◌, refl, sym, ap, ◌∙◌}
-use mathlib.Core.Bool.{Bool, true, false, cond}
-use mathlib.Core.List.{List, [], ◌∷◌, ◌++◌}
+use mathlib.Core.Bool.{Bool, true, false, ◌&&◌, cond}
+use mathlib.Core.List.{List, [], ◌∷◌, ◌++◌, map}
 use native.Mathlib.Nat.{zero-add, le_of_dvd}
 use native.Mathlib.Omega.{arith}
-use lib.ListN.{length, get_or, take}
+use lib.ListN.{length, get_or, take, length-map, get_or-map}
+use lib.Seq.{ext_get_or}
+use Rattle.std.specs.List.{list_all}
+use Rattle.std.proofs.lemmas.List.{length-take-le, get_or-take}
+use Rattle.std.proofs.lemmas.List.Folds.{list_all-map}
 use Prim.Native.Nat.{ℕ, ◌+◌, ◌≤◌, ◌<◌}
-use Rattle.laws.specs.Lists.{keep, tab}
+use Rattle.laws.specs.Lists.{keep, all, tab}
 use Rattle.laws.specs.Numbers.{divides, gcd, lcm}
-use Rattle.laws.proofs.Lists.{take_more, keep_snoc_yes, keep_snoc_no, tab_more, length-tab, get_or-tab, all_snoc, all-failed, all_true, all-each}
+use Rattle.laws.proofs.Lists.{take_more, keep_snoc_yes, keep_snoc_no, tab_more, length-tab, get_or-tab, all_true, all-each}
 use Rattle.laws.proofs.Divisors.{divides-true}
 use Rattle.rules.specs.Plan.{Mode, no_mode}
 use Rattle.rules.specs.Traffic.{Run, period_of_runs, with_mode}
 use Rattle.rules.proofs.Period.{period_divides, runs_divide, period_snoc, grid_snoc}
+use Rattle.bus.specs.declared.runs.Runs.{Runs}
+use Rattle.bus.specs.Runs.{run_period, run_at, runs_seen}
+use Rattle.bus.proofs.Columns.{no_run}
 use Rattle.bus.specs.Period.{is_of_marked, grid_among}
 
 -- ---- P, of the runs f 0, .., f (n - 1)
@@ -25,18 +32,6 @@ module _ (f : ℕ → Run) where
   period_more i = ap period_of_runs (front_more i) ∙ period_snoc (tab f 0 i) (f i)
 
   module _ (m : ℕ) where
-    pub divides-none : divides (period_of_runs (tab f 0 0)) m ≡ true
-    divides-none = runs_divide m []
-
-    pub divides_more : (i : ℕ) → divides (period_of_runs (tab f 0 i)) m ≡ true → divides (f i).period m ≡ true → divides (period_of_runs (tab f 0 (i + 1))) m ≡ true
-    divides_more i e h =
-        runs_divide m (tab f 0 (i + 1)) ∙ rw (front_more i, all_snoc (period_divides m) (tab f 0 i) (f i), h, sym (runs_divide m (tab f 0 i)) ∙ e)
-
-    pub divides-not : (n i : ℕ) → i < n → divides (f i).period m ≡ false → divides (period_of_runs (tab f 0 n)) m ≡ false
-    divides-not n i w h =
-        runs_divide m (tab f 0 n)
-        ∙ all-failed (period_divides m) (tab f 0 n) i (f 0) (rw (length-tab f 0 n) w) (rw (get_or-tab f 0 n i (f 0) w, zero-add i) h)
-
     -- the period of the first runs divides what that of all divides
     pub divides-front : (n i : ℕ) → i ≤ n → divides (period_of_runs (tab f 0 n)) m ≡ true → divides (period_of_runs (tab f 0 i)) m ≡ true
     divides-front n i w e =
@@ -49,6 +44,29 @@ module _ (f : ℕ → Run) where
 
     pub period-below : (n i : ℕ) → i ≤ n → 0 < m → divides (period_of_runs (tab f 0 n)) m ≡ true → period_of_runs (tab f 0 i) ≤ m
     period-below n i w z e = le_of_dvd z (divides-true (period_of_runs (tab f 0 i)) m (divides-front n i w e))
+
+-- ---- whether P divides a number, from the periods alone
+
+all_listed : {A : Type 0} (p : A → Bool) (l : List A) → list_all p l ≡ all p l
+all_listed p [] = refl
+all_listed p (x ∷ l) = ap (λ (b : Bool). p x && b) (all_listed p l)
+
+periods-seen : (r : Runs) → r.count ≤ length r.periods → map run_period (runs_seen r) ≡ take r.count r.periods
+unfolding runs_seen run_at
+periods-seen r w =
+    ext_get_or 0 (map run_period runs) (take r.count r.periods) (long ∙ sym (length-take-le r.count r.periods w))
+    (λ k h. let v : k < r.count = rw long at h in get_or-map run_period runs k no_run ∙ rw (get_or-tab (run_at r) 0 r.count k no_run v, zero-add k) (sym (get_or-take r.count r.periods k 0 v)))
+  where
+    runs : List Run
+    runs = tab (run_at r) 0 r.count
+
+    long : length (map run_period runs) ≡ r.count
+    long = length-map runs run_period ∙ length-tab (run_at r) 0 r.count
+
+pub periods-divide : (r : Runs) (m : ℕ) → r.count ≤ length r.periods → divides (period_of_runs (runs_seen r)) m ≡ list_all (λ n. divides n m) (take r.count r.periods)
+periods-divide r m w =
+    runs_divide m (runs_seen r) ∙ sym (all_listed (period_divides m) (runs_seen r)) ∙ sym (list_all-map (λ n. divides n m) run_period (runs_seen r))
+    ∙ ap (list_all (λ n. divides n m)) (periods-seen r w)
 
 -- ---- G
 

@@ -1,13 +1,10 @@
--- Tables by number: what a place holds, and what one store makes of a table; marks that the things of a list set one by one.
-use mathlib.Core.Path.{◌≡◌, refl, sym, ap, ◌∙◌}
-use mathlib.Core.Bool.{Bool, true, false, ◌||◌}
-use mathlib.Core.List.{List, []}
-use lib.ListN.{length, get_or, set, take, replicate, get_or-eq_default}
-use Prim.Native.Nat.{ℕ, ◌+◌, ◌≤◌, ◌<◌}
-use Rattle.laws.specs.Lists.{any}
+-- Tables by number: what a place holds, and what one store makes of a table.
+use mathlib.Core.Path.{◌≡◌, ap, ◌∙◌}
+use mathlib.Core.Bool.{Bool, false}
+use mathlib.Core.List.{List}
+use lib.ListN.{length, get_or, set, replicate, get_or-eq_default}
+use Prim.Native.Nat.{ℕ, ◌≤◌, ◌<◌}
 use Rattle.laws.specs.Loops.{stores}
-use Rattle.laws.proofs.Lists.{or-false, any_more}
-use Rattle.laws.proofs.Laid.{tab-same}
 use Rattle.laws.proofs.Bus.{table_at, table_alike, table-stored, table_filled}
 use Rattle.bus.specs.Senders.{by_number}
 
@@ -33,34 +30,6 @@ pub filled_of : {B : Type 0} (number : B → ℕ) (l : List B) (nothing : B) →
 filled_of number l nothing e w =
     filled (λ k. number (get_or l k nothing)) 0 (length l) w (λ k h v. ap number (get_or-eq_default l nothing h) ∙ e)
 
--- ---- marks
-
+-- nothing was marked before
 abbrev pub no_mark : ℕ → Bool
 no_mark k = false
-
--- the marks that were set before, and those that some thing of the list sets
-unfoldable pub marked_by : {A : Type 0} → (ℕ → Bool) → (ℕ → A → Bool) → List A → ℕ → Bool
-marked_by before test l k = before k || any (test k) l
-
-pub or-again : (a b c : Bool) → (a || (b || c)) ≡ ((a || b) || c)
-or-again true b c = refl
-or-again false b c = refl
-
-module _ {A : Type 0} (before : ℕ → Bool) (test : ℕ → A → Bool) where
-  pub marked-none : by_number before ≡ by_number (marked_by before test [])
-  unfolding by_number marked_by
-  marked-none = tab-same before (marked_by before test []) 0 256 (λ k a b. sym (or-false (before k)))
-
-  module _ (l : List A) (i : ℕ) (nothing : A) where
-    pub one_more : i < length l → (k : ℕ) → marked_by before test (take (i + 1) l) k ≡ (marked_by before test (take i l) k || test k (get_or l i nothing))
-    unfolding marked_by
-    one_more w k = ap (λ (b : Bool). before k || b) (any_more (test k) l i nothing w) ∙ or-again (before k) _ _
-
-    -- a thing that sets the mark of one number alone
-    pub marked_turn : (k : ℕ) {marks : List Bool} {v : Bool} → i < length l → ((j : ℕ) → (j ≡ k → ⊥) → test j (get_or l i nothing) ≡ false)
-        → marks ≡ by_number (marked_by before test (take i l)) → k < 256 → v ≡ (get_or marks k false || test k (get_or l i nothing))
-        → set marks k v ≡ by_number (marked_by before test (take (i + 1) l))
-    marked_turn k w others m h n =
-        rw (n, m, at-number (marked_by before test (take i l)) k false h)
-        (stored (marked_by before test (take i l)) (marked_by before test (take (i + 1) l)) k _
-        (λ j d. one_more w j ∙ rw (others j d) (or-false _)) (sym (one_more w k)))

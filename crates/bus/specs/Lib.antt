@@ -1,3 +1,4 @@
+pub mod Tables
 pub mod Senders
 pub mod Runs
 pub mod Period

@@ -1,8 +1,8 @@
 -- Tables by number: numbers of tasks, modules and nodes are bytes, and a table has a place for every byte.
-use Rattle.std.specs.Prelude.{Bool, ◌&&◌, List, length, ℕ}
+use Rattle.std.specs.Prelude.{Bool, List, length, ℕ}
 use Rattle.laws.specs.Lists.{keep, any, tab, up_to}
-use Rattle.rules.specs.Plan.{Plan, Invocation, Connection, the_task}
-use Rattle.rules.specs.Traffic.{invokes, leaves, is_bus_task, is_sending, control_payload, lives_in, stands_on}
+use Rattle.rules.specs.Plan.{Plan, Invocation, the_task}
+use Rattle.rules.specs.Traffic.{invokes, is_bus_task, is_sending, control_payload, lives_in, stands_on}
 use Rattle.bus.specs.declared.senders.Senders.{Senders}
 
 abbrev pub every_byte : ℕ
@@ -18,10 +18,6 @@ task_home p t = (the_task p t).home
 -- of the invocations, one invokes the task
 unfoldable pub invoked_by : List Invocation → ℕ → Bool
 invoked_by is t = any (invokes t) is
-
--- the bus tasks, had the plan only these connections
-unfoldable pub bus_task_by : Plan → List Connection → ℕ → Bool
-bus_task_by p cs t = invoked_by p.invocations t && any (leaves p t) cs
 
 -- the sending modules, had the plan only its first n tasks
 unfoldable pub sending_by : Plan → ℕ → ℕ → Bool

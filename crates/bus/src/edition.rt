@@ -7,11 +7,9 @@ ghost use Rattle.bus.specs.Senders.{by_number, invoked_by};
 ghost use Rattle.bus.specs.Edition.{left_laid};
 
 use crate::BYTES;
+use crate::lists::connections;
 use crate::senders::{invoked, nodes_of_tasks};
-use figures::{both, place};
-use plan::look::connection_count;
 use plan::{Connection, Plan};
-use units::TaskNo;
 
 #[derive(Clone, Copy)]
 struct Left {
@@ -22,7 +20,7 @@ struct Left {
 fn is_left(here: u8, there: u8, sent: bool, read: bool) -> bool
     ensures { result ≡ (not (eqb there here) && (sent && read)) }
 {
-    both(there != here, both(sent, read))
+    there != here && sent && read
 }
 
 fn connections_left(p: Plan, nodes: [u8; BYTES], invoked: [bool; BYTES]) -> Left
@@ -30,26 +28,18 @@ fn connections_left(p: Plan, nodes: [u8; BYTES], invoked: [bool; BYTES]) -> Left
     requires invoked_value { invoked ≡ by_number (invoked_by (seen p).invocations) }
     ensures { result ≡ left_laid (keep (is_left (seen p)) (seen p).connections) }
 {
-    let n = connection_count(p);
-    let none = Connection {
-        producer: TaskNo(0),
-        consumer: TaskNo(0),
-    };
-    let mut left = [none; Connection::MOST];
+    let mut left = [Connection::default(); Connection::MOST];
     let mut count = 0;
-    let mut i = 0;
-    while i < n {
-        let connection = p.connections[i];
-        let t = place(connection.producer.0);
-        let u = place(connection.consumer.0);
+    for connection in connections(&p) {
+        let t = usize::from(connection.producer.0);
+        let u = usize::from(connection.consumer.0);
         if is_left(nodes[t], nodes[u], invoked[t], invoked[u]) {
-            left[count] = connection;
+            left[count] = *connection;
             count += 1;
         }
-        i += 1;
     }
     Left {
-        count: count,
+        count,
         connections: left,
     }
 }

@@ -3,7 +3,9 @@
 // look-up of a task's, a module's or a node's number can miss.
 #![tactic(auto)]
 
+pub mod by_number;
 pub mod edition;
+pub mod lists;
 pub mod marks;
 pub mod period;
 pub mod readers;

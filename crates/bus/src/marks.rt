@@ -7,11 +7,11 @@ ghost use Rattle.bus.specs.Senders.{by_number};
 ghost use Rattle.bus.specs.Marks.{is_counted_task, holds_end, gives_period, gives_grid};
 
 use crate::BYTES;
-use crate::runs::least_periods;
-use crate::senders::{either, task_homes};
-use figures::place;
+use crate::by_number::{at, mark};
+use crate::lists::connections;
+use crate::runs::{can_be_thinned, least_periods};
+use crate::senders::task_homes;
 use plan::Plan;
-use plan::look::connection_count;
 
 // The bus tasks, and the consumers of connections that can be thinned (rule 21.4).
 fn with_consumers(p: Plan, bus: &[bool; BYTES]) -> [bool; BYTES]
@@ -19,16 +19,11 @@ fn with_consumers(p: Plan, bus: &[bool; BYTES]) -> [bool; BYTES]
     requires bus_value { bus.now ≡ by_number (is_bus_task (seen p)) }
     ensures { result ≡ by_number (is_counted_task (seen p)) }
 {
-    let n = connection_count(p);
     let leasts = least_periods(p);
-    let mut counted: [bool; BYTES] = *bus;
-    let mut i = 0;
-    while i < n {
-        let t = place(p.connections[i].producer.0);
-        let u = place(p.connections[i].consumer.0);
-        counted[u] = either(counted[u], leasts[t] < leasts[u]);
-        i += 1;
-    }
+    let mut counted = *bus;
+    mark(&mut counted, connections(&p), |connection| {
+        can_be_thinned(connection, &leasts).then_some(connection.consumer.0)
+    });
     counted
 }
 
@@ -48,19 +43,14 @@ pub fn counted_tasks(p: Plan, bus: &[bool; BYTES]) -> [bool; BYTES]
 fn end_modules(p: Plan) -> [bool; BYTES]
     ensures { result ≡ by_number (holds_end (seen p)) }
 {
-    let n = connection_count(p);
     let homes = task_homes(p);
-    let mut modules: [bool; BYTES] = [false; BYTES];
-    let mut i = 0;
-    while i < n {
-        let t = place(p.connections[i].producer.0);
-        let u = place(p.connections[i].consumer.0);
-        let here = place(homes[t]);
-        let there = place(homes[u]);
-        modules[here] = true;
-        modules[there] = true;
-        i += 1;
-    }
+    let mut modules = [false; BYTES];
+    mark(&mut modules, connections(&p), |connection| {
+        Some(at(&homes, connection.producer.0))
+    });
+    mark(&mut modules, connections(&p), |connection| {
+        Some(at(&homes, connection.consumer.0))
+    });
     modules
 }
 

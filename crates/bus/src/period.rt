@@ -1,6 +1,7 @@
 // The bus period P and the grid G of mode changes. Whether P divides G is told from each run's period alone: no product is made that
 // could wrap. Only then is P made, and since it divides G all the way it is never above G.
 ghost use Rattle.std.specs.Prelude.{◌≡◌, true, cond, ◌≤◌, ◌<◌};
+ghost use Rattle.std.specs.List.{list_all};
 ghost use Rattle.laws.specs.Numbers as laws;
 ghost use Rattle.plan.specs.Memory.{seen};
 ghost use Rattle.rules.specs.Limits.{most_invocations};
@@ -9,10 +10,10 @@ ghost use Rattle.bus.specs.Period.{grid_marked};
 ghost use Rattle.bus.specs.Runs.{runs_seen};
 
 use crate::BYTES;
+use crate::lists::modes;
 use crate::runs::Runs;
-use figures::{divides, gcd, lcm, place};
+use figures::{divides, gcd, lcm};
 use plan::Plan;
-use plan::look::mode_count;
 use units::Ticks;
 
 fn with_mode(counts: bool, period: Ticks, switch: Ticks, grid: Ticks) -> Ticks
@@ -28,16 +29,22 @@ fn with_mode(counts: bool, period: Ticks, switch: Ticks, grid: Ticks) -> Ticks
 pub fn switch_grid(p: Plan, marks: [bool; BYTES]) -> Ticks
     ensures { result.0 ≡ grid_marked (seen p) marks }
 {
-    let n = mode_count(p);
     let mut grid = Ticks(0);
-    let mut i = 0;
-    while i < n {
-        let mode = p.modes[i];
-        let m = place(mode.home.0);
-        grid = with_mode(marks[m], mode.period, mode.switch, grid);
-        i += 1;
+    for mode in modes(&p) {
+        grid = with_mode(
+            marks[usize::from(mode.home.0)],
+            mode.period,
+            mode.switch,
+            grid,
+        );
     }
     grid
+}
+
+fn all_divide(periods: &[u32], number: u32) -> bool
+    ensures { result ≡ list_all (λ n. laws.divides n number) periods.now }
+{
+    periods.iter().all(|period| divides(*period, number))
 }
 
 // P divides the grid exactly when each run's period does.
@@ -45,15 +52,7 @@ pub fn period_divides(runs: Runs, grid: Ticks) -> bool
     requires { runs.count ≤ most_invocations }
     ensures { result ≡ laws.divides (period_of_runs (runs_seen runs)) grid.0 }
 {
-    let n = runs.count;
-    let mut i = 0;
-    while i < n {
-        if !divides(runs.periods[i], grid.0) {
-            return false;
-        }
-        i += 1;
-    }
-    true
+    all_divide(&runs.periods[..runs.count], grid.0)
 }
 
 pub fn bus_period(runs: Runs, grid: Ticks) -> Ticks
@@ -62,12 +61,9 @@ pub fn bus_period(runs: Runs, grid: Ticks) -> Ticks
     requires grid_value { laws.divides (period_of_runs (runs_seen runs)) grid.0 ≡ true }
     ensures { (result.0 ≡ period_of_runs (runs_seen runs)) × (result.0 ≤ grid.0) }
 {
-    let n = runs.count;
     let mut period: u32 = 1;
-    let mut i = 0;
-    while i < n {
-        period = lcm(runs.periods[i], period) as u32;
-        i += 1;
+    for each in &runs.periods[..runs.count] {
+        period = lcm(*each, period) as u32;
     }
     Ticks(period)
 }

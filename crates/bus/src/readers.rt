@@ -12,10 +12,10 @@ ghost use Rattle.bus.specs.Runs.{mode_period};
 ghost use Rattle.bus.specs.Readers.{leads_from, is_full, is_producer, needs_every, row_laid, readers_laid};
 
 use crate::BYTES;
-use crate::runs::{least_periods, mode_periods};
-use crate::senders::either;
-use figures::{place, quotient};
-use plan::look::{connection_count, invocation_count};
+use crate::by_number::mark;
+use crate::lists::{connections, invocations};
+use crate::runs::{can_be_thinned, least_periods, mode_periods};
+use figures::quotient;
 use plan::{Invocation, Plan};
 use units::TaskNo;
 
@@ -37,16 +37,11 @@ fn full_tasks(p: Plan) -> [bool; BYTES]
     requires { PlanKept (seen p) }
     ensures { result ≡ by_number (is_full (seen p)) }
 {
-    let n = connection_count(p);
     let leasts = least_periods(p);
-    let mut full: [bool; BYTES] = [false; BYTES];
-    let mut i = 0;
-    while i < n {
-        let t = place(p.connections[i].producer.0);
-        let u = place(p.connections[i].consumer.0);
-        full[t] = either(full[t], !(leasts[t] < leasts[u]));
-        i += 1;
-    }
+    let mut full = [false; BYTES];
+    mark(&mut full, connections(&p), |connection| {
+        (!can_be_thinned(connection, &leasts)).then_some(connection.producer.0)
+    });
     full
 }
 
@@ -65,29 +60,22 @@ fn tasks_in_full(p: Plan) -> [bool; BYTES]
 fn producers(p: Plan) -> [bool; BYTES]
     ensures { result ≡ by_number (is_producer (seen p)) }
 {
-    let n = connection_count(p);
-    let mut found: [bool; BYTES] = [false; BYTES];
-    let mut i = 0;
-    while i < n {
-        let t = place(p.connections[i].producer.0);
-        found[t] = true;
-        i += 1;
-    }
+    let mut found = [false; BYTES];
+    mark(
+        &mut found,
+        connections(&p),
+        |connection| Some(connection.producer.0),
+    );
     found
 }
 
 fn consumers_of(p: Plan, t: usize) -> [bool; BYTES]
     ensures { result ≡ by_number (leads_from (seen p) t) }
 {
-    let n = connection_count(p);
-    let mut found: [bool; BYTES] = [false; BYTES];
-    let mut i = 0;
-    while i < n {
-        let from = place(p.connections[i].producer.0);
-        let u = place(p.connections[i].consumer.0);
-        found[u] = either(found[u], from == t);
-        i += 1;
-    }
+    let mut found = [false; BYTES];
+    mark(&mut found, connections(&p), |connection| {
+        (usize::from(connection.producer.0) == t).then_some(connection.consumer.0)
+    });
     found
 }
 
@@ -95,12 +83,9 @@ fn consumers_of(p: Plan, t: usize) -> [bool; BYTES]
 fn every_tick() -> Row
     ensures { result ≡ row_laid (1 ∷ []) }
 {
-    let mut periods: [u32; Invocation::MOST] = [0; Invocation::MOST];
+    let mut periods = [0; Invocation::MOST];
     periods[0] = 1;
-    Row {
-        count: 1,
-        periods: periods,
-    }
+    Row { count: 1, periods }
 }
 
 fn nothing() -> Row
@@ -119,24 +104,18 @@ fn consumers_row(p: Plan, t: usize, lasting: &[u32; BYTES]) -> Row
     requires lasting_value { lasting.now ≡ by_number (mode_period (seen p)) }
     ensures { result ≡ row_laid (map (period_of (seen p)) (keep (is_reader (seen p) t) (seen p).invocations)) }
 {
-    let n = invocation_count(p);
     let marks = consumers_of(p, t);
-    let mut periods: [u32; Invocation::MOST] = [0; Invocation::MOST];
+    let mut periods = [0; Invocation::MOST];
     let mut count = 0;
-    let mut i = 0;
-    while i < n {
-        let u = place(p.invocations[i].task.0);
+    for invocation in invocations(&p) {
+        let u = usize::from(invocation.task.0);
         if marks[u] {
-            let m = place(p.invocations[i].mode.0);
-            periods[count] = quotient(lasting[m], p.invocations[i].rate);
+            let m = usize::from(invocation.mode.0);
+            periods[count] = quotient(lasting[m], invocation.rate);
             count += 1;
         }
-        i += 1;
     }
-    Row {
-        count: count,
-        periods: periods,
-    }
+    Row { count, periods }
 }
 
 // The readers of a task, by whether every message of it is needed and whether some connection leads from it.
@@ -165,10 +144,8 @@ fn put_row(
     ensures { periods.new ≡ sets periods.old (t * most_invocations) (take n row) }
 {
     let from = t * Invocation::MOST;
-    let mut k = 0;
-    while k < n {
-        periods[from + k] = row[k];
-        k += 1;
+    for (k, period) in row[..n].iter().enumerate() {
+        periods[from + k] = *period;
     }
 }
 
@@ -180,20 +157,14 @@ impl Readers {
         let full = tasks_in_full(p);
         let producing = producers(p);
         let lasting = mode_periods(p);
-        let mut counts: [usize; TaskNo::MOST] = [0; TaskNo::MOST];
-        let mut periods: [u32; TaskNo::MOST * Invocation::MOST] = [0; TaskNo::MOST
-            * Invocation::MOST];
-        let mut t = 0;
-        while t < TaskNo::MOST {
+        let mut counts = [0; TaskNo::MOST];
+        let mut periods = [0; TaskNo::MOST * Invocation::MOST];
+        for t in 0..TaskNo::MOST {
             let row = row_of(p, t, full[t], producing[t], &lasting);
             let readers = row.periods;
             counts[t] = row.count;
             put_row(&mut periods, t, row.count, readers);
-            t += 1;
         }
-        Readers {
-            counts: counts,
-            periods: periods,
-        }
+        Readers { counts, periods }
     }
 }

@@ -6,9 +6,10 @@ ghost use Rattle.rules.specs.Traffic.{module_node, task_node, is_bus_task, is_se
 ghost use Rattle.bus.specs.Senders.{by_number, task_home, invoked_by, senders_of};
 
 use crate::BYTES;
-use figures::place;
+use crate::by_number::{at, fill, mark};
+use crate::lists::{connections, invocations, modules, tasks};
 use plan::Plan;
-use plan::look::{connection_count, invocation_count, module_count, task_count};
+use plan::look::{module_count, task_count};
 
 // Whether each task is a bus task, whether each module sends, and the payload of each node's control frame.
 #[derive(Clone, Copy)]
@@ -21,26 +22,16 @@ pub struct Senders {
 fn module_nodes(p: Plan) -> [u8; BYTES]
     ensures { result ≡ by_number (module_node (seen p)) }
 {
-    let n = module_count(p);
-    let mut nodes: [u8; BYTES] = [0; BYTES];
-    let mut m = 0;
-    while m < n {
-        nodes[m] = p.modules[m].node.0;
-        m += 1;
-    }
+    let mut nodes = [0; BYTES];
+    fill(&mut nodes, modules(&p), |module| module.node.0);
     nodes
 }
 
 pub fn task_homes(p: Plan) -> [u8; BYTES]
     ensures { result ≡ by_number (task_home (seen p)) }
 {
-    let n = task_count(p);
-    let mut homes: [u8; BYTES] = [0; BYTES];
-    let mut t = 0;
-    while t < n {
-        homes[t] = p.tasks[t].home.0;
-        t += 1;
-    }
+    let mut homes = [0; BYTES];
+    fill(&mut homes, tasks(&p), |task| task.home.0);
     homes
 }
 
@@ -48,70 +39,51 @@ pub fn task_homes(p: Plan) -> [u8; BYTES]
 pub fn invoked(p: Plan) -> [bool; BYTES]
     ensures { result ≡ by_number (invoked_by (seen p).invocations) }
 {
-    let n = invocation_count(p);
-    let mut found: [bool; BYTES] = [false; BYTES];
-    let mut i = 0;
-    while i < n {
-        let t = place(p.invocations[i].task.0);
-        found[t] = true;
-        i += 1;
-    }
+    let mut found = [false; BYTES];
+    mark(
+        &mut found,
+        invocations(&p),
+        |invocation| Some(invocation.task.0),
+    );
     found
 }
 
 // A task that the plan does not have would be of module 0.
-fn task_nodes(p: Plan, nodes: &[u8; BYTES], homes: &[u8; BYTES]) -> [u8; BYTES]
-    requires nodes_value { nodes.now ≡ by_number (module_node (seen p)) }
-    requires homes_value { homes.now ≡ by_number (task_home (seen p)) }
+fn task_nodes(p: Plan, nodes: &[u8; BYTES]) -> [u8; BYTES]
+    requires { nodes.now ≡ by_number (module_node (seen p)) }
     ensures { result ≡ by_number (task_node (seen p)) }
 {
-    let n = task_count(p);
-    let mut found: [u8; BYTES] = [nodes[0]; BYTES];
-    let mut t = 0;
-    while t < n {
-        let m = place(homes[t]);
-        found[t] = nodes[m];
-        t += 1;
-    }
+    let mut found = [nodes[0]; BYTES];
+    fill(&mut found, tasks(&p), |task| at(nodes, task.home.0));
     found
 }
 
 pub fn nodes_of_tasks(p: Plan) -> [u8; BYTES]
     ensures { result ≡ by_number (task_node (seen p)) }
 {
-    let nodes = module_nodes(p);
-    let homes = task_homes(p);
-    task_nodes(p, &nodes, &homes)
+    task_nodes(p, &module_nodes(p))
+}
+
+// Whether a connection from a task that is invoked leaves its node.
+fn leaves(invoked: bool, here: u8, there: u8) -> bool
+    ensures { result ≡ (invoked && not (eqb there here)) }
+{
+    invoked && there != here
 }
 
 // A task that is invoked is a bus task as soon as a connection from it leaves its node.
-fn marked(before: bool, invoked: bool, here: u8, there: u8) -> bool
-    ensures { result ≡ (before || (invoked && not (eqb there here))) }
-{
-    before || (invoked && there != here)
-}
-
 fn bus_tasks(p: Plan, nodes: &[u8; BYTES], invoked: &[bool; BYTES]) -> [bool; BYTES]
     requires nodes_value { nodes.now ≡ by_number (task_node (seen p)) }
     requires invoked_value { invoked.now ≡ by_number (invoked_by (seen p).invocations) }
     ensures { result ≡ by_number (is_bus_task (seen p)) }
 {
-    let n = connection_count(p);
-    let mut tasks: [bool; BYTES] = [false; BYTES];
-    let mut i = 0;
-    while i < n {
-        let t = place(p.connections[i].producer.0);
-        let u = place(p.connections[i].consumer.0);
-        tasks[t] = marked(tasks[t], invoked[t], nodes[t], nodes[u]);
-        i += 1;
-    }
+    let mut tasks = [false; BYTES];
+    mark(&mut tasks, connections(&p), |connection| {
+        let from = connection.producer.0;
+        let to = connection.consumer.0;
+        leaves(at(invoked, from), at(nodes, from), at(nodes, to)).then_some(from)
+    });
     tasks
-}
-
-pub fn either(a: bool, b: bool) -> bool
-    ensures { result ≡ (a || b) }
-{
-    a || b
 }
 
 fn sending_modules(p: Plan, homes: &[u8; BYTES], tasks: &[bool; BYTES]) -> [bool; BYTES]
@@ -119,22 +91,12 @@ fn sending_modules(p: Plan, homes: &[u8; BYTES], tasks: &[bool; BYTES]) -> [bool
     requires tasks_value { tasks.now ≡ by_number (is_bus_task (seen p)) }
     ensures { result ≡ by_number (is_sending (seen p)) }
 {
-    let n = task_count(p);
-    let mut modules: [bool; BYTES] = [false; BYTES];
-    let mut t = 0;
-    while t < n {
-        let m = place(homes[t]);
-        modules[m] = either(modules[m], tasks[t]);
-        t += 1;
+    let mut modules = [false; BYTES];
+    for t in 0..task_count(p) {
+        let m = usize::from(homes[t]);
+        modules[m] |= tasks[t];
     }
     modules
-}
-
-fn one_more(count: u8, counts: bool) -> u8
-    requires { count < 255 }
-    ensures { result ≡ count + cond counts 1 0 }
-{
-    if counts { count + 1 } else { count }
 }
 
 fn control_payloads(p: Plan, nodes: &[u8; BYTES], modules: &[bool; BYTES]) -> [u8; BYTES]
@@ -142,13 +104,10 @@ fn control_payloads(p: Plan, nodes: &[u8; BYTES], modules: &[bool; BYTES]) -> [u
     requires modules_value { modules.now ≡ by_number (is_sending (seen p)) }
     ensures { result ≡ by_number (control_payload (seen p)) }
 {
-    let n = module_count(p);
-    let mut payloads: [u8; BYTES] = [0; BYTES];
-    let mut m = 0;
-    while m < n {
-        let k = place(nodes[m]);
-        payloads[k] = one_more(payloads[k], modules[m]);
-        m += 1;
+    let mut payloads = [0; BYTES];
+    for m in 0..module_count(p) {
+        let k = usize::from(nodes[m]);
+        payloads[k] += u8::from(modules[m]);
     }
     payloads
 }
@@ -159,15 +118,15 @@ impl Senders {
     {
         let nodes = module_nodes(p);
         let homes = task_homes(p);
-        let there = task_nodes(p, &nodes, &homes);
+        let there = task_nodes(p, &nodes);
         let invoked = invoked(p);
         let tasks = bus_tasks(p, &there, &invoked);
         let modules = sending_modules(p, &homes, &tasks);
         let payloads = control_payloads(p, &nodes, &modules);
         Senders {
-            tasks: tasks,
-            modules: modules,
-            payloads: payloads,
+            tasks,
+            modules,
+            payloads,
         }
     }
 }

@@ -14,7 +14,7 @@ use Rattle.rules.specs.Table.{MadeTable, made_table, table_for}
 use Rattle.rules.proofs.MadePasses.{table-made}
 use Rattle.answers.specs.declared.Refusal.{Refusal}
 use Rattle.answers.specs.Refusals.{number_of, place_of}
-use Rattle.linetable.specs.declared.Answer.TheVariants.{Made, Refused}
+use Rattle.std.specs.Prelude.{Ok, Err}
 use Rattle.maker.specs.Making.{lent_for, is_edition, for_consumers}
 use Rattle.linetable.specs.Making.{Making, Makes, heard_made, length_of, buffer_left}
 use Rattle.linetable.proofs.Ways.{table-stored}
@@ -77,7 +77,7 @@ module _ (consumers : Bool) (edition : ℕ) (is : (is_edition edition ≡ true) 
       subst (Makes r old out)
       (rows-lent edition is.0 plan (length old) ∙ ap (λ (c : Bool). table_for c plan (length old)) is.1) makes
 
-  pub made_response : (n l t : ℕ) → r.answer ≡ Made n → Says l t n 0 → Responds consumers plan old out l t
+  pub made_response : (n l t : ℕ) → r.answer ≡ Ok n → Says l t n 0 → Responds consumers plan old out l t
   made_response n l t e says =
       rw (says.0, says.1, not_too_long consumers (length old) plan short, short_status consumers (length old) plan short)
       (go (table_for consumers plan (length old)) refl (sym (ap heard_made e) ∙ makes_table.answered) makes_table.written)
@@ -90,7 +90,7 @@ module _ (consumers : Bool) (edition : ℕ) (is : (is_edition edition ≡ true) 
           (a, (refl, λ _. front-counts t.table old out n a fits))
       go (refuse m p) is_made e q = refuse≢ok (sym e)
 
-  pub refused_response : (x : Refusal) (number place n l t : ℕ) (line : List ℕ) → r.answer ≡ Refused x → number ≡ number_of x → place ≡ place_of x
+  pub refused_response : (x : Refusal) (number place n l t : ℕ) (line : List ℕ) → r.answer ≡ Err x → number ≡ number_of x → place ≡ place_of x
       → number < 18446744073709551616 → place < 18446744073709551616
       → (line ≡ sets out 0 (refused_line number place)) × (n ≡ length (refused_line number place)) → Says l t n 1 → Responds consumers plan old line l t
   refused_response x number place n l t line e c d h k a says =

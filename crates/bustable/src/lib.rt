@@ -4,18 +4,17 @@
 ghost use Rattle.std.specs.Prelude.{◌≡◌, ◌≤◌, length};
 ghost use Rattle.std.proofs.lemmas.List.Edits.{sets};
 ghost use Rattle.io.specs.Counts.{IsPrefixLen};
+ghost use Rattle.manners.specs.Status.{number_of};
 ghost use Rattle.bustable.specs.Answer.{answer_for, status_for};
 
-use input::Input;
-use linetable::Answer;
-use manners::{FAILED, Response, Start, is_argument, put_lines};
+use manners::{Failed, Response, Status, is_argument, put_lines};
 use meanings::put_help_lines;
 use units::{ByteCount, Frame};
 
 // The answer at the front of `out`, and how the program ends. No line has more than 53 bytes.
 fn respond(plan: &[u8], consumers: bool, out: &mut [u8]) -> Response
     ensures out_after { (out.new ≡ sets out.old 0 (answer_for consumers (length out.old) plan.now)) × (result.length ≡ length (answer_for consumers (length out.old) plan.now)) }
-    ensures status_value { result.status ≡ status_for consumers (length out.old) plan.now }
+    ensures status_value { number_of result.status ≡ status_for consumers (length out.old) plan.now }
     ensures prefix_len { 53 ≤ length out.old → IsPrefixLen result.length out.new }
 {
     if plan.len() > 65536 {
@@ -35,24 +34,20 @@ fn respond(plan: &[u8], consumers: bool, out: &mut [u8]) -> Response
         &mut deadlines,
         &mut starts,
     );
-    let answer = made.answer;
-    match answer {
-        Answer::Made(length) => Response::done(length),
-        Answer::Refused(refusal) => {
+    match made.answer {
+        Ok(length) => Response::done(length),
+        Err(refusal) => {
             Response::refused(text::put_refused(&mut *out, refusal.number(), refusal.place()))
         }
     }
 }
 
-fn make(rt: HostRuntime, consumers: bool) -> i32 {
+fn make(rt: HostRuntime, consumers: bool) -> Result<Status, Failed> {
     let mut plan = input::file_room();
-    let Input::Bytes(n) = input::read_open(rt, &mut rt.stdin(), b"standard input", &mut plan) else {
-        return FAILED;
-    };
+    let n = input::read_open(rt, &mut rt.stdin(), b"standard input", &mut plan)?;
     let mut out = [0u8; ByteCount::LONGEST_TABLE];
     let answer = respond(&plan[..n], consumers, &mut out);
-    let length = answer.length;
-    manners::write_out(rt, &out[..length], answer.status as i32)
+    manners::write_out(rt, &out[..answer.length], answer.status)
 }
 
 // What `--help` says behind the usage.
@@ -73,26 +68,21 @@ fn put_help(out: &mut [u8]) -> usize
     put_help_lines(&mut *out, first_at, 1, 12)
 }
 
-// The first argument behind the options.
-fn behind_options(consumers: bool) -> usize {
-    if consumers { 2 } else { 1 }
-}
-
-// The program; the number that it ends with.
-pub fn run(rt: HostRuntime) -> i32 {
+// The program, and how it ends.
+pub fn run(rt: HostRuntime) -> Result<Status, Failed> {
     let consumers = is_argument(rt, 1, b"--consumers");
     let mut help = io::buffer();
     let end = put_help(&mut help);
-    let start = manners::opening(
+    let opened = manners::opening(
         rt,
         b"bustable",
         b"bustable [--consumers] < PLAN > TABLE",
         &help[..end],
-        behind_options(consumers),
+        1 + usize::from(consumers),
         0,
     );
-    match start {
-        Start::Works => make(rt, consumers),
-        Start::Ends(status) => status,
+    match opened {
+        Some(ended) => ended,
+        None => make(rt, consumers),
     }
 }

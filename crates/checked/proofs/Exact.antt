@@ -8,10 +8,10 @@ use Rattle.laws.specs.Res.{Res}
 use Rattle.rules.specs.Table.{FrameRow, zero_row}
 use Rattle.rules.specs.Checker as rules
 use Rattle.rules.proofs.CheckerExact.{checker_exact, checker_refuses, unread_exact, rule_exact}
-use Rattle.answers.specs.declared.Verdict.{Verdict}
-use Rattle.answers.specs.declared.Verdict.TheVariants.{Fine}
+use Rattle.std.specs.Prelude.{Result, Ok}
+use Rattle.answers.specs.declared.Refusal.{Refusal}
 use Rattle.checked.specs.Checking.{verdict, lent_passed, PassesExactly, RefusesExactly}
-use Rattle.answers.specs.Refusals.{heard}
+use Rattle.answers.specs.Answered.{judged as heard}
 use Rattle.checked.proofs.Rules.{check-answer}
 use Rattle.checked.proofs.Unique.{heard-once}
 
@@ -19,7 +19,7 @@ use Rattle.checked.proofs.Unique.{heard-once}
 same_when : {A B C : Type 0} → (A → B) → (B → A) → B ↔ C → A ↔ C
 same_when to back e = (λ a. e.0 (to a), λ c. back (e.1 c))
 
-module _ (a : Verdict) (plan table : List ℕ) where
+module _ (a : Result (Unit {0}) Refusal) (plan table : List ℕ) where
   -- the rules' answer where these rows are lent
   heard-is : (rows : List FrameRow) → heard a ≡ verdict (lent_passed plan table (length rows)) → heard a ≡ (rules.check plan table rows).answer
   heard-is rows e = e ∙ sym (check-answer plan table rows)
@@ -33,7 +33,7 @@ module _ (a : Verdict) (plan table : List ℕ) where
 
     passes_with : PassesExactly a plan table (length rows)
     unfolding PassesExactly
-    passes_with = same_when (λ h. said-by (ap heard h)) (λ h. heard-once a Fine (heard-by h)) (checker_exact plan table rows)
+    passes_with = same_when (λ h. said-by (ap heard h)) (λ h. heard-once a (Ok tt) (heard-by h)) (checker_exact plan table rows)
 
     refuses_with : RefusesExactly a plan table (length rows)
     refuses_with =

@@ -6,14 +6,14 @@ use Rattle.rules.specs.Table.{FrameRow}
 use Rattle.rules.specs.Checker as rules
 use Rattle.rules.specs.Checker.{checked_row, check_files}
 use Rattle.rules.specs.Obeys.{MayPass, CheckFault, UnreadAt, BrokenAt}
-use Rattle.answers.specs.Refusals.{heard}
+use Rattle.std.specs.Prelude.{Result, Ok}
+use Rattle.answers.specs.declared.Refusal.{Refusal}
+use Rattle.answers.specs.Answered.{judged as heard}
 use Rattle.rows.specs.Rows.{Rows, rows_laid}
-use Rattle.answers.specs.declared.Verdict.{Verdict}
-use Rattle.answers.specs.declared.Verdict.TheVariants.{Fine}
 
 -- The answer, and the frames by number with the starts of the table that was checked; no rows where it is refused.
 pub record Checked : Type 0 where
-  pub answer : Verdict
+  pub answer : Result (Unit {0}) Refusal
   pub rows : Rows
 
 abbrev pub verdict : Res rules.Passed → Res (Unit {0})
@@ -37,12 +37,12 @@ lent_passed plan table lent = do
   check_files plan table
 
 -- The answer passes exactly the tables of laid out plans that keep every rule.
-unfoldable pub PassesExactly : Verdict → List ℕ → List ℕ → ℕ → Type 0
-PassesExactly a plan table lent = (a ≡ Fine) ↔ ((most_frames ≤ lent) × MayPass plan table)
+unfoldable pub PassesExactly : Result (Unit {0}) Refusal → List ℕ → List ℕ → ℕ → Type 0
+PassesExactly a plan table lent = (a ≡ Ok tt) ↔ ((most_frames ≤ lent) × MayPass plan table)
 
 -- The answer refuses exactly by the first fault: 19 where too few rows are lent, else the plan's or the table's first; 20 exactly
 -- where the table first breaks the record rules; 21 to 28 exactly where that rule is the first that is broken, at its lowest record.
-pub record RefusesExactly (a : Verdict) (plan table : List ℕ) (lent : ℕ) : Type 0 where
+pub record RefusesExactly (a : Result (Unit {0}) Refusal) (plan table : List ℕ) (lent : ℕ) : Type 0 where
   pub first :
       (n p : ℕ) →
       (heard a ≡ refuse n p) ↔ (((lent < most_frames) × (n ≡ 19) × (p ≡ most_frames)) ⊎ ((most_frames ≤ lent) × CheckFault plan table n p))

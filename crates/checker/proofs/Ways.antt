@@ -24,11 +24,12 @@ use Rattle.rules.proofs.LaidOut.{laid_out}
 use Rattle.rules.proofs.SingleRows.{table_single}
 use Rattle.answers.specs.declared.Refusal.{Refusal}
 use Rattle.answers.specs.declared.Refusal.TheVariants.{TooFewRows, BadTableRecords}
-use Rattle.answers.specs.Refusals.{number_of, place_of, said, heard}
-use Rattle.line.specs.declared.Laid.{Laid}
+use Rattle.answers.specs.Refusals.{number_of, place_of, said}
+use Rattle.answers.specs.Answered.{judged as heard}
+use Rattle.line.specs.declared.Line.{Line}
 use Rattle.line.specs.Line.{Drawing, drawing, line_of, task_of, release_of, deadline_of}
 use Rattle.line.specs.Laying as laying
-use Rattle.line.specs.Laying.{Lays, laid, file_laid}
+use Rattle.line.specs.Laying.{Lays, laid, file_laid, heard_line, line_beside}
 use Rattle.table.specs.declared.read.Outcome.TheVariants.{Whole, Broken}
 use Rattle.naming.specs.Places.{Numbered}
 use Rattle.table.specs.Memory.{ReadTable, lay_out, seen, reading_of}
@@ -37,8 +38,7 @@ use Rattle.line.proofs.Drawn.{Drawn, drawn}
 use Rattle.judging.proofs.Layouts.{line_numbered, line-controls, line_right}
 use Rattle.rows.specs.Frames.{rows_with, NoRows}
 use Rattle.rows.specs.Rows.{Rows, row_task, row_release, row_deadline, row_start, rows_laid}
-use Rattle.answers.specs.declared.Verdict.{Verdict}
-use Rattle.answers.specs.declared.Verdict.TheVariants.{Fine, Refused}
+use Rattle.std.specs.Prelude.{Result, Ok, Err}
 use Rattle.checker.specs.Unscanned.{ByTable, Judged, checking, refuses, Settles}
 use Rattle.checker.specs.declared.CheckedRows.{CheckedRows}
 use Rattle.checker.specs.declared.Ruling.{Ruling}
@@ -49,7 +49,7 @@ use Rattle.checked.proofs.Exact.{passes-exactly, refuses-exactly}
 -- ---- the contracts
 
 abbrev refused_by : Refusal → CheckedRows
-refused_by x = record { answer = Refused x; frames = 0 }
+refused_by x = record { answer = Err x; frames = 0 }
 
 -- whatever the lent arrays hold
 judged-refused : (early : Bool) (lent : ℕ) (x : Refusal) (r : CheckedRows) (tasks releases deadlines starts : List ℕ) (rule : Res rules.Passed)
@@ -74,19 +74,19 @@ unfolding rows_laid
 checks_refused x r (ok c) e z q = refuse≢ok q
 checks_refused x r (refuse n p) e z q = record { answered = rw e q; left = rw (e, z.0, z.1.0, z.1.1.0, z.1.1.1) }
 
-checks_fine : (r : Checked) (rule : Res rules.Passed) {lent : ℕ} → Judged true lent r rule → r.answer ≡ Fine → Checks r rule
+checks_fine : (r : Checked) (rule : Res rules.Passed) {lent : ℕ} → Judged true lent r rule → r.answer ≡ Ok tt → Checks r rule
 checks_fine r (ok c) h e = record { answered = h.answered (inl refl); left = h.left c refl }
 checks_fine r (refuse n p) h e =
     let z : ok tt ≡ refuse n p = sym (ap heard e) ∙ h.answered (inl refl) in refuse≢ok (sym z)
 
 module _ (plan table : List ℕ) (lent : ℕ) (all : Checked) (h : Judged true lent all (lent_passed plan table lent)) where
-  pub way_refused : (why : Refusal) (r : CheckedRows) {tasks releases deadlines starts : List ℕ} → all.answer ≡ Refused why → r ≡ refused_by why
+  pub way_refused : (why : Refusal) (r : CheckedRows) {tasks releases deadlines starts : List ℕ} → all.answer ≡ Err why → r ≡ refused_by why
       → NoRows tasks releases deadlines starts → Says (checking r tasks releases deadlines starts) plan table lent
   way_refused why r {tasks} {releases} {deadlines} {starts} q e z =
       says (checking r tasks releases deadlines starts) plan table lent
       (checks_refused why r (lent_passed plan table lent) e z (sym (ap heard q) ∙ h.answered (inl refl)))
 
-  pub way_fine : all.answer ≡ Fine → Says all plan table lent
+  pub way_fine : all.answer ≡ Ok tt → Says all plan table lent
   way_fine q = says all plan table lent (checks_fine all (lent_passed plan table lent) h q)
 
 -- ---- a plan that was laid out
@@ -95,11 +95,11 @@ pub laid-refused : (n at : ℕ) (rule : Res Plan) → laying.verdict rule ≡ re
 laid-refused n at (ok p) e = refuse≢ok (sym e)
 laid-refused n at (refuse m q) e = rw (refuse-number e, refuse-place e)
 
-pub laid-sound : {C : Type 0} (rule : Res Plan) (x : Laid) {tasks releases deadlines : List ℕ} → Lays x tasks releases deadlines rule → x.answer ≡ Fine
-    → ((p : Plan) → rule ≡ ok p → drawing x.line tasks releases deadlines ≡ line_of p → C) → C
-laid-sound (ok p) x h e go = go p refl h.left
+pub laid-sound : {C : Type 0} (rule : Res Plan) (x : Result Line Refusal) {l : Line} {tasks releases deadlines : List ℕ} → Lays x tasks releases deadlines rule → x ≡ Ok l
+    → ((p : Plan) → rule ≡ ok p → drawing l tasks releases deadlines ≡ line_of p → C) → C
+laid-sound (ok p) x h e go = go p refl (rw e at h.left)
 laid-sound (refuse n at) x h e go =
-    let z : ok tt ≡ refuse n at = sym (ap heard e) ∙ h.answered in refuse≢ok (sym z)
+    let z : ok tt ≡ refuse n at = sym (ap heard_line e) ∙ h.answered in refuse≢ok (sym z)
 
 -- what `judge` requires of a line and its frames
 pub drawn_ready : (p : Plan) → Drawn p → {l : Drawing} → l ≡ line_of p → Numbered l.tasks l.deadlines l.frames × (l.controls ≤ 8)
@@ -117,8 +117,8 @@ file-laid {C} consumers file p e go =
 pub file_drawn : (consumers : Bool) (file : List ℕ) (p : Plan) → file_laid consumers file ≡ ok p → Drawn p
 file_drawn consumers file p e = file-laid consumers file p e λ is_read is_laid. drawn consumers file p (layout_of p) is_read is_laid
 
-pub judge_ready : (consumers : Bool) (plan : List ℕ) (x : Laid) {tasks releases deadlines : List ℕ} → Lays x tasks releases deadlines (file_laid consumers plan) → x.answer ≡ Fine
-    → Numbered tasks deadlines x.line.frames × (x.line.controls ≤ 8)
+pub judge_ready : (consumers : Bool) (plan : List ℕ) (x : Result Line Refusal) {l : Line} {tasks releases deadlines : List ℕ} → Lays x tasks releases deadlines (file_laid consumers plan) → x ≡ Ok l
+    → Numbered tasks deadlines l.frames × (l.controls ≤ 8)
 judge_ready consumers plan x h e = laid-sound (file_laid consumers plan) x h e λ p q same. drawn_ready p (file_drawn consumers plan p q) same
 
 -- a plan that 1 to 11 refuse
@@ -150,7 +150,7 @@ module _ (m : Res (List Rec)) (reading : ReadTable) (is : reading ≡ reading_of
   pub by_broken : (at : Offset) → reading.outcome ≡ Broken at → r ≡ refused_by (BadTableRecords at) → ByTable early l m r starts
   by_broken at q e = reading-broken m reading at is q λ n broken. rw (broken, e)
 
-  pub by_whole : reading.outcome ≡ Whole → {v : Verdict}
+  pub by_whole : reading.outcome ≡ Whole → {v : Result (Unit {0}) Refusal}
       → Right early l.releases l.frames (line_judged l (seen reading.table)) (frames_on l) (seen reading.table) (judgement v starts)
       → r ≡ record { answer = v; frames = l.frames } → ByTable early l m r starts
   by_whole whole right e = reading-whole m reading is whole λ rs are_rows held. rw (are_rows, e) (refl, rw held at right)
@@ -223,14 +223,14 @@ module _ (plan table : List ℕ) (lent : ℕ) (early : Bool) (r : CheckedRows) (
   pub way_few : lent < most_frames → r ≡ refused_by TooFewRows → Promised
   way_few h e = refused_as TooFewRows e (short-is plan table lent h)
 
-  module _ (enough : most_frames ≤ lent) (x : Laid) (h : Lays x tasks releases deadlines (file_laid (is_for_consumers table) plan)) where
+  module _ (enough : most_frames ≤ lent) (x : Result Line Refusal) (h : Lays x tasks releases deadlines (file_laid (is_for_consumers table) plan)) where
     -- 1 to 11
-    pub way_plan : (why : Refusal) → x.answer ≡ Refused why → r ≡ refused_by why → Promised
+    pub way_plan : (why : Refusal) → x ≡ Err why → r ≡ refused_by why → Promised
     way_plan why q e =
-        let n : file_laid (is_for_consumers table) plan ≡ said why = laid-refused (number_of why) (place_of why) (file_laid (is_for_consumers table) plan) (sym h.answered ∙ ap heard q) in
+        let n : file_laid (is_for_consumers table) plan ≡ said why = laid-refused (number_of why) (place_of why) (file_laid (is_for_consumers table) plan) (sym h.answered ∙ ap heard_line q) in
         refused_as why e (enough-is plan table lent enough ∙ plan-refused plan table (number_of why) (place_of why) n)
 
-    module _ (sound : x.answer ≡ Fine) where
+    module _ {line : Line} (sound : x ≡ Ok line) where
       -- 20
       broken-refused : (p : Plan) → file_laid (is_for_consumers table) plan ≡ ok p → (n at : ℕ) → records table_follows 20 table ≡ refuse n at → check_files plan table ≡ refuse 20 at
       unfolding check_files
@@ -245,7 +245,7 @@ module _ (plan table : List ℕ) (lent : ℕ) (early : Bool) (r : CheckedRows) (
 
       -- the line and its frames
       abbrev l : Drawing
-      l = drawing x.line tasks releases deadlines
+      l = drawing line tasks releases deadlines
 
       pub way_table : ByTable early l (records table_follows 20 table) r starts → Promised
       way_table by = laid-sound (file_laid (is_for_consumers table) plan) x h sound λ p laid same. go p laid same (records table_follows 20 table) refl by
@@ -263,7 +263,7 @@ module _ (plan table : List ℕ) (lent : ℕ) (early : Bool) (r : CheckedRows) (
 
 -- ---- after the scan
 
-module _ (before : Verdict) (rule : Res rules.Passed) (r : Ruling) where
+module _ (before : Result (Unit {0}) Refusal) (rule : Res rules.Passed) (r : Ruling) where
   pub settles_whole : (lent : ℕ) (all : Checked) → Judged true lent all rule → (r.answer ≡ all.answer) × (r.refused ≡ refuses all.answer) → Settles true before rule r
   settles_whole lent all h e = record { whole = λ _. rw e.0 (h.answered (inl refl)); kept = λ q. true-false q; refused = e.1 ∙ ap refuses (sym e.0) }
 

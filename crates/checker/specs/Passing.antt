@@ -8,9 +8,9 @@ use Rattle.rules.specs.Plan as rules
 use Rattle.rules.specs.Traffic.{traffic}
 use Rattle.rules.specs.Frames.{layout_of}
 use Rattle.rules.specs.Checker.{Passed, judged, table_of}
-use Rattle.answers.specs.Refusals.{heard}
+use Rattle.std.specs.Prelude.{Result, Ok, Err}
+use Rattle.answers.specs.Refusals.{said}
 use Rattle.answers.specs.declared.Refusal.{Refusal}
-use Rattle.answers.specs.declared.Verdict.TheVariants.{Refused}
 use Rattle.plan.specs.declared.Plan.{Plan}
 use Rattle.plan.specs.Memory.{lay_out, empty_plan}
 use Rattle.line.specs.Line.{Drawing, line_in, line_of, no_line}
@@ -35,15 +35,24 @@ abbrev pub starts_for : Res Passed → List ℕ
 starts_for (ok c) = starts_of c
 starts_for (refuse n p) = replicate most_frames 0
 
-unfoldable pub no_passing : Refusal → Passing
-no_passing why = record { answer = Refused why; plan = empty_plan; line = line_in no_line }
+unfoldable pub no_passing : Passing
+no_passing = record { plan = empty_plan; line = line_in no_line }
+
+-- an answer in the rules' words, and what is handed on with it: nothing of a table that is refused
+abbrev pub heard_passing : Result Passing Refusal → Res (Unit {0})
+heard_passing (Ok p) = ok tt
+heard_passing (Err x) = said x
+
+abbrev pub passing_beside : Result Passing Refusal → Passing
+passing_beside (Ok p) = p
+passing_beside (Err x) = no_passing
 
 -- The same number and place as the rules, or that the table passes, with what is handed on: the plan and its line, and its pairs in three
 -- arrays.
-pub record Passes (r : Passing) (pair_tasks pair_deadlines pair_starts : List ℕ) (rule : Res Passed) : Type 0 where
-  pub answered : heard r.answer ≡ verdict rule
-  pub plan : r.plan ≡ plan_for rule
-  pub line : r.line ≡ line_in (line_for rule)
+pub record Passes (r : Result Passing Refusal) (pair_tasks pair_deadlines pair_starts : List ℕ) (rule : Res Passed) : Type 0 where
+  pub answered : heard_passing r ≡ verdict rule
+  pub plan : (passing_beside r).plan ≡ plan_for rule
+  pub line : (passing_beside r).line ≡ line_in (line_for rule)
   pub tasks : pair_tasks ≡ (line_for rule).tasks
   pub deadlines : pair_deadlines ≡ (line_for rule).deadlines
   pub starts : pair_starts ≡ starts_for rule

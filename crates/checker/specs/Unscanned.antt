@@ -5,9 +5,9 @@ use Rattle.rules.specs.Limits.{most_frames}
 use Rattle.rules.specs.Records.{Rec}
 use Rattle.rules.specs.Checker.{Passed, table_of}
 use Rattle.answers.specs.declared.Refusal.TheVariants.{BadTableRecords}
-use Rattle.answers.specs.declared.Verdict.{Verdict}
-use Rattle.answers.specs.declared.Verdict.TheVariants.{Fine, Refused}
-use Rattle.answers.specs.Refusals.{heard}
+use Rattle.std.specs.Prelude.{Result, Ok, Err}
+use Rattle.answers.specs.declared.Refusal.{Refusal}
+use Rattle.answers.specs.Answered.{judged as heard}
 use Rattle.line.specs.Line.{Drawing}
 use Rattle.table.specs.Memory.{lay_out, seen}
 use Rattle.judging.specs.Judged.{judgement, frames_on, line_judged, Right}
@@ -34,18 +34,18 @@ pub record Judged (early-too : Bool) (lent : ℕ) (r : Checked) (rule : Res Pass
 -- What a table file comes to by a line and its frames, which stand in arrays: 20 and no frames where it is not records; else the line's frames, and
 -- what is right of the table that its records make.
 abbrev pub ByTable : Bool → Drawing → Res (List Rec) → CheckedRows → List ℕ → Type 0
-ByTable early-too l (refuse n place) r starts = r ≡ record { answer = Refused (BadTableRecords (record { 0 = place })); frames = 0 }
+ByTable early-too l (refuse n place) r starts = r ≡ record { answer = Err (BadTableRecords (record { 0 = place })); frames = 0 }
 ByTable early-too l (ok rs) r starts =
     (r.frames ≡ l.frames)
     × Right early-too l.releases l.frames (line_judged l (seen (lay_out (table_of rs)))) (frames_on l) (seen (lay_out (table_of rs)))
     (judgement r.answer starts)
 
-abbrev pub refuses : Verdict → Bool
-refuses Fine = false
-refuses (Refused x) = true
+abbrev pub refuses : Result (Unit {0}) Refusal → Bool
+refuses (Ok x) = false
+refuses (Err x) = true
 
 -- Where a row was early the answer is that of the rules, else the one before; and whether it refuses.
-pub record Settles (early : Bool) (before : Verdict) (rule : Res Passed) (r : Ruling) : Type 0 where
+pub record Settles (early : Bool) (before : Result (Unit {0}) Refusal) (rule : Res Passed) (r : Ruling) : Type 0 where
   pub whole : early ≡ true → heard r.answer ≡ verdict rule
   pub kept : early ≡ false → r.answer ≡ before
   pub refused : r.refused ≡ refuses r.answer

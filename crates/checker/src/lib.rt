@@ -2,7 +2,7 @@
 // that are lent. Its parts serve the check of `olbiothar` too, which looks for rule 25 in the lent rows.
 #![tactic(auto)]
 
-ghost use Rattle.std.specs.Prelude.{◌≡◌, replicate, ◌≤◌};
+ghost use Rattle.std.specs.Prelude.{◌≡◌, Err, replicate, ◌≤◌};
 ghost use Rattle.rules.specs.Limits.{most_nodes, most_frames};
 ghost use Rattle.rules.specs.Records.{records, table_follows};
 ghost use Rattle.rules.specs.Checker.{check_files};
@@ -11,12 +11,11 @@ ghost use Rattle.line.specs.Line.{drawing, line_of};
 ghost use Rattle.line.proofs.Drawn.{Drawn};
 ghost use Rattle.naming.specs.Places.{Numbered};
 ghost use Rattle.rows.specs.Frames.{NoRows};
-ghost use Rattle.answers.specs.declared.Verdict.TheVariants.{Refused};
 ghost use Rattle.checked.specs.Checking.{Checks, lent_passed, PassesExactly, RefusesExactly};
-ghost use Rattle.checker.specs.Passing.{Passes, no_passing, table_passed};
+ghost use Rattle.checker.specs.Passing.{Passes, table_passed};
 ghost use Rattle.checker.specs.Unscanned.{ByTable, Judged, checking, refuses, Settles};
 
-use answers::{Refusal, Verdict};
+use answers::Refusal;
 use judging::judge;
 use line::{Line, lay_out, of_plan, read_in};
 use plan::Plan;
@@ -26,15 +25,17 @@ use units::Frame;
 // What a check comes to, and how many frames stand in the lent arrays.
 #[derive(Clone, Copy)]
 pub struct CheckedRows {
-    pub answer: Verdict,
+    pub answer: Result<(), Refusal>,
     pub frames: usize,
 }
 
 fn refused(why: Refusal) -> CheckedRows
-    ensures { result ≡ record { answer = Refused why; frames = 0 } }
+    ensures { result ≡ record { answer = Err why; frames = 0 } }
 {
-    let answer = Verdict::Refused(why);
-    CheckedRows { answer, frames: 0 }
+    CheckedRows {
+        answer: Err(why),
+        frames: 0,
+    }
 }
 
 // A table file by a line and its frames: 20, then 21 to 28; of these 25 only where `early_too`. `starts` is left as `judge` leaves it.
@@ -105,13 +106,10 @@ pub fn judged(
         return refused(Refusal::TooFewRows);
     }
     let laid = lay_out(plan, is_for_consumers(table), tasks, releases, deadlines);
-    let answer = laid.answer;
-    if let Verdict::Refused(why) = answer {
-        return refused(why);
+    match laid {
+        Ok(line) => by_table(table, line, tasks, releases, deadlines, early_too, starts),
+        Err(why) => refused(why),
     }
-    by_table(
-        table, laid.line, tasks, releases, deadlines, early_too, starts,
-    )
 }
 
 // The same with every rule, into arrays with any contents; where it refuses there are no frame rows, and the arrays are zeros.
@@ -135,37 +133,42 @@ pub fn check(
     let all = judged(plan, table, lent, true, tasks, releases, deadlines, starts);
     let answer = all.answer;
     match answer {
-        Verdict::Refused(why) => {
+        Err(why) => {
             *tasks = [0; Frame::MOST];
             *releases = [0; Frame::MOST];
             *deadlines = [0; Frame::MOST];
             *starts = [0; Frame::MOST];
             refused(why)
         }
-        Verdict::Fine => all,
+        Ok(()) => all,
     }
 }
 
 // An answer, and whether it refuses.
 #[derive(Clone, Copy)]
 pub struct Ruling {
-    pub answer: Verdict,
+    pub answer: Result<(), Refusal>,
     pub refused: bool,
 }
 
-fn settled_by(answer: Verdict) -> Ruling
+fn settled_by(answer: Result<(), Refusal>) -> Ruling
     ensures { (result.answer ≡ answer) × (result.refused ≡ refuses answer) }
 {
-    let refused = match answer {
-        Verdict::Refused(_) => true,
-        Verdict::Fine => false,
-    };
-    Ruling { answer, refused }
+    Ruling {
+        answer,
+        refused: answer.is_err(),
+    }
 }
 
 // The answer of a check whose lent rows were scanned for rule 25: where one was early, all rules are looked at once more for the lowest
 // record at fault; else the answer without rule 25 stands.
-pub fn settled(plan: &[u8], table: &[u8], lent: usize, answer: Verdict, early: bool) -> Ruling
+pub fn settled(
+    plan: &[u8],
+    table: &[u8],
+    lent: usize,
+    answer: Result<(), Refusal>,
+    early: bool,
+) -> Ruling
     ensures { Settles early answer (lent_passed plan.now table.now lent) result }
 {
     if early {
@@ -189,23 +192,12 @@ pub fn settled(plan: &[u8], table: &[u8], lent: usize, answer: Verdict, early: b
     settled_by(answer)
 }
 
-// What a check comes to, and what is handed on of a table that passes: the plan and its line, and in lent arrays each pair's task and
-// deadline and the start that the table gives to it, by number. Nothing is handed on where it is refused: the arrays are zeros.
+// What is handed on of a table that passes: the plan and its line, and in lent arrays each pair's task and deadline and the start that the
+// table gives to it, by number. Nothing is handed on where it is refused: the arrays are zeros.
 #[derive(Clone, Copy)]
 pub struct Passing {
-    pub answer: Verdict,
     pub plan: Plan,
     pub line: Line,
-}
-
-fn unpassed(why: Refusal) -> Passing
-    ensures { result ≡ no_passing why }
-{
-    Passing {
-        answer: Verdict::Refused(why),
-        plan: Plan::empty(),
-        line: Line::none(),
-    }
 }
 
 // Refuses a table by a plan whose frames were laid: they are taken back.
@@ -214,14 +206,14 @@ fn taken_back(
     tasks: &mut [u8; Frame::MOST],
     deadlines: &mut [u32; Frame::MOST],
     starts: &mut [u32; Frame::MOST],
-) -> Passing
-    ensures value { result ≡ no_passing why }
+) -> Result<Passing, Refusal>
+    ensures value { result ≡ Err why }
     ensures tasks_after { (tasks.new ≡ replicate most_frames 0) × (deadlines.new ≡ replicate most_frames 0) × (starts.new ≡ replicate most_frames 0) }
 {
     *tasks = [0; Frame::MOST];
     *deadlines = [0; Frame::MOST];
     *starts = [0; Frame::MOST];
-    unpassed(why)
+    Err(why)
 }
 
 // A table file by a plan with its line and its frames: 20 to 28.
@@ -233,20 +225,15 @@ fn passed_on(
     releases: &[u32; Frame::MOST],
     deadlines: &mut [u32; Frame::MOST],
     starts: &mut [u32; Frame::MOST],
-) -> Passing
+) -> Result<Passing, Refusal>
     requires p_value { (p ≡ lay_out (seen p)) × (drawing line tasks.old releases.now deadlines.old ≡ line_of (seen p)) × Drawn (seen p) }
     requires starts_value { starts.old ≡ replicate most_frames 0 }
     ensures { Passes result tasks.new deadlines.new starts.new (table_passed (seen p) table.now) }
 {
     let judged = by_table(table, line, tasks, releases, deadlines, true, starts);
-    let answer = judged.answer;
-    if let Verdict::Refused(why) = answer {
-        return taken_back(why, tasks, deadlines, starts);
-    }
-    Passing {
-        answer,
-        plan: p,
-        line,
+    match judged.answer {
+        Ok(()) => Ok(Passing { plan: p, line }),
+        Err(why) => taken_back(why, tasks, deadlines, starts),
     }
 }
 
@@ -257,28 +244,12 @@ pub fn passed(
     tasks: &mut [u8; Frame::MOST],
     deadlines: &mut [u32; Frame::MOST],
     starts: &mut [u32; Frame::MOST],
-) -> Passing
+) -> Result<Passing, Refusal>
     requires { (tasks.old ≡ replicate most_frames 0) × (deadlines.old ≡ replicate most_frames 0) × (starts.old ≡ replicate most_frames 0) }
     ensures { Passes result tasks.new deadlines.new starts.new (check_files plan.now table.now) }
 {
-    let reading = read_in(plan, is_for_consumers(table));
-    let answer = reading.answer;
-    if let Verdict::Refused(why) = answer {
-        return unpassed(why);
-    }
+    let p = read_in(plan, is_for_consumers(table))?;
     let mut releases: [u32; Frame::MOST] = [0; Frame::MOST];
-    let laid = of_plan(reading.plan, tasks, &mut releases, deadlines);
-    let placed = laid.answer;
-    if let Verdict::Refused(why) = placed {
-        return unpassed(why);
-    }
-    passed_on(
-        reading.plan,
-        laid.line,
-        table,
-        tasks,
-        &releases,
-        deadlines,
-        starts,
-    )
+    let line = of_plan(p, tasks, &mut releases, deadlines)?;
+    passed_on(p, line, table, tasks, &releases, deadlines, starts)
 }

@@ -12,9 +12,9 @@ use Rattle.rules.specs.Checker as rules
 use Rattle.rules.specs.Checker.{check_files}
 use Rattle.answers.specs.declared.Refusal.{Refusal}
 use Rattle.answers.specs.Refusals.{number_of, place_of}
-use Rattle.answers.specs.declared.Verdict.TheVariants.{Fine, Refused}
+use Rattle.std.specs.Prelude.{Ok, Err}
 use Rattle.checked.specs.Checking.{Checked, Checks, verdict, lent_passed}
-use Rattle.answers.specs.Refusals.{heard}
+use Rattle.answers.specs.Answered.{judged}
 use Rattle.checked.proofs.Rules.{enough-is}
 use Rattle.text.specs.Text.{passed_line, refused_line, too_long_line}
 use Rattle.text.proofs.Decimals.{refused-line-most}
@@ -57,7 +57,7 @@ module _ (plan table old out : List ℕ) (n l t : ℕ) where
     unfolding status_for
     short_status = neither_long_status 65536 plan table (status_of (check_files plan table)) p w
 
-    says : heard r.answer ≡ verdict (check_files plan table)
+    says : judged r.answer ≡ verdict (check_files plan table)
     says = h.answered ∙ ap verdict (enough-is plan table most_frames (omega arith))
 
     passed-line : (m : Res rules.Passed) → ok tt ≡ verdict m → (line_for m ≡ passed_line) × (0 ≡ status_of m)
@@ -68,18 +68,18 @@ module _ (plan table old out : List ℕ) (n l t : ℕ) where
     refused-line k q (ok c) e = refuse≢ok e
     refused-line k q (refuse i j) e = (sym (ap₂ refused_line (refuse-number e) (refuse-place e)), refl)
 
-    pub passed_response : r.answer ≡ Fine → Front passed_line old out n → Says l t n 0 → Responds plan table old out l t
+    pub passed_response : r.answer ≡ Ok tt → Front passed_line old out n → Says l t n 0 → Responds plan table old out l t
     unfolding passed_line
     passed_response e a told =
-        let both = passed-line (check_files plan table) (sym (ap heard e) ∙ says) in
+        let both = passed-line (check_files plan table) (sym (ap judged e) ∙ says) in
         let is : answer_for plan table ≡ passed_line = short ∙ both.0 in
         let ends : 0 ≡ status_for plan table = both.1 ∙ sym short_status in
         rw (told.0, told.1) (rw is a, (ends, λ room. front-counts passed_line old out n a (omega arith)))
 
-    pub refused_response : (why : Refusal) (k q : ℕ) → r.answer ≡ Refused why → k ≡ number_of why → q ≡ place_of why
+    pub refused_response : (why : Refusal) (k q : ℕ) → r.answer ≡ Err why → k ≡ number_of why → q ≡ place_of why
         → k < 18446744073709551616 → q < 18446744073709551616 → Front (refused_line k q) old out n → Says l t n 1 → Responds plan table old out l t
     refused_response why k q e number place kw qw a told =
-        let same : refuse k q ≡ verdict (check_files plan table) = ap₂ refuse number place ∙ (sym (ap heard e) ∙ says) in
+        let same : refuse k q ≡ verdict (check_files plan table) = ap₂ refuse number place ∙ (sym (ap judged e) ∙ says) in
         let both = refused-line k q (check_files plan table) same in
         let is : answer_for plan table ≡ refused_line k q = short ∙ both.0 in
         let ends : 1 ≡ status_for plan table = both.1 ∙ sym short_status in

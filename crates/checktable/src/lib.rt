@@ -4,18 +4,18 @@
 ghost use Rattle.std.specs.Prelude.{◌≡◌, ◌≤◌, length};
 ghost use Rattle.std.proofs.lemmas.List.Edits.{sets};
 ghost use Rattle.io.specs.Counts.{IsPrefixLen};
+ghost use Rattle.manners.specs.Status.{number_of};
 ghost use Rattle.checktable.specs.Answer.{answer_for, status_for};
 
-use answers::Verdict;
-use input::{Input, file_room, read_argument};
-use manners::{FAILED, Response, Start, put_lines};
+use input::{file_room, read_argument};
+use manners::{Failed, Response, Status, put_lines};
 use meanings::put_help_lines;
 use units::Frame;
 
 // The line at the front of `out`, and how the program ends. No line has more than 53 bytes.
 fn respond(plan: &[u8], table: &[u8], out: &mut [u8]) -> Response
     ensures out_after { (out.new ≡ sets out.old 0 (answer_for plan.now table.now)) × (result.length ≡ length (answer_for plan.now table.now)) }
-    ensures status_value { result.status ≡ status_for plan.now table.now }
+    ensures status_value { number_of result.status ≡ status_for plan.now table.now }
     ensures prefix_len { 53 ≤ length out.old → IsPrefixLen result.length out.new }
 {
     if plan.len() > 65536 {
@@ -37,28 +37,20 @@ fn respond(plan: &[u8], table: &[u8], out: &mut [u8]) -> Response
         &mut deadlines,
         &mut starts,
     );
-    let answer = checked.answer;
-    match answer {
-        Verdict::Fine => Response::done(text::put_passed(&mut *out)),
-        Verdict::Refused(why) => {
-            Response::refused(text::put_refused(&mut *out, why.number(), why.place()))
-        }
+    match checked.answer {
+        Ok(()) => Response::done(text::put_passed(&mut *out)),
+        Err(why) => { Response::refused(text::put_refused(&mut *out, why.number(), why.place())) }
     }
 }
 
-fn check(rt: HostRuntime) -> i32 {
+fn check(rt: HostRuntime) -> Result<Status, Failed> {
     let mut plan = file_room();
-    let Input::Bytes(n) = read_argument(rt, 1, b"PLAN", &mut plan) else {
-        return FAILED;
-    };
+    let n = read_argument(rt, 1, b"PLAN", &mut plan)?;
     let mut table = file_room();
-    let Input::Bytes(m) = read_argument(rt, 2, b"TABLE", &mut table) else {
-        return FAILED;
-    };
+    let m = read_argument(rt, 2, b"TABLE", &mut table)?;
     let mut out = [0u8; 64];
     let answer = respond(&plan[..n], &table[..m], &mut out);
-    let length = answer.length;
-    manners::write_out(rt, &out[..length], answer.status as i32)
+    manners::write_out(rt, &out[..answer.length], answer.status)
 }
 
 // What `--help` says behind the usage.
@@ -80,11 +72,11 @@ fn put_help(out: &mut [u8]) -> usize
     put_help_lines(&mut *out, table_at, 20, 9)
 }
 
-// The program; the number that it ends with.
-pub fn run(rt: HostRuntime) -> i32 {
+// The program, and how it ends.
+pub fn run(rt: HostRuntime) -> Result<Status, Failed> {
     let mut help = io::buffer();
     let end = put_help(&mut help);
-    let start = manners::opening(
+    let opened = manners::opening(
         rt,
         b"checktable",
         b"checktable PLAN TABLE",
@@ -92,8 +84,8 @@ pub fn run(rt: HostRuntime) -> i32 {
         1,
         2,
     );
-    match start {
-        Start::Works => check(rt),
-        Start::Ends(status) => status,
+    match opened {
+        Some(ended) => ended,
+        None => check(rt),
     }
 }

@@ -10,7 +10,6 @@ ghost use Rattle.bus.specs.Senders.{by_number};
 ghost use Rattle.control.specs.Control.{control_laid};
 
 use bus::BYTES;
-use figures::wide;
 use plan::Plan;
 use times::{Span, gap_time, sending_time};
 use units::{ByteCount, NodeNo};
@@ -43,13 +42,11 @@ pub fn control_end(p: Plan, payloads: [u8; BYTES]) -> Span
     let nodes = p.counts[2];
     let mut next: u64 = 0;
     let mut stop: u64 = 0;
-    let mut n = 0;
-    while n < nodes {
+    for n in 0..nodes {
         if payloads[n] > 0 {
-            stop = next + control_time(p, ByteCount(wide(payloads[n]))).0;
+            stop = next + control_time(p, ByteCount(u32::from(payloads[n]))).0;
             next = stop + gap;
         }
-        n += 1;
     }
     Span(stop + gap)
 }
@@ -69,22 +66,20 @@ pub fn control_rows(p: Plan, payloads: [u8; BYTES]) -> Control
     let mut stops = [0; NodeNo::MOST];
     let mut count = 0;
     let mut start: u64 = 0;
-    let mut n = 0;
-    while n < most {
+    for n in 0..most {
         if payloads[n] > 0 {
-            let stop = start + control_time(p, ByteCount(wide(payloads[n]))).0;
+            let stop = start + control_time(p, ByteCount(u32::from(payloads[n]))).0;
             nodes[count] = n as u8;
             starts[count] = start as u32;
             stops[count] = stop as u32;
             count += 1;
             start = stop + gap;
         }
-        n += 1;
     }
     Control {
-        count: count,
-        nodes: nodes,
-        starts: starts,
-        stops: stops,
+        count,
+        nodes,
+        starts,
+        stops,
     }
 }

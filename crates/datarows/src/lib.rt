@@ -6,11 +6,11 @@ ghost use Rattle.laws.specs.Lists.{first_bad, up_to};
 ghost use Rattle.laws.specs.Numbers as laws;
 ghost use Rattle.rules.specs.Limits.{most_frames, most_tasks};
 ghost use Rattle.naming.specs.Places.{look_in, before_in};
-ghost use Rattle.places.specs.Found.{found_of};
+ghost use Rattle.places.specs.Spot.{spot_of};
 ghost use Rattle.datarows.specs.Rows.{time_kept, release_kept, due_kept, gap_kept, last_kept};
 
 use figures::divides;
-use places::Found;
+use places::entry_or;
 use times::Span;
 use units::{Frame, FrameNo, TaskNo, Ticks};
 
@@ -18,43 +18,33 @@ use units::{Frame, FrameNo, TaskNo, Ticks};
 fn later(start: Ticks, time: Ticks) -> Span
     ensures { result.0 ≡ start.0 + time.0 }
 {
-    Span(start.0 as u64 + time.0 as u64)
+    Span(u64::from(start.0) + u64::from(time.0))
 }
 
 fn wide(time: Ticks) -> Span
     ensures { result.0 ≡ time.0 }
 {
-    Span(time.0 as u64)
+    Span(u64::from(time.0))
 }
 
+#[tactic(auto, unfolding(naming::specs::Places::look_in))]
 fn time_of(times: &[u32; TaskNo::MOST], task: TaskNo) -> Ticks
     ensures { result.0 ≡ look_in most_tasks times.now task.0 }
 {
-    let k = task.place();
-    if k < TaskNo::MOST {
-        Ticks(times[k])
-    } else {
-        Ticks(0)
-    }
+    Ticks(entry_or(times, task.place(), 0))
 }
 
 // Every tick is on a resolution of 1, and no division is needed to see it.
 fn on_grid(resolution: Ticks, start: Ticks) -> bool
     ensures { result ≡ laws.divides resolution.0 start.0 }
 {
-    if resolution.0 == 1 {
-        return true;
-    }
-    divides(resolution.0, start.0)
+    resolution.0 == 1 || divides(resolution.0, start.0)
 }
 
 fn time_kept(start: Ticks, stop: Ticks, time: Ticks, resolution: Ticks) -> bool
     ensures { result ≡ (eqb stop.0 (start.0 + time.0) && laws.divides resolution.0 start.0) }
 {
-    if wide(stop).0 == later(start, time).0 {
-        return on_grid(resolution, start);
-    }
-    false
+    wide(stop) == later(start, time) && on_grid(resolution, start)
 }
 
 // Rule 7.24: the first row whose stop is not its start plus its sending time, or whose start is off the resolution.
@@ -65,30 +55,24 @@ pub fn first_mistimed<'a>(
     times: &[u32; TaskNo::MOST],
     resolution: Ticks,
     count: usize,
-) -> Found
+) -> Option<usize>
     requires { count ≤ most_frames }
-    ensures { result ≡ found_of (first_bad (time_kept tasks.now starts.now stops.now times.now resolution.0) (up_to count)) }
+    ensures { result ≡ spot_of (first_bad (time_kept tasks.now starts.now stops.now times.now resolution.0) (up_to count)) }
 {
-    let mut k = 0;
-    while k < count {
+    for k in 0..count {
         let time = time_of(times, TaskNo(tasks[k]));
         if !time_kept(Ticks(starts[k]), Ticks(stops[k]), time, resolution) {
-            return Found::At(k);
+            return Some(k);
         }
-        k += 1;
     }
-    Found::Nothing
+    None
 }
 
+#[tactic(auto, unfolding(naming::specs::Places::look_in))]
 pub fn release_of(releases: &[u32; Frame::MOST], frame: FrameNo) -> Ticks
     ensures { result.0 ≡ look_in most_frames releases.now frame.0 }
 {
-    let k = frame.0;
-    if k < Frame::MOST {
-        Ticks(releases[k])
-    } else {
-        Ticks(0)
-    }
+    Ticks(entry_or(releases, frame.0, 0))
 }
 
 // Rule 7.25: the first row that starts before the release of its frame.
@@ -97,18 +81,16 @@ pub fn first_early(
     releases: &[u32; Frame::MOST],
     numbers: &[usize; Frame::MOST],
     count: usize,
-) -> Found
+) -> Option<usize>
     requires { count ≤ most_frames }
-    ensures { result ≡ found_of (first_bad (release_kept starts.now releases.now numbers.now) (up_to count)) }
+    ensures { result ≡ spot_of (first_bad (release_kept starts.now releases.now numbers.now) (up_to count)) }
 {
-    let mut k = 0;
-    while k < count {
-        if starts[k] < release_of(releases, FrameNo(numbers[k])).0 {
-            return Found::At(k);
+    for k in 0..count {
+        if Ticks(starts[k]) < release_of(releases, FrameNo(numbers[k])) {
+            return Some(k);
         }
-        k += 1;
     }
-    Found::Nothing
+    None
 }
 
 // Rule 7.26: the first row that stops after its deadline.
@@ -116,18 +98,16 @@ pub fn first_late<'a>(
     stops: &'a [u32; Frame::MOST],
     deadlines: &'a [u32; Frame::MOST],
     count: usize,
-) -> Found
+) -> Option<usize>
     requires { count ≤ most_frames }
-    ensures { result ≡ found_of (first_bad (due_kept stops.now deadlines.now) (up_to count)) }
+    ensures { result ≡ spot_of (first_bad (due_kept stops.now deadlines.now) (up_to count)) }
 {
-    let mut k = 0;
-    while k < count {
+    for k in 0..count {
         if deadlines[k] < stops[k] {
-            return Found::At(k);
+            return Some(k);
         }
-        k += 1;
     }
-    Found::Nothing
+    None
 }
 
 fn stop_before(stops: &[u32; Frame::MOST], k: usize, last: Ticks) -> Ticks
@@ -144,23 +124,21 @@ pub fn first_crowded<'a>(
     last: Ticks,
     gap: Ticks,
     count: usize,
-) -> Found
+) -> Option<usize>
     requires { count ≤ most_frames }
-    ensures { result ≡ found_of (first_bad (gap_kept starts.now stops.now last.0 gap.0) (up_to count)) }
+    ensures { result ≡ spot_of (first_bad (gap_kept starts.now stops.now last.0 gap.0) (up_to count)) }
 {
-    let mut k = 0;
-    while k < count {
-        let start = wide(Ticks(starts[k]));
+    for k in 0..count {
         let free = later(stop_before(stops, k, last), gap);
-        if start.0 < free.0 {
-            return Found::At(k);
+        if wide(Ticks(starts[k])) < free {
+            return Some(k);
         }
-        k += 1;
     }
-    Found::Nothing
+    None
 }
 
 // Rule 7.28: the gap lies between the stop of the last row and the next cycle, which begins at P. `last` is as in 7.27.
+#[tactic(auto, unfolding(crate::specs::Rows::last_kept))]
 pub fn gap_at_end(
     stops: &[u32; Frame::MOST],
     last: Ticks,
@@ -171,5 +149,5 @@ pub fn gap_at_end(
     requires { count ≤ most_frames }
     ensures { result ≡ last_kept stops.now last.0 gap.0 period.0 count }
 {
-    later(stop_before(stops, count, last), gap).0 <= wide(period).0
+    later(stop_before(stops, count, last), gap) <= wide(period)
 }

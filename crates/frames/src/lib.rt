@@ -13,7 +13,6 @@ ghost use Rattle.frames.specs.Walk.{runs_in, is_fair, AreRead, key_of, latest_de
 
 pub mod laid;
 
-use figures::{larger, smaller};
 use plan::Invocation;
 use tree::{PLACES, grow, leaves, raise};
 use units::{Frame, TaskNo, Ticks};
@@ -74,13 +73,11 @@ fn next_read(
     let row = place * Invocation::MOST;
     let count = reader_counts[place];
     let mut next = read_from(period, first, reader_periods[row]);
-    let mut i = 1;
-    while i < count {
+    for i in 1..count {
         if next == first {
             return next;
         }
-        next = smaller(next, read_from(period, first, reader_periods[row + i]));
-        i += 1;
+        next = next.min(read_from(period, first, reader_periods[row + i]));
     }
     next
 }
@@ -110,12 +107,10 @@ fn plant(
 {
     let last = cycle.0;
     let mut tree = [(last + 1) * CELLS; PLACES];
-    let mut i = 0;
-    while i < runs {
+    for i in 0..runs {
         let t = TaskNo(task[i]);
         let next = next_read(period[i], 0, reader_counts, reader_periods, t);
         tree[size + i] = key(Ticks(next), t, i);
-        i += 1;
     }
     tree
 }
@@ -158,15 +153,15 @@ fn meet(
     while root < end {
         let i = (root % RUNS) as usize;
         let b = behind_release(d, Ticks(period[i]), Ticks(worst[i]));
-        best = larger(best, b.0);
+        best = best.max(b.0);
         let next = next_read(period[i], d.0, reader_counts, reader_periods, t);
         root = raise(tree, size, i, key(Ticks(next), t, i));
         taken += 1;
     }
     Met {
         best: Ticks(best),
-        root: root,
-        taken: taken,
+        root,
+        taken,
     }
 }
 
@@ -258,15 +253,9 @@ pub fn derive<'a, 'b>(
         count = put(t, d, met.best, count, tasks, releases, deadlines);
         steps += met.taken;
         if count > Frame::MOST {
-            return Walked {
-                count: count,
-                steps: steps,
-            };
+            return Walked { count, steps };
         }
         root = met.root;
     }
-    Walked {
-        count: count,
-        steps: steps,
-    }
+    Walked { count, steps }
 }

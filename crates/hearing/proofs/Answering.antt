@@ -6,15 +6,14 @@ use Prim.Native.Nat.{ℕ}
 use Rattle.laws.specs.Res.{Res, ok, refuse}
 use Rattle.laws.proofs.Res.{ok_injective, refuse≢ok}
 use Rattle.rules.specs.Station as rules
-use Rattle.answers.specs.Refusals.{number_of, place_of, heard}
-use Rattle.answers.specs.declared.Verdict.{Verdict}
-use Rattle.answers.specs.declared.Verdict.TheVariants as verdict
+use Rattle.std.specs.Prelude.{Result, Ok, Err}
+use Rattle.answers.specs.Refusals.{number_of, place_of}
+use Rattle.answers.specs.Answered.{judged}
+use Rattle.answers.specs.declared.Refusal.{Refusal}
 use Rattle.answerlines.specs.Writing.{quiet_text, refusal_line, said_text, ticked_text}
 use Rattle.text.specs.Text.{ascii, numbered_line, refused_line}
-use Rattle.stationmoves.specs.declared.Said.{Said}
-use Rattle.stationmoves.specs.declared.Said.TheVariants.{Control, Data, Quiet, Refused}
 use Rattle.stationnodes.specs.declared.Node.{Node}
-use Rattle.station.specs.Answers.{Answers, outcome}
+use Rattle.station.specs.Answers.{Answers, Said, outcome}
 use Rattle.station.specs.declared.Station.{Station}
 use Rattle.station.specs.declared.Ticked.{Ticked}
 use Rattle.beginning.specs.Begins.{Begins, verdict}
@@ -25,18 +24,14 @@ use Rattle.hearing.specs.declared.Stage.TheVariants.{Plays}
 
 module _ (r : Ticked) where
   taken : (x : Ticked) (w : Said) → outcome w r ≡ ok x → r ≡ x
-  taken x (Control w) e = ok_injective e
-  taken x (Data w) e = ok_injective e
-  taken x Quiet e = ok_injective e
-  taken x (Refused y) e = refuse≢ok e
+  taken x (Ok row) e = ok_injective e
+  taken x (Err y) e = refuse≢ok e
 
   module _ (n p : ℕ) where
     refusal_same : (w : Said) → outcome w r ≡ refuse n p → (rows shows : Bool) (nodes : List Node) → said_text rows w shows nodes ≡ refused_line n p
     unfolding refusal_line
-    refusal_same (Control w) e rows shows nodes = refuse≢ok (sym e)
-    refusal_same (Data w) e rows shows nodes = refuse≢ok (sym e)
-    refusal_same Quiet e rows shows nodes = refuse≢ok (sym e)
-    refusal_same (Refused why) e rows shows nodes =
+    refusal_same (Ok row) e rows shows nodes = refuse≢ok (sym e)
+    refusal_same (Err why) e rows shows nodes =
         let a : number_of why ≡ n = cc in
         let b : place_of why ≡ p = cc in
         rw (a, b)
@@ -44,10 +39,8 @@ module _ (r : Ticked) where
     quiet_refused : (k : ℕ) (w : Said) → outcome w r ≡ refuse n p → (rows shows : Bool) (nodes : List Node)
         → quiet_text k rows w shows nodes ≡ numbered_line (ascii "after ") k ++ refused_line n p
     unfolding quiet_text
-    quiet_refused k (Control w) e rows shows nodes = refuse≢ok (sym e)
-    quiet_refused k (Data w) e rows shows nodes = refuse≢ok (sym e)
-    quiet_refused k Quiet e rows shows nodes = refuse≢ok (sym e)
-    quiet_refused k (Refused why) e rows shows nodes = rw (refusal_same (Refused why) e rows shows nodes)
+    quiet_refused k (Ok row) e rows shows nodes = refuse≢ok (sym e)
+    quiet_refused k (Err why) e rows shows nodes = rw (refusal_same (Err why) e rows shows nodes)
 
 module _ (st : Station) (rows : Bool) {r : Ticked} where
   pub tick-text : (rule : Res rules.Ticked) → Answers st rule r → ticked_text rows r.said r.station.nodes ≡ tick_text rows st rule
@@ -62,11 +55,11 @@ module _ (st : Station) (rows : Bool) {r : Ticked} where
   quiet-text k (refuse n p) a = quiet_refused r n p k r.said a.says rows (is_changed st.nodes r.station.nodes) r.station.nodes
 
 -- a beginning is fine where it begins
-fine-begun : (answer : Verdict) (rule : Res rules.Begun) → heard answer ≡ verdict rule → is_fine answer ≡ has_begun rule
-fine-begun verdict.Fine (ok b) e = refl
-fine-begun verdict.Fine (refuse n p) e = refuse≢ok (sym e)
-fine-begun (verdict.Refused why) (ok b) e = refuse≢ok e
-fine-begun (verdict.Refused why) (refuse n p) e = refl
+fine-begun : (answer : Result (Unit {0}) Refusal) (rule : Res rules.Begun) → judged answer ≡ verdict rule → is_fine answer ≡ has_begun rule
+fine-begun (Ok _) (ok b) e = refl
+fine-begun (Ok _) (refuse n p) e = refuse≢ok (sym e)
+fine-begun (Err why) (ok b) e = refuse≢ok e
+fine-begun (Err why) (refuse n p) e = refl
 
 pub begun-heard : {r : Begun} (rule : Res rules.Begun) → Begins r rule → {fine : Bool} → fine ≡ is_fine r.answer
     → ◌≡◌ {A = Heard} (record { stage = Plays fine; station = r.station }) (begun_by rule)

@@ -1,4 +1,5 @@
 -- A history as it comes: byte by byte, and line by line.
+use Rattle.std.specs.Prelude.{IfOk, Result, Ok, Err}
 use mathlib.Core.Path.{◌≡◌, refl, sym, ap, ◌∙◌}
 use mathlib.Core.Bool.{Bool, true, false, cond, not, ◌&&◌, true≢false}
 use mathlib.Core.List.{List, [], ◌∷◌, ◌++◌, append-nil, append_assoc}
@@ -61,9 +62,10 @@ part_within (suc at) n (suc m) (x ∷ l) h = part_within at n m l (omega arith)
 pub rest_part : (s : List ℕ) (at : ℕ) → take (length s - at) (drop at s) ≡ drop at s
 rest_part s at = take_all (length s - at) (drop at s) (rw (length-drop at s) (omega arith))
 
--- where nothing failed and nothing more is heard, a line has stopped the history
-pub is-stopped : {over fine stops : Bool} → over ≡ cond fine stops true → over ≡ true → fine ≡ true → stops ≡ true
-is-stopped {over} {fine} {stops} e o f = rw (f) at (sym e ∙ o)
+-- what follows from what holds of a value, where there is one
+pub if_ok : {A E : Type 0} (r : Result A E) (P Q : A → Type 0) → ((x : A) → P x → Q x) → IfOk r P → IfOk r Q
+if_ok (Ok x) P Q f h = f x h
+if_ok (Err e) P Q f h = h
 
 pub at_most : {at came m : ℕ} → m ≡ min came 262144 → at ≤ came → at ≤ 262144 → at ≤ m
 at_most {at} {came} {m} e lo hi = rw e (le-min lo hi)
@@ -77,10 +79,6 @@ further_by {came} {n} h f = go (leb n came) refl
     go : (b : Bool) → leb n came ≡ b → came < n
     go true e = absurd (f (le_antisymm (leb-true n came e) h))
     go false e = leb-false n came e
-
-pub goes_on : (over fine stops : Bool) → over ≡ cond fine stops true → over ≡ false → fine ≡ true
-goes_on over true stops e o = refl
-goes_on over false stops e o = absurd (true≢false (sym e ∙ o))
 
 -- ---- byte by byte
 

@@ -1,12 +1,11 @@
 -- The lines of a history, and what comes of each.
-use Rattle.std.specs.Prelude.{Bool, true, false, not, List, [], ◌∷◌, ◌++◌, ℕ, zero, suc}
+use Rattle.std.specs.Prelude.{Bool, true, false, not, List, [], ◌∷◌, ◌++◌, Result, Ok, Err, ℕ, zero, suc}
 use Rattle.laws.specs.Lists.{all, up_to}
 use Rattle.laws.specs.Res.{Res, ok, refuse}
 use Rattle.rules.specs.Limits.{most_nodes}
 use Rattle.rules.specs.Station as rules
 use Rattle.text.specs.Text.{ascii, numbered_line, refused_line}
-use Rattle.answers.specs.declared.Verdict.{Verdict}
-use Rattle.answers.specs.declared.Verdict.TheVariants.{Fine, Refused}
+use Rattle.answers.specs.declared.Refusal.{Refusal}
 use Rattle.answerlines.specs.Writing.{quiet_text, same_on, ticked_text}
 use Rattle.stationnodes.specs.declared.Node.{Node}
 use Rattle.stationruns.specs.Inputs.{no_input, starting_at}
@@ -58,9 +57,9 @@ quiet_said k rows st (refuse n p) = numbered_line (ascii "after ") k ++ refused_
 abbrev pub unheard : Heard
 unheard = record { stage = Waits; station = not_begun }
 
-abbrev pub is_fine : Verdict → Bool
-is_fine Fine = true
-is_fine (Refused why) = false
+abbrev pub is_fine : Result (Unit {0}) Refusal → Bool
+is_fine (Ok _) = true
+is_fine (Err why) = false
 
 abbrev pub has_begun : Res rules.Begun → Bool
 has_begun (ok b) = true

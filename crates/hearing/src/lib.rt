@@ -2,7 +2,7 @@
 // (docs/HISTORY.md). No contract can say what a write writes; what is written is pinned where it is put into a buffer.
 #![tactic(auto)]
 
-ghost use Rattle.std.specs.Prelude.{true, cond, leb, ◌≡◌, ◌≤◌, drop, length, take};
+ghost use Rattle.std.specs.Prelude.{true, cond, leb, ◌≡◌, ◌≤◌, drop, length, min, take, IfOk};
 ghost use Rattle.std.proofs.lemmas.List.Edits.{sets};
 ghost use Rattle.rules.specs.Station as rules;
 ghost use Rattle.input.specs.Room.{zeros};
@@ -14,13 +14,12 @@ ghost use Rattle.hearing.specs.Heard.{after_quiet, after_tick, begun_by, first_b
 ghost use Rattle.hearing.specs.Pieces.{answered, is_stopped, last_heard};
 
 use answerlines::{put_begun, put_quiet, put_ticked, same_shown};
-use answers::Verdict;
-use figures::lower;
+use answers::Refusal;
 use history::{Line, Places, What, input_of, read_line, starting_of};
-use input::{Input as Piece, read_more};
-use manners::{DONE, write_out};
+use input::read_more;
+use manners::{Failed, Status, write_out};
 use station::Station;
-use stationmoves::Said;
+use stationmoves::StartedRow;
 use stationruns::Input;
 use std::io::Read;
 use text::lines::line_end;
@@ -29,7 +28,7 @@ use text::lines::line_end;
 pub const LONGEST: usize = 262144;
 
 // How far a history has come.
-#[derive(Clone, Copy)]
+#[derive(Clone, Copy, PartialEq, Eq)]
 pub enum Stage {
     // No line with a word has come.
     Waits,
@@ -54,36 +53,21 @@ pub struct Answered {
     pub station: Station,
 }
 
-// The station after ticks; `fine`: all answers were written.
-#[derive(Clone, Copy)]
-pub struct Played {
-    pub fine: bool,
-    pub station: Station,
-}
-
-// What was heard; `fine`: all answers were written.
-#[derive(Clone, Copy)]
-pub struct Spoken {
-    pub fine: bool,
-    pub heard: Heard,
-}
-
-// What was heard of as many bytes; `fine`: all were read, and all answers were written.
+// What was heard of as many bytes.
 #[derive(Clone, Copy)]
 pub struct Attended {
-    pub fine: bool,
     pub length: usize,
     pub heard: Heard,
 }
 
 // ---- answers
 
-// Whether the text was written; standard error is told where not.
-fn say(rt: HostRuntime, text: &[u8]) -> bool {
-    if text.len() == 0 {
-        return true;
+// Writes the text, if there is any.
+fn say(rt: HostRuntime, text: &[u8]) -> Result<(), Failed> {
+    if !text.is_empty() {
+        write_out(rt, text, Status::Done)?;
     }
-    write_out(rt, text, DONE) == DONE
+    Ok(())
 }
 
 // Room for the longest answer, which has at most 16,295 bytes.
@@ -93,24 +77,16 @@ fn answer_room() -> [u8; 16384]
     [0; 16384]
 }
 
-fn is_refused(said: Said) -> bool
+fn is_refused(said: Result<Option<StartedRow>, Refusal>) -> bool
     ensures { result ≡ is_refused said }
 {
-    match said {
-        Said::Control(_) => false,
-        Said::Data(_) => false,
-        Said::Quiet => false,
-        Said::Refused(_) => true,
-    }
+    said.is_err()
 }
 
-fn is_fine(answer: Verdict) -> bool
+fn is_fine(answer: Result<(), Refusal>) -> bool
     ensures { result ≡ is_fine answer }
 {
-    match answer {
-        Verdict::Fine => true,
-        Verdict::Refused(_) => false,
-    }
+    answer.is_ok()
 }
 
 // A tick, and its answer.
@@ -153,77 +129,57 @@ fn answer_quiet(out: &mut [u8], k: u64, rows: bool, station: Station) -> Answere
 
 // ---- lines
 
-fn tick(rt: HostRuntime, rows: bool, station: Station, input: Input) -> Played
-    ensures { result.station ≡ after_tick station input }
+fn tick(rt: HostRuntime, rows: bool, station: Station, input: Input) -> Result<Station, Failed>
+    ensures { IfOk result (λ next. next ≡ after_tick station input) }
 {
     let mut out = answer_room();
     let answered = answer_tick(&mut out, rows, station, input);
     let length = answered.length;
+    say(rt, &out[..length])?;
     let next = answered.station;
-    Played {
-        fine: say(rt, &out[..length]),
-        station: next,
-    }
+    Ok(next)
 }
 
 // Ticks at which nothing is given, up to a refusal.
-fn quiet(rt: HostRuntime, rows: bool, mut station: Station, ticks: u64) -> Played
-    ensures { result.fine ≡ true → result.station ≡ after_quiet station ticks }
+fn quiet(rt: HostRuntime, rows: bool, mut station: Station, ticks: u64) -> Result<Station, Failed>
+    ensures { IfOk result (λ next. next ≡ after_quiet station ticks) }
 {
     let mut out = answer_room();
-    let mut k = 0;
-    while k < ticks {
-        k += 1;
-        let answered = answer_quiet(&mut out, k, rows, station);
+    for k in 0..ticks {
+        let answered = answer_quiet(&mut out, k + 1, rows, station);
         let length = answered.length;
+        say(rt, &out[..length])?;
         let next = answered.station;
         station = next;
-        if !say(rt, &out[..length]) {
-            return Played {
-                fine: false,
-                station,
-            };
-        }
         if answered.refused {
-            return Played {
-                fine: true,
-                station,
-            };
+            return Ok(station);
         }
     }
-    Played {
-        fine: true,
-        station,
-    }
+    Ok(station)
 }
 
-fn begin(rt: HostRuntime, plan: &[u8], table: &[u8], modes: Places) -> Spoken
-    ensures { result.heard ≡ begun_by (rules.begin plan.now table.now (starting_at (starting_from modes))) }
+fn begin(rt: HostRuntime, plan: &[u8], table: &[u8], modes: Places) -> Result<Heard, Failed>
+    ensures { IfOk result (λ heard. heard ≡ begun_by (rules.begin plan.now table.now (starting_at (starting_from modes)))) }
 {
     let begun = beginning::begin(plan, table, starting_of(modes));
     let answer = begun.answer;
     let station = begun.station;
     let mut out = [0u8; 64];
     let length = put_begun(&mut out, answer);
-    Spoken {
-        fine: say(rt, &out[..length]),
-        heard: Heard {
-            stage: Stage::Plays(is_fine(answer)),
-            station,
-        },
-    }
+    say(rt, &out[..length])?;
+    Ok(Heard {
+        stage: Stage::Plays(is_fine(answer)),
+        station,
+    })
 }
 
 // The history stops at a line.
-fn stop(number: u64, station: Station) -> Spoken
-    ensures { result.heard ≡ stopped number station }
+fn stopped(number: u64, station: Station) -> Heard
+    ensures { result ≡ stopped number station }
 {
-    Spoken {
-        fine: true,
-        heard: Heard {
-            stage: Stage::Stops(number),
-            station,
-        },
+    Heard {
+        stage: Stage::Stops(number),
+        station,
     }
 }
 
@@ -235,38 +191,31 @@ fn hear_first(
     number: u64,
     station: Station,
     line: Line,
-) -> Spoken
-    ensures { result.heard ≡ first_by plan.now table.now number station line line.what }
+) -> Result<Heard, Failed>
+    ensures { IfOk result (λ heard. heard ≡ first_by plan.now table.now number station line line.what) }
 {
     let what = line.what;
     match what {
-        What::Blank => Spoken {
-            fine: true,
-            heard: Heard {
-                stage: Stage::Waits,
-                station,
-            },
-        },
+        What::Blank => Ok(Heard {
+            stage: Stage::Waits,
+            station,
+        }),
         What::Begin => {
             let modes = line.modes;
             begin(rt, plan, table, modes)
         }
-        What::Tick => stop(number, station),
-        What::Quiet(_) => stop(number, station),
-        What::Unreadable => stop(number, station),
+        What::Tick => Ok(stopped(number, station)),
+        What::Quiet(_) => Ok(stopped(number, station)),
+        What::Unreadable => Ok(stopped(number, station)),
     }
 }
 
-fn played_on(begun: bool, played: Played) -> Spoken
-    ensures { (result.fine ≡ played.fine) × (result.heard ≡ playing begun played.station) }
+fn playing(begun: bool, station: Station) -> Heard
+    ensures { result ≡ playing begun station }
 {
-    let station = played.station;
-    Spoken {
-        fine: played.fine,
-        heard: Heard {
-            stage: Stage::Plays(begun),
-            station,
-        },
+    Heard {
+        stage: Stage::Plays(begun),
+        station,
     }
 }
 
@@ -278,26 +227,24 @@ fn hear_later(
     begun: bool,
     station: Station,
     line: Line,
-) -> Spoken
-    ensures { result.fine ≡ true → result.heard ≡ later_by number begun station line line.what }
+) -> Result<Heard, Failed>
+    ensures { IfOk result (λ heard. heard ≡ later_by number begun station line line.what) }
 {
     let what = line.what;
     match what {
-        What::Blank => played_on(
-            begun,
-            Played {
-                fine: true,
-                station,
-            },
-        ),
+        What::Blank => Ok(playing(begun, station)),
         What::Tick => {
             let results = line.results;
             let modes = line.modes;
-            played_on(begun, tick(rt, rows, station, input_of(results, modes)))
+            let next = tick(rt, rows, station, input_of(results, modes))?;
+            Ok(playing(begun, next))
         }
-        What::Quiet(ticks) => played_on(begun, quiet(rt, rows, station, ticks)),
-        What::Begin => stop(number, station),
-        What::Unreadable => stop(number, station),
+        What::Quiet(ticks) => {
+            let next = quiet(rt, rows, station, ticks)?;
+            Ok(playing(begun, next))
+        }
+        What::Begin => Ok(stopped(number, station)),
+        What::Unreadable => Ok(stopped(number, station)),
     }
 }
 
@@ -310,8 +257,8 @@ fn hear(
     heard: Heard,
     number: u64,
     s: &[u8],
-) -> Spoken
-    ensures { result.fine ≡ true → result.heard ≡ heard_line plan.now table.now number heard s.now }
+) -> Result<Heard, Failed>
+    ensures { IfOk result (λ next. next ≡ heard_line plan.now table.now number heard s.now) }
 {
     let line = read_line(s);
     let station = heard.station;
@@ -319,7 +266,7 @@ fn hear(
     match stage {
         Stage::Waits => hear_first(rt, plan, table, number, station, line),
         Stage::Plays(begun) => hear_later(rt, rows, number, begun, station, line),
-        Stage::Stops(_) => Spoken { fine: true, heard },
+        Stage::Stops(_) => Ok(heard),
     }
 }
 
@@ -334,18 +281,11 @@ fn unheard() -> Heard
     }
 }
 
-// Nothing more is heard: an answer could not be written, or a line stops the history.
-fn is_over(fine: bool, stage: Stage) -> bool
-    ensures { result ≡ cond fine (is_stopped stage) true }
+// A line stops the history, and nothing more is heard.
+fn is_stopped(stage: Stage) -> bool
+    ensures { result ≡ is_stopped stage }
 {
-    if !fine {
-        return true;
-    }
-    match stage {
-        Stage::Waits => false,
-        Stage::Plays(_) => false,
-        Stage::Stops(_) => true,
-    }
+    matches!(stage, Stage::Stops(_))
 }
 
 // The line that has no line feed at the end of a history, if one stands there.
@@ -357,12 +297,12 @@ fn hear_last(
     heard: Heard,
     lines: u64,
     s: &[u8],
-) -> Spoken
+) -> Result<Heard, Failed>
     requires { lines ≤ 18446744073709551614 }
-    ensures { result.fine ≡ true → result.heard ≡ last_heard plan.now table.now lines heard s.now }
+    ensures { IfOk result (λ next. next ≡ last_heard plan.now table.now lines heard s.now) }
 {
     if s.len() == 0 {
-        return Spoken { fine: true, heard };
+        return Ok(heard);
     }
     hear(rt, plan, table, rows, heard, lines + 1, s)
 }
@@ -377,26 +317,22 @@ fn hear_end(
     lines: u64,
     at: usize,
     s: &[u8],
-) -> Attended
+) -> Result<Heard, Failed>
     requires lines_bound { lines ≤ 18446744073709551614 }
     requires at_in_bounds { at ≤ length s.now }
-    ensures heard_value { result.fine ≡ true → result.heard ≡ cond (leb (length s.now) 262144) (last_heard plan.now table.now lines heard (drop at s.now)) heard }
-    ensures whole { result.length ≡ length s.now }
+    ensures { IfOk result (λ last. last ≡ cond (leb (length s.now) 262144) (last_heard plan.now table.now lines heard (drop at s.now)) heard) }
 {
     if s.len() <= LONGEST {
-        let spoken = hear_last(rt, plan, table, rows, heard, lines, &s[at..]);
-        let last = spoken.heard;
-        return Attended {
-            fine: spoken.fine,
-            length: s.len(),
-            heard: last,
-        };
+        return hear_last(rt, plan, table, rows, heard, lines, &s[at..]);
     }
-    Attended {
-        fine: true,
-        length: s.len(),
-        heard,
-    }
+    Ok(heard)
+}
+
+// Of so many bytes that came, as many are heard line by line.
+fn heard_part(came: usize) -> usize
+    ensures { result ≡ min came 262144 }
+{
+    came.min(LONGEST)
 }
 
 // Reads a history into the lent buffer, piece by piece, and hears each line as soon as it has come whole. It ends where the input ends,
@@ -408,49 +344,40 @@ pub fn attend<R: Read>(
     rows: bool,
     from: &mut R,
     buf: &mut [u8],
-) -> Attended
-    ensures heard_value { result.fine ≡ true → result.heard ≡ answered plan.now table.now (take result.length buf.new) }
-    ensures within { result.length ≤ length buf.new }
+) -> Result<Attended, Failed>
+    ensures heard_value { IfOk result (λ a. a.heard ≡ answered plan.now table.now (take a.length buf.new)) }
+    ensures within { IfOk result (λ a. a.length ≤ length buf.new) }
 {
     let mut heard = unheard();
     let mut lines: u64 = 0;
     let mut at = 0;
     let mut came = 0;
     loop {
-        let heard_to = lower(came, LONGEST);
+        let heard_to = heard_part(came);
         let end = line_end(&buf[..heard_to], at);
         let ended = end < heard_to;
         if ended {
             lines += 1;
-            let spoken = hear(rt, plan, table, rows, heard, lines, &buf[at..end]);
-            let fine = spoken.fine;
-            let next = spoken.heard;
+            let next = hear(rt, plan, table, rows, heard, lines, &buf[at..end])?;
             heard = next;
             let stage = next.stage;
-            if is_over(fine, stage) {
-                return Attended {
-                    fine,
+            if is_stopped(stage) {
+                return Ok(Attended {
                     length: came,
                     heard,
-                };
+                });
             }
             at = end + 1;
         } else {
-            match read_more(rt, from, b"standard input", &mut *buf, came) {
-                Piece::Unreadable => {
-                    return Attended {
-                        fine: false,
-                        length: came,
-                        heard,
-                    };
-                }
-                Piece::Bytes(length) => {
-                    if length == came {
-                        return hear_end(rt, plan, table, rows, heard, lines, at, &buf[..came]);
-                    }
-                    came = length;
-                }
+            let length = read_more(rt, from, b"standard input", &mut *buf, came)?;
+            if length == came {
+                let last = hear_end(rt, plan, table, rows, heard, lines, at, &buf[..came])?;
+                return Ok(Attended {
+                    length: came,
+                    heard: last,
+                });
             }
+            came = length;
         }
     }
 }

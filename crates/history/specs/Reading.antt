@@ -1,20 +1,14 @@
 -- A history's lines as they are read: word by word, each where it may stand.
-use Rattle.std.specs.Prelude.{Bool, true, false, cond, not, ◌&&◌, List, [], ◌∷◌, eqb, leb, ltb, length, get_or, set, replicate, ℕ, ◌%◌}
+use Rattle.std.specs.Prelude.{Bool, true, false, cond, not, ◌&&◌, List, [], ◌∷◌, eqb, leb, ltb, length, get_or, set, replicate, Option, Some, None, ℕ, ◌%◌}
 use Rattle.laws.specs.Loops.{stores}
 use Rattle.text.specs.Text.{ascii, read_decimal}
 use Rattle.text.specs.Lines.{behind_word, is_word, uncommented, whole_number, words}
-use Rattle.text.specs.declared.Number.{Number}
-use Rattle.text.specs.declared.Number.TheVariants as number
+use Rattle.text.specs.declared.Digits.{Digits}
 use Rattle.places.specs.Flags.{flag_at}
 use Rattle.rules.specs.Limits.{most_modules, most_tasks}
 use Rattle.stationruns.specs.declared.Input.{Input}
 use Rattle.stationruns.specs.declared.Starting.{Starting}
 use Rattle.history.specs.declared.Pair.{Pair}
-use Rattle.history.specs.declared.Pair.TheVariants as pair
-use Rattle.text.specs.declared.lines.End.{End}
-use Rattle.text.specs.declared.lines.End.TheVariants.{At, Wrong}
-use Rattle.text.specs.declared.lines.Whole.{Whole}
-use Rattle.text.specs.declared.lines.Whole.TheVariants as whole
 use Rattle.history.specs.declared.Places.{Places}
 use Rattle.history.specs.declared.What.{What}
 use Rattle.history.specs.declared.What.TheVariants.{Blank, Begin, Tick, Quiet, Unreadable}
@@ -26,19 +20,19 @@ use Rattle.history.specs.declared.Read.{Read}
 -- ---- a pair
 
 -- a pair is a number, `=` and a number, and nothing more
-abbrev pub second_of : List ℕ → ℕ → Number → Pair
-second_of w place number.None = pair.None
-second_of w place (number.Digits value next) = cond (eqb next (length w)) (pair.Named place value) pair.None
+abbrev pub second_of : List ℕ → ℕ → Option Digits → Option Pair
+second_of w place None = None
+second_of w place (Some d) = cond (eqb d.next (length w)) (Some (record { place = place; value = d.value })) None
 
-abbrev pub behind_equals : List ℕ → ℕ → End → Pair
-behind_equals w place Wrong = pair.None
-behind_equals w place (At at) = second_of w place (read_decimal w at)
+abbrev pub behind_equals : List ℕ → ℕ → Option ℕ → Option Pair
+behind_equals w place None = None
+behind_equals w place (Some at) = second_of w place (read_decimal w at)
 
-abbrev pub behind_first : List ℕ → Number → Pair
-behind_first w number.None = pair.None
-behind_first w (number.Digits place next) = behind_equals w place (behind_word w next (ascii "="))
+abbrev pub behind_first : List ℕ → Option Digits → Option Pair
+behind_first w None = None
+behind_first w (Some d) = behind_equals w d.value (behind_word w d.next (ascii "="))
 
-unfoldable pub pair_in : List ℕ → Pair
+unfoldable pub pair_in : List ℕ → Option Pair
 pair_in w = behind_first w (read_decimal w 0)
 
 -- ---- what a list gives
@@ -51,9 +45,9 @@ no_places = record { values = replicate most_tasks 0; given = replicate most_tas
 unfoldable pub is_free : Places → ℕ → Bool
 is_free places k = not (flag_at places.given k)
 
-abbrev pub fits : Places → ℕ → ℕ → Pair → Pair
-fits places most largest pair.None = pair.None
-fits places most largest (pair.Named k v) = cond ((ltb k most && leb v largest) && is_free places k) (pair.Named k v) pair.None
+abbrev pub fits : Places → ℕ → ℕ → Option Pair → Option Pair
+fits places most largest None = None
+fits places most largest (Some p) = cond ((ltb p.place most && leb p.value largest) && is_free places p.place) (Some p) None
 
 abbrev pub with_value : Places → ℕ → ℕ → Places
 with_value places k v = record { values = set places.values k v; given = set places.given k 1 }
@@ -82,19 +76,19 @@ first_word w =
     (or_else (is_word (ascii "quiet") w) Count (plain Unreadable) (or_wrong (is_word (ascii "begin") w) Modes (plain Begin)))
 
 -- `TASK=VALUE`: one of the task places, a value of 64 bits
-abbrev pub result_by : Line → Pair → Read
-result_by line pair.None = wrong_word
-result_by line (pair.Named k v) =
-    record { next = MoreResults; line = record { what = line.what; results = with_value line.results k v; modes = line.modes } }
+abbrev pub result_by : Line → Option Pair → Read
+result_by line None = wrong_word
+result_by line (Some p) =
+    record { next = MoreResults; line = record { what = line.what; results = with_value line.results p.place p.value; modes = line.modes } }
 
 unfoldable pub with_result : Line → List ℕ → Read
 with_result line w = result_by line (fits line.results most_tasks 18446744073709551615 (pair_in w))
 
 -- `MODULE=MODE`: one of the module places, a mode of 8 bits
-abbrev pub mode_by : Line → Pair → Read
-mode_by line pair.None = wrong_word
-mode_by line (pair.Named k v) =
-    record { next = MoreModes; line = record { what = line.what; results = line.results; modes = with_value line.modes k v } }
+abbrev pub mode_by : Line → Option Pair → Read
+mode_by line None = wrong_word
+mode_by line (Some p) =
+    record { next = MoreModes; line = record { what = line.what; results = line.results; modes = with_value line.modes p.place p.value } }
 
 unfoldable pub with_mode : Line → List ℕ → Read
 with_mode line w = mode_by line (fits line.modes most_modules 255 (pair_in w))
@@ -110,9 +104,9 @@ unfoldable pub first_mode : Line → List ℕ → Read
 first_mode line w = or_else (is_word (ascii "-") w) LineEnd line (with_mode line w)
 
 -- `N` behind `quiet`
-abbrev pub quiet_by : Whole → Read
-quiet_by whole.None = wrong_word
-quiet_by (whole.Value n) = record { next = LineEnd; line = plain (Quiet n) }
+abbrev pub quiet_by : Option ℕ → Read
+quiet_by None = wrong_word
+quiet_by (Some n) = record { next = LineEnd; line = plain (Quiet n) }
 
 -- one word more, by what may stand there
 abbrev pub word_at : Next → Line → List ℕ → Read

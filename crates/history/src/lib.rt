@@ -7,11 +7,9 @@ ghost use Rattle.rules.specs.Limits.{most_modules};
 ghost use Rattle.text.specs.Lines.{is_word, whole_number, words};
 ghost use Rattle.history.specs.Reading.{first_mode, first_result, first_word, fits, flag_in, input_from, is_free, may_end, mode_in, more_results, no_places, or_wrong, pair_in, plain, quiet_by, read_line, starting_from, unread, whole_line, with_mode, with_result, with_value, with_word, with_words, wrong_word};
 
-use figures::both;
 use places::{flag_at, flag_byte};
 use stationruns::{Input, Starting};
-use text::Number;
-use text::lines::{End, Whole, Word, behind, comment_start, is_word, next_word, whole_number};
+use text::lines::{Word, behind, comment_start, is_word, next_word, whole_number};
 use units::{ModuleNo, TaskNo};
 
 // No value is larger: it has 64 bits.
@@ -20,10 +18,10 @@ const LARGEST_VALUE: u64 = 18446744073709551615;
 const LARGEST_MODE: u64 = 255;
 
 // Two numbers with `=` between them.
-#[derive(Clone, Copy)]
-pub enum Pair {
-    Named { place: u64, value: u64 },
-    None,
+#[derive(Clone, Copy, PartialEq, Eq)]
+pub struct Pair {
+    pub place: u64,
+    pub value: u64,
 }
 
 // What a list gives: at each place a value, which counts where its flag is set. A list of modules uses the first places.
@@ -33,7 +31,7 @@ pub struct Places {
     pub given: [u8; TaskNo::MOST],
 }
 
-#[derive(Clone, Copy)]
+#[derive(Clone, Copy, PartialEq, Eq)]
 pub enum What {
     // No word stands on the line.
     Blank,
@@ -52,7 +50,7 @@ pub struct Line {
 }
 
 // What may stand next on a line.
-#[derive(Clone, Copy)]
+#[derive(Clone, Copy, PartialEq, Eq)]
 pub enum Next {
     FirstWord,
     ResultsWord,
@@ -89,6 +87,7 @@ impl Places {
         }
     }
 
+    #[tactic(auto, unfolding(crate::specs::Reading::is_free))]
     fn is_free(self, place: u64) -> bool
         ensures { result ≡ is_free self place }
     {
@@ -106,43 +105,32 @@ impl Places {
     }
 }
 
-fn pair_in(word: &[u8]) -> Pair
+#[tactic(auto, unfolding(crate::specs::Reading::pair_in))]
+fn pair_in(word: &[u8]) -> Option<Pair>
     ensures { result ≡ pair_in word.now }
 {
-    match text::read_decimal(word, 0) {
-        Number::None => Pair::None,
-        Number::Digits {
-            value: place,
-            next: equals,
-        } => match behind(word, equals, b"=") {
-            End::Wrong => Pair::None,
-            End::At(second) => match text::read_decimal(word, second) {
-                Number::None => Pair::None,
-                Number::Digits { value, next } => {
-                    if next == word.len() {
-                        Pair::Named { place, value }
-                    } else {
-                        Pair::None
-                    }
-                }
-            },
-        },
+    let place = text::read_decimal(word, 0)?;
+    let second = behind(word, place.next, b"=")?;
+    let value = text::read_decimal(word, second)?;
+    if value.next == word.len() {
+        Some(Pair {
+            place: place.value,
+            value: value.value,
+        })
+    } else {
+        None
     }
 }
 
 // The pair that a word is, if it names a place below `most` that is still free, and a value of at most `largest`.
-fn fitting(word: &[u8], places: Places, most: u64, largest: u64) -> Pair
+fn fitting(word: &[u8], places: Places, most: u64, largest: u64) -> Option<Pair>
     ensures { result ≡ fits places most largest (pair_in word.now) }
 {
-    match pair_in(word) {
-        Pair::None => Pair::None,
-        Pair::Named { place, value } => {
-            if both(both(place < most, value <= largest), places.is_free(place)) {
-                Pair::Named { place, value }
-            } else {
-                Pair::None
-            }
-        }
+    let pair = pair_in(word)?;
+    if pair.place < most && pair.value <= largest && places.is_free(pair.place) {
+        Some(pair)
+    } else {
+        None
     }
 }
 
@@ -176,6 +164,7 @@ fn only(word: &[u8], wanted: &[u8], next: Next, line: Line) -> Read
     }
 }
 
+#[tactic(auto, unfolding(crate::specs::Reading::first_word))]
 fn first_word(word: &[u8]) -> Read
     ensures { result ≡ first_word word.now }
 {
@@ -195,13 +184,14 @@ fn first_word(word: &[u8]) -> Read
 }
 
 // A line with one result more.
+#[tactic(auto, unfolding(crate::specs::Reading::with_result))]
 fn with_result(line: Line, word: &[u8]) -> Read
     ensures { result ≡ with_result line word.now }
 {
     let results = line.results;
     match fitting(word, results, TaskNo::MOST as u64, LARGEST_VALUE) {
-        Pair::None => wrong_word(),
-        Pair::Named { place, value } => {
+        None => wrong_word(),
+        Some(Pair { place, value }) => {
             let what = line.what;
             let modes = line.modes;
             Read {
@@ -217,13 +207,14 @@ fn with_result(line: Line, word: &[u8]) -> Read
 }
 
 // A line with one mode more.
+#[tactic(auto, unfolding(crate::specs::Reading::with_mode))]
 fn with_mode(line: Line, word: &[u8]) -> Read
     ensures { result ≡ with_mode line word.now }
 {
     let modes = line.modes;
     match fitting(word, modes, ModuleNo::MOST as u64, LARGEST_MODE) {
-        Pair::None => wrong_word(),
-        Pair::Named { place, value } => {
+        None => wrong_word(),
+        Some(Pair { place, value }) => {
             let what = line.what;
             let results = line.results;
             Read {
@@ -238,6 +229,7 @@ fn with_mode(line: Line, word: &[u8]) -> Read
     }
 }
 
+#[tactic(auto, unfolding(crate::specs::Reading::first_result))]
 fn first_result(line: Line, word: &[u8]) -> Read
     ensures { result ≡ first_result line word.now }
 {
@@ -250,6 +242,7 @@ fn first_result(line: Line, word: &[u8]) -> Read
     with_result(line, word)
 }
 
+#[tactic(auto, unfolding(crate::specs::Reading::more_results))]
 fn more_results(line: Line, word: &[u8]) -> Read
     ensures { result ≡ more_results line word.now }
 {
@@ -262,6 +255,7 @@ fn more_results(line: Line, word: &[u8]) -> Read
     with_result(line, word)
 }
 
+#[tactic(auto, unfolding(crate::specs::Reading::first_mode))]
 fn first_mode(line: Line, word: &[u8]) -> Read
     ensures { result ≡ first_mode line word.now }
 {
@@ -278,8 +272,8 @@ fn quiet_count(word: &[u8]) -> Read
     ensures { result ≡ quiet_by (whole_number word.now) }
 {
     match whole_number(word) {
-        Whole::None => wrong_word(),
-        Whole::Value(ticks) => Read {
+        None => wrong_word(),
+        Some(ticks) => Read {
             next: Next::LineEnd,
             line: without_lists(What::Quiet(ticks)),
         },
@@ -287,6 +281,7 @@ fn quiet_count(word: &[u8]) -> Read
 }
 
 // A line with one word more.
+#[tactic(auto, unfolding(crate::specs::Reading::with_word))]
 fn with_word(read: Read, word: &[u8]) -> Read
     ensures { result ≡ with_word read word.now }
 {
@@ -301,35 +296,22 @@ fn with_word(read: Read, word: &[u8]) -> Read
         Next::Modes => first_mode(line, word),
         Next::MoreModes => with_mode(line, word),
         Next::Count => quiet_count(word),
-        Next::LineEnd => wrong_word(),
-        Next::Never => wrong_word(),
+        Next::LineEnd | Next::Never => wrong_word(),
     }
 }
 
 fn may_end(next: Next) -> bool
     ensures { result ≡ may_end next }
 {
-    match next {
-        Next::FirstWord => true,
-        Next::ResultsWord => false,
-        Next::Results => false,
-        Next::MoreResults => false,
-        Next::ModesWord => false,
-        Next::Modes => false,
-        Next::MoreModes => true,
-        Next::Count => false,
-        Next::LineEnd => true,
-        Next::Never => false,
-    }
+    matches!(next, Next::FirstWord | Next::MoreModes | Next::LineEnd)
 }
 
+#[tactic(auto, unfolding(crate::specs::Reading::whole_line))]
 fn whole_line(read: Read) -> Line
     ensures { result ≡ whole_line read }
 {
-    let next = read.next;
-    if may_end(next) {
-        let line = read.line;
-        line
+    if may_end(read.next) {
+        read.line
     } else {
         without_lists(What::Unreadable)
     }
@@ -349,16 +331,11 @@ fn read_words(s: &[u8]) -> Line
 {
     let mut read = unread();
     let mut at = 0;
-    loop {
-        match next_word(s, at) {
-            Word::None => return whole_line(read),
-            Word::Stands { from, to } => {
-                let more = with_word(read, &s[from..to]);
-                read = more;
-                at = to;
-            }
-        }
+    while let Some(Word { from, to }) = next_word(s, at) {
+        read = with_word(read, &s[from..to]);
+        at = to;
     }
+    whole_line(read)
 }
 
 // What a line says, without its line feed.
@@ -370,31 +347,26 @@ pub fn read_line(s: &[u8]) -> Line
 }
 
 // A mode has 8 bits, as `with_mode` reads it: the remainder is the value itself.
-fn modes_of<'a>(values: &'a [u64; TaskNo::MOST]) -> [u8; ModuleNo::MOST]
+fn modes_of(values: &[u64; TaskNo::MOST]) -> [u8; ModuleNo::MOST]
     ensures { result ≡ stores (replicate most_modules 0) (mode_in values.now) most_modules }
 {
     let mut modes = [0; ModuleNo::MOST];
-    let mut m = 0;
-    while m < ModuleNo::MOST {
+    for m in 0..ModuleNo::MOST {
         modes[m] = (values[m] % (LARGEST_MODE + 1)) as u8;
-        m += 1;
     }
     modes
 }
 
-fn flags_of<'a>(given: &'a [u8; TaskNo::MOST]) -> [u8; ModuleNo::MOST]
+fn flags_of(given: &[u8; TaskNo::MOST]) -> [u8; ModuleNo::MOST]
     ensures { result ≡ stores (replicate most_modules 0) (flag_in given.now) most_modules }
 {
     let mut flags = [0; ModuleNo::MOST];
-    let mut m = 0;
-    while m < ModuleNo::MOST {
-        flags[m] = given[m];
-        m += 1;
-    }
+    flags.copy_from_slice(&given[..ModuleNo::MOST]);
     flags
 }
 
 // What a tick is given by the lists of its line.
+#[tactic(auto, unfolding(crate::specs::Reading::input_from))]
 pub fn input_of(results: Places, modes: Places) -> Input
     ensures { result ≡ input_from results modes }
 {
@@ -409,6 +381,7 @@ pub fn input_of(results: Places, modes: Places) -> Input
 }
 
 // What a beginning is given by the list of its line.
+#[tactic(auto, unfolding(crate::specs::Reading::starting_from))]
 pub fn starting_of(modes: Places) -> Starting
     ensures { result ≡ starting_from modes }
 {

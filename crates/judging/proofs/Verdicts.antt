@@ -19,48 +19,47 @@ use Rattle.laws.proofs.Lists.{length-tab, get_or-tab, both_left, both_right, tru
 use Rattle.laws.proofs.Loops.{first_bad-up_to-none, first_bad-up_to-passes, first_bad-up_to-within}
 use Rattle.rules.specs.Frames.{Pair, ControlRow, no_control_row}
 use Rattle.rules.specs.Checker.{name_of, row_of, TableRead, control_at}
-use Rattle.places.specs.declared.Found.{Found}
-use Rattle.places.specs.declared.Found.TheVariants.{At, Nothing}
+use Rattle.std.specs.Prelude as code
+use Rattle.std.specs.Prelude.{Some, None}
 use Rattle.judging.specs.declared.Bounds.{Bounds}
 use Rattle.naming.specs.Places.{look_in, before_in, Numbered, number_at, is_new, spread}
-use Rattle.places.specs.Found.{found_of}
+use Rattle.places.specs.Spot.{spot_of, spot_in}
 use Rattle.table.specs.Memory.{Table, row_seen, seen}
 use Rattle.table.specs.Rows.{control_in, data_in}
 use Rattle.datarows.specs.Rows.{time_kept, release_kept, due_kept, gap_kept, last_kept}
 use Rattle.judging.specs.Judged.{Judgement, header_fits, control_fits, rows_judged, judged_for, header_same, controls_same, frame_in, frames_in, time_in, NoneEarly, Right, in_order, only_where, Among}
-use Rattle.answers.specs.Refusals.{heard}
-use Rattle.places.specs.Found.{place_in}
+use Rattle.answers.specs.Answered.{judged}
 use Rattle.laws.proofs.Turns.{same_bad}
 use Rattle.judging.proofs.NamedFrames.{new-within, spread_row, starts-laid}
 use Rattle.judging.proofs.Held.{look_within, last-stop, number-given, rows-judged}
 
 -- ---- what a scan found
 
-pub spot_at : (o : Option ℕ) {s : Found} {k : ℕ} → s ≡ found_of o → s ≡ At k → o ≡ some k
+pub spot_at : (o : Option ℕ) {s : code.Option ℕ} {k : ℕ} → s ≡ spot_of o → s ≡ Some k → o ≡ some k
 spot_at none e q = let z : ◌≡◌ {A = ℕ} 0 1 = cc in absurd (omega arith)
 spot_at (some j) {k = k} e q = let z : j ≡ k = cc in ap some z
 
-pub spot_nowhere : (o : Option ℕ) {s : Found} → s ≡ found_of o → s ≡ Nothing → o ≡ none
+pub spot_nowhere : (o : Option ℕ) {s : code.Option ℕ} → s ≡ spot_of o → s ≡ None → o ≡ none
 spot_nowhere none e q = refl
 spot_nowhere (some j) e q = let z : ◌≡◌ {A = ℕ} 0 1 = cc in absurd (omega arith)
 
-pub spot_within : (p : ℕ → Bool) (n : ℕ) {s : Found} {k : ℕ} → s ≡ found_of (first_bad p (up_to n)) → s ≡ At k → k < n
+pub spot_within : (p : ℕ → Bool) (n : ℕ) {s : code.Option ℕ} {k : ℕ} → s ≡ spot_of (first_bad p (up_to n)) → s ≡ Some k → k < n
 spot_within p n {k = k} e q = first_bad-up_to-within p n k (spot_at (first_bad p (up_to n)) e q)
 
-pub spot_found : (o : Option ℕ) {s : Found} → s ≡ found_of o → place_in s ≡ o
-spot_found none e = ap place_in e
-spot_found (some j) e = ap place_in e
+pub spot_found : (o : Option ℕ) {s : code.Option ℕ} → s ≡ spot_of o → spot_in s ≡ o
+spot_found none e = ap spot_in e
+spot_found (some j) e = ap spot_in e
 
-pub spot_among : (p : ℕ → Bool) (n room : ℕ) {s : Found} → s ≡ found_of (first_bad p (up_to n)) → n ≤ room → Among room s
-spot_among p n room {s = At k} e h = let w = spot_within p n e refl in omega (arith, w)
-spot_among p n room {s = Nothing} e h = tt
+pub spot_among : (p : ℕ → Bool) (n room : ℕ) {s : code.Option ℕ} → s ≡ spot_of (first_bad p (up_to n)) → n ≤ room → Among room s
+spot_among p n room {s = Some k} e h = let w = spot_within p n e refl in omega (arith, w)
+spot_among p n room {s = None} e h = tt
 
 -- also where the scan is not made
-pub spot_only : (early : Bool) (p : ℕ → Bool) (n room : ℕ) {s : Found} → s ≡ found_of (only_where early (first_bad p (up_to n))) → n ≤ room → Among room s
+pub spot_only : (early : Bool) (p : ℕ → Bool) (n room : ℕ) {s : code.Option ℕ} → s ≡ spot_of (only_where early (first_bad p (up_to n))) → n ≤ room → Among room s
 spot_only true p n room e h = spot_among p n room e h
 spot_only false p n room e h = rw e tt
 
-pub among-at : (room : ℕ) (s : Found) {k : ℕ} → Among room s → s ≡ At k → k < room
+pub among-at : (room : ℕ) (s : code.Option ℕ) {k : ℕ} → Among room s → s ≡ Some k → k < room
 among-at room s h e = rw e at h
 
 -- where nothing is refused, the first rule refuses nothing
@@ -71,7 +70,7 @@ first-kept first (some k) b c d e end h = refuse≢ok h
 -- ---- judgements
 
 module _ {says : Res (Unit {0})} (frames : List Pair) (t : TableRead) {early : Bool} {releases : List ℕ} {count : ℕ} {j : Judgement} where
-  pub right_refused : {n p : ℕ} → says ≡ refuse n p → heard j.verdict ≡ refuse n p → Right early releases count says frames t j
+  pub right_refused : {n p : ℕ} → says ≡ refuse n p → judged j.verdict ≡ refuse n p → Right early releases count says frames t j
   right_refused e h = record { verdict = λ _. h ∙ sym e; starts = λ q. refuse≢ok (sym e ∙ q) }
 
 -- ---- rules 23 to 28
@@ -143,11 +142,11 @@ module _ (tasks releases deadlines times : List ℕ) (frames : ℕ) (n : Numbere
       here (some k) e = refl
 
   -- what the scans found, and what their order makes of it
-  pub rows_right : {sa sb sc sd se : Found} {early : Bool} → sa ≡ found_of (first_of name_ok) → sb ≡ found_of (first_of time_ok)
-      → sc ≡ found_of (only_where early (first_of release_ok)) → sd ≡ found_of (first_of due_ok)
-      → {last : ℕ} → last ≡ before_in t.control_stops 0 t.controls → se ≡ found_of (first_of (gap_ok last))
+  pub rows_right : {sa sb sc sd se : code.Option ℕ} {early : Bool} → sa ≡ spot_of (first_of name_ok) → sb ≡ spot_of (first_of time_ok)
+      → sc ≡ spot_of (only_where early (first_of release_ok)) → sd ≡ spot_of (first_of due_ok)
+      → {last : ℕ} → last ≡ before_in t.control_stops 0 t.controls → se ≡ spot_of (first_of (gap_ok last))
       → {ends : Bool} → ends ≡ end_ok last → {end : Res (Unit {0})} → end ≡ unless 28 (t.controls + t.rows) ends → (j : Judgement)
-      → heard j.verdict ≡ in_order (1 + t.controls) (place_in sa) (place_in sb) (place_in sc) (place_in sd) (place_in se) end
+      → judged j.verdict ≡ in_order (1 + t.controls) (spot_in sa) (spot_in sb) (spot_in sc) (spot_in sd) (spot_in se) end
       → j.starts ≡ spread named t.starts t.rows → Right early releases frames (rows_judged wanted (time_in times) b (seen t)) wanted (seen t) j
   unfolding seen row_seen data_in row_of name_of
   rows_right {sa} {sb} {sc} {sd} {se} {early} fa fb fc fd {last} is_last fe {ends} is_end {end} is_said j says spreads =
@@ -161,7 +160,7 @@ module _ (tasks releases deadlines times : List ℕ) (frames : ℕ) (n : Numbere
             (λ k. refl) t.starts (λ k l. refl) (λ k l. first_bad-up_to-passes name_ok t.rows k all_named l);
       }
     where
-      as_found : in_order (1 + t.controls) (place_in sa) (place_in sb) (place_in sc) (place_in sd) (place_in se) end
+      as_found : in_order (1 + t.controls) (spot_in sa) (spot_in sb) (spot_in sc) (spot_in sd) (spot_in se) end
           ≡ in_order (1 + t.controls) (first_of name_ok) (first_of time_ok) (only_where early (first_of release_ok)) (first_of due_ok) first_crowded ending
       as_found =
           rw (
@@ -206,7 +205,7 @@ module _ (tasks releases deadlines : List ℕ) (frames : ℕ) (time : ℕ → �
       )
 
   pub wrong-header : {early r : Bool} {j : Judgement} → r ≡ header_same t.header t.controls t.rows b controls frames → r ≡ false
-      → heard j.verdict ≡ refuse 21 0
+      → judged j.verdict ≡ refuse 21 0
       → Right early releases frames (judged_for fixed asked time b (seen t)) asked (seen t) j
   unfolding judged_for
   wrong-header e q h = right_refused asked (seen t) (rw (header-same, sym e, q)) h
@@ -244,14 +243,14 @@ module _ (tasks releases deadlines : List ℕ) (frames : ℕ) (time : ℕ → �
               (λ k h. control-same k control-count h),
         )
 
-    module _ {s : Found} (found : s ≡ found_of (first_bad (controls_same (control_in t.control_nodes t.control_starts t.control_stops) (control_in nodes begins ends)) (up_to controls))) where
-      pub strange_control : {early : Bool} {k : ℕ} {j : Judgement} → s ≡ At k → heard j.verdict ≡ refuse 22 (1 + k)
+    module _ {s : code.Option ℕ} (found : s ≡ spot_of (first_bad (controls_same (control_in t.control_nodes t.control_starts t.control_stops) (control_in nodes begins ends)) (up_to controls))) where
+      pub strange_control : {early : Bool} {k : ℕ} {j : Judgement} → s ≡ Some k → judged j.verdict ≡ refuse 22 (1 + k)
           → Right early releases frames (judged_for fixed asked time b (seen t)) asked (seen t) j
       strange_control here h =
           let bad = spot_at (first_bad (controls_same (control_in t.control_nodes t.control_starts t.control_stops) (control_in nodes begins ends)) (up_to controls)) found here in
           right_refused asked (seen t) (scanned ∙ rw bad) h
 
-      pub same-controls : {early : Bool} {j : Judgement} → s ≡ Nothing → Right early releases frames (rows_judged asked time b (seen t)) asked (seen t) j
+      pub same-controls : {early : Bool} {j : Judgement} → s ≡ None → Right early releases frames (rows_judged asked time b (seen t)) asked (seen t) j
           → Right early releases frames (judged_for fixed asked time b (seen t)) asked (seen t) j
       same-controls here h =
           let good = spot_nowhere (first_bad (controls_same (control_in t.control_nodes t.control_starts t.control_stops) (control_in nodes begins ends)) (up_to controls)) found here in

@@ -23,13 +23,13 @@ use Rattle.rules.specs.Checker.{
   rows_keep,
   row_holding,
 }
-use Rattle.answers.specs.Refusals.{heard}
-use Rattle.answers.specs.declared.Verdict.{Verdict}
+use Rattle.std.specs.Prelude as code
+use Rattle.std.specs.Prelude.{Result, Some, None}
+use Rattle.answers.specs.declared.Refusal.{Refusal}
+use Rattle.answers.specs.Answered.{judged}
 use Rattle.table.specs.declared.Header.{Header}
 use Rattle.judging.specs.declared.Bounds.{Bounds}
 use Rattle.line.specs.Line.{Drawing}
-use Rattle.places.specs.declared.Found.{Found}
-use Rattle.places.specs.declared.Found.TheVariants.{At, Nothing}
 use Rattle.naming.specs.Places.{look_in}
 use Rattle.table.specs.Rows.{control_in}
 
@@ -130,9 +130,9 @@ unfoldable pub line_judged : Drawing → TableRead → Res (Unit {0})
 line_judged l t = judged_for (controls_on l) (frames_on l) (time_in l.times) (bounds_on l) t
 
 -- what a scan found lies among the first n places
-abbrev pub Among : ℕ → Found → Type 0
-Among n (At k) = k < n
-Among n Nothing = Unit {0}
+abbrev pub Among : ℕ → code.Option ℕ → Type 0
+Among n (Some k) = k < n
+Among n None = Unit {0}
 
 -- refusals 24 to 28, and 23 to 28, by the first row that breaks each; the first row is record `first`, and `end` is what 28 says
 abbrev pub times_in_order : ℕ → Option ℕ → Option ℕ → Option ℕ → Option ℕ → Res (Unit {0}) → Res (Unit {0})
@@ -163,14 +163,14 @@ start_in rows f = (row_holding rows f).start
 
 -- The verdict, and the start that the table gives to each frame, by number.
 pub record Judgement : Type 0 where
-  pub verdict : Verdict
+  pub verdict : Result (Unit {0}) Refusal
   pub starts : List ℕ
 
 -- a verdict with the starts that are left beside it
-abbrev pub judgement : Verdict → List ℕ → Judgement
+abbrev pub judgement : Result (Unit {0}) Refusal → List ℕ → Judgement
 judgement verdict starts = record { verdict = verdict; starts = starts }
 
 -- A judgement is what the rules say, where rule 25 was looked at or no frame is early; and where the rules pass the table, its starts are those that the table gives to the frames.
 pub record Right (early-too : Bool) (releases : List ℕ) (count : ℕ) (says : Res (Unit {0})) (frames : List Pair) (t : TableRead) (j : Judgement) : Type 0 where
-  pub verdict : (early-too ≡ true) ⊎ NoneEarly releases j.starts count → heard j.verdict ≡ says
+  pub verdict : (early-too ≡ true) ⊎ NoneEarly releases j.starts count → judged j.verdict ≡ says
   pub starts : says ≡ ok tt → j.starts ≡ pad_to most_frames 0 (map (start_in t.rows) frames)

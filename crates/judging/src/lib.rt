@@ -6,20 +6,18 @@ ghost use Rattle.laws.specs.Lists.{first_bad, up_to};
 ghost use Rattle.laws.specs.Res.{unless};
 ghost use Rattle.rules.specs.Limits.{most_nodes, most_frames};
 ghost use Rattle.naming.specs.Places.{Numbered, before_in};
-ghost use Rattle.places.specs.Found.{found_of};
+ghost use Rattle.places.specs.Spot.{spot_of, spot_in};
 ghost use Rattle.line.specs.Line.{drawing};
 ghost use Rattle.table.specs.Memory.{table_with, seen};
 ghost use Rattle.table.specs.Rows.{control_in};
 ghost use Rattle.judging.specs.Judged.{header_same, controls_same, rows_judged, frames_in, frames_on, time_in, line_judged, judgement, Right, in_order, only_where, Among};
-ghost use Rattle.answers.specs.Refusals.{heard};
+ghost use Rattle.answers.specs.Answered.{judged};
 ghost use Rattle.datarows.specs.Rows.{release_kept};
-ghost use Rattle.places.specs.Found.{place_in};
 
-use answers::{Refusal, Verdict};
+use answers::Refusal;
 use datarows::{first_crowded, first_early, first_late, first_mistimed, gap_at_end};
 use line::Line;
 use naming::{first_unnamed, numbers, starts_by_frame};
-use places::Found;
 use table::{Header, Heading};
 use units::{Frame, NodeNo, RecordNo, TaskNo, Ticks};
 
@@ -31,6 +29,7 @@ pub struct Bounds {
     pub gap: Ticks,
 }
 
+#[tactic(auto, unfolding(crate::specs::Judged::header_same))]
 fn header_right(
     head: Header,
     control: usize,
@@ -41,19 +40,9 @@ fn header_right(
 ) -> bool
     ensures { result ≡ header_same head control rows bounds controls frames }
 {
-    if head.period.0 != bounds.period.0 {
-        return false;
-    }
-    if head.controls != controls {
-        return false;
-    }
-    if head.datas != frames {
-        return false;
-    }
-    if control != controls {
-        return false;
-    }
-    rows == frames
+    head.period == bounds.period
+        && ((head.controls == controls && head.datas == frames)
+            && (control == controls && rows == frames))
 }
 
 fn same_control(
@@ -66,7 +55,7 @@ fn same_control(
 ) -> bool
     ensures { result ≡ (eqb node.0 fixed_node.0 && (eqb start.0 fixed_start.0 && eqb stop.0 fixed_stop.0)) }
 {
-    node.0 == fixed_node.0 && (start.0 == fixed_start.0 && stop.0 == fixed_stop.0)
+    node == fixed_node && (start == fixed_start && stop == fixed_stop)
 }
 
 // The first control row that is not the fixed one.
@@ -78,12 +67,11 @@ fn first_strange<'a, 'b>(
     fixed_starts: &'b [u32; NodeNo::MOST],
     fixed_stops: &'b [u32; NodeNo::MOST],
     controls: usize,
-) -> Found
+) -> Option<usize>
     requires { controls ≤ most_nodes }
-    ensures { result ≡ found_of (first_bad (controls_same (control_in control_nodes.now control_starts.now control_stops.now) (control_in fixed_nodes.now fixed_starts.now fixed_stops.now)) (up_to controls)) }
+    ensures { result ≡ spot_of (first_bad (controls_same (control_in control_nodes.now control_starts.now control_stops.now) (control_in fixed_nodes.now fixed_starts.now fixed_stops.now)) (up_to controls)) }
 {
-    let mut k = 0;
-    while k < controls {
+    for k in 0..controls {
         if !same_control(
             NodeNo(control_nodes[k]),
             Ticks(control_starts[k]),
@@ -92,11 +80,10 @@ fn first_strange<'a, 'b>(
             Ticks(fixed_starts[k]),
             Ticks(fixed_stops[k]),
         ) {
-            return Found::At(k);
+            return Some(k);
         }
-        k += 1;
     }
-    Found::Nothing
+    None
 }
 
 // The stop of the last control row.
@@ -105,9 +92,10 @@ fn last_stop(control_stops: &[u32; NodeNo::MOST], control: usize) -> Ticks
     ensures { result.0 ≡ before_in control_stops.now 0 control }
 {
     if control == 0 {
-        return Ticks(0);
+        Ticks(0)
+    } else {
+        Ticks(control_stops[control - 1])
     }
-    Ticks(control_stops[control - 1])
 }
 
 // Rule 25, where it is looked at here: else no row counts as early.
@@ -117,54 +105,56 @@ fn early_in<'a>(
     releases: &'a [u32; Frame::MOST],
     numbers: &'a [usize; Frame::MOST],
     rows: usize,
-) -> Found
+) -> Option<usize>
     requires { rows ≤ most_frames }
-    ensures { result ≡ found_of (only_where early_too (first_bad (release_kept row_starts.now releases.now numbers.now) (up_to rows))) }
+    ensures { result ≡ spot_of (only_where early_too (first_bad (release_kept row_starts.now releases.now numbers.now) (up_to rows))) }
 {
     if early_too {
-        return first_early(row_starts, releases, numbers, rows);
+        first_early(row_starts, releases, numbers, rows)
+    } else {
+        None
     }
-    Found::Nothing
 }
 
 // Rule 28: `last` is the record of the last row.
-fn end_judged(kept: bool, last: RecordNo) -> Verdict
-    ensures { heard result ≡ unless 28 last.0 kept }
+fn end_judged(kept: bool, last: RecordNo) -> Result<(), Refusal>
+    ensures { judged result ≡ unless 28 last.0 kept }
 {
     if kept {
-        return Verdict::Fine;
+        Ok(())
+    } else {
+        Err(Refusal::NoGapAtEnd(last))
     }
-    Verdict::Refused(Refusal::NoGapAtEnd(last))
 }
 
 // The record `first + k` of the first row at fault, where `first` is the first data row's; `end` where no row is.
 fn rows_judged(
     first: usize,
-    unnamed: Found,
-    mistimed: Found,
-    early: Found,
-    late: Found,
-    crowded: Found,
-    end: Verdict,
-) -> Verdict
+    unnamed: Option<usize>,
+    mistimed: Option<usize>,
+    early: Option<usize>,
+    late: Option<usize>,
+    crowded: Option<usize>,
+    end: Result<(), Refusal>,
+) -> Result<(), Refusal>
     requires first_bound { first ≤ 1 + most_nodes }
     requires among { Among most_frames unnamed × (Among most_frames mistimed × (Among most_frames early × (Among most_frames late × Among most_frames crowded))) }
-    ensures { heard result ≡ in_order first (place_in unnamed) (place_in mistimed) (place_in early) (place_in late) (place_in crowded) (heard end) }
+    ensures { judged result ≡ in_order first (spot_in unnamed) (spot_in mistimed) (spot_in early) (spot_in late) (spot_in crowded) (judged end) }
 {
-    if let Found::At(k) = unnamed {
-        return Verdict::Refused(Refusal::NoNewFrame(RecordNo(first + k)));
+    if let Some(k) = unnamed {
+        return Err(Refusal::NoNewFrame(RecordNo(first + k)));
     }
-    if let Found::At(k) = mistimed {
-        return Verdict::Refused(Refusal::WrongTime(RecordNo(first + k)));
+    if let Some(k) = mistimed {
+        return Err(Refusal::WrongTime(RecordNo(first + k)));
     }
-    if let Found::At(k) = early {
-        return Verdict::Refused(Refusal::BeforeRelease(RecordNo(first + k)));
+    if let Some(k) = early {
+        return Err(Refusal::BeforeRelease(RecordNo(first + k)));
     }
-    if let Found::At(k) = late {
-        return Verdict::Refused(Refusal::AfterDeadline(RecordNo(first + k)));
+    if let Some(k) = late {
+        return Err(Refusal::AfterDeadline(RecordNo(first + k)));
     }
-    if let Found::At(k) = crowded {
-        return Verdict::Refused(Refusal::GapBroken(RecordNo(first + k)));
+    if let Some(k) = crowded {
+        return Err(Refusal::GapBroken(RecordNo(first + k)));
     }
     end
 }
@@ -184,7 +174,7 @@ fn by_rows<'a>(
     bounds: Bounds,
     early_too: bool,
     starts: &mut [u32; Frame::MOST],
-) -> Verdict
+) -> Result<(), Refusal>
     requires numbered { Numbered tasks.now deadlines.now frames }
     requires controls_le_most_nodes { heading.controls ≤ most_nodes }
     requires rows_value { heading.rows ≡ frames }
@@ -244,7 +234,7 @@ pub fn judge<'a>(
     deadlines: &'a [u32; Frame::MOST],
     early_too: bool,
     starts: &mut [u32; Frame::MOST],
-) -> Verdict
+) -> Result<(), Refusal>
     requires numbered { Numbered tasks.now deadlines.now line.frames }
     requires controls_le_most_nodes { line.controls ≤ most_nodes }
     requires starts_value { starts.old ≡ replicate most_frames 0 }
@@ -267,9 +257,9 @@ pub fn judge<'a>(
         line.controls,
         line.frames,
     ) {
-        return Verdict::Refused(Refusal::WrongHeader);
+        return Err(Refusal::WrongHeader);
     }
-    if let Found::At(k) = first_strange(
+    if let Some(k) = first_strange(
         &heading.control_nodes,
         &heading.control_starts,
         &heading.control_stops,
@@ -278,7 +268,7 @@ pub fn judge<'a>(
         &line.control_stops,
         line.controls,
     ) {
-        return Verdict::Refused(Refusal::WrongControlRow(RecordNo(1 + k)));
+        return Err(Refusal::WrongControlRow(RecordNo(1 + k)));
     }
     by_rows(
         heading,

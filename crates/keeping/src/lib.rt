@@ -17,7 +17,7 @@ use bus::readers::Readers;
 use bus::senders::Senders;
 use figures::divides;
 use line::Line;
-use places::{byte_at, count_at, flag_byte, number_at};
+use places::entry_or;
 use plan::look::{
     invocation_at, invocation_count, mode_at, mode_count, module_at, module_count, task_at,
     task_count,
@@ -34,12 +34,10 @@ fn modules(p: Plan, senders: [bool; 256]) -> Modules
 {
     let mut sites: [u8; ModuleNo::MOST] = [0; ModuleNo::MOST];
     let mut sending: [u8; ModuleNo::MOST] = [0; ModuleNo::MOST];
-    let mut m = 0;
-    while m < ModuleNo::MOST {
+    for m in 0..ModuleNo::MOST {
         let module = module_at(p, m);
         sites[m] = module.node.0;
-        sending[m] = flag_byte(senders[m]);
-        m += 1;
+        sending[m] = u8::from(senders[m]);
     }
     Modules {
         count: module_count(p) as u8,
@@ -54,13 +52,11 @@ fn modes(p: Plan) -> Modes
     let mut homes: [u8; ModeNo::MOST] = [0; ModeNo::MOST];
     let mut periods: [u32; ModeNo::MOST] = [0; ModeNo::MOST];
     let mut switches: [u32; ModeNo::MOST] = [0; ModeNo::MOST];
-    let mut m = 0;
-    while m < ModeNo::MOST {
+    for m in 0..ModeNo::MOST {
         let mode = mode_at(p, m);
         homes[m] = mode.home.0;
         periods[m] = mode.period.0;
         switches[m] = mode.switch.0;
-        m += 1;
     }
     Modes {
         count: mode_count(p) as u8,
@@ -77,13 +73,11 @@ fn tasks(p: Plan) -> Tasks
     let mut homes: [u8; TaskNo::MOST] = [0; TaskNo::MOST];
     let mut sizes: [u8; TaskNo::MOST] = [0; TaskNo::MOST];
     let mut worsts: [u32; TaskNo::MOST] = [0; TaskNo::MOST];
-    let mut t = 0;
-    while t < TaskNo::MOST {
+    for t in 0..TaskNo::MOST {
         let task = task_at(p, t);
         homes[t] = task.home.0;
         sizes[t] = task.size.0 as u8;
         worsts[t] = task.worst.0;
-        t += 1;
     }
     Tasks {
         count: task_count(p) as u8,
@@ -99,9 +93,7 @@ fn runs(p: Plan) -> [u32; ModeNo::MOST * TaskNo::MOST]
     ensures { result ≡ runs_of (seen p) }
 {
     let mut runs: [u32; ModeNo::MOST * TaskNo::MOST] = [0; ModeNo::MOST * TaskNo::MOST];
-    let mut left = invocation_count(p);
-    while 0 < left {
-        left -= 1;
+    for left in (0..invocation_count(p)).rev() {
         let run = invocation_at(p, left);
         let mode = mode_at(p, run.mode.place());
         runs[run.mode.place() * TaskNo::MOST + run.task.place()] = mode.period.0 / run.rate;
@@ -135,10 +127,11 @@ fn stops<'a>(
     ensures { result ≡ by_pair pairs (stop_at starts.now tasks.now times.now) }
 {
     let mut stops: [u32; Frame::MOST] = [0; Frame::MOST];
-    let mut q = 0;
-    while q < pairs {
-        stops[q] = number_at(starts, q) + number_at(times, byte_at(tasks, q));
-        q += 1;
+    for q in 0..pairs {
+        let start = entry_or(starts, q, 0);
+        let task = entry_or(tasks, q, 0);
+        let time = entry_or(times, usize::from(task), 0);
+        stops[q] = start + time;
     }
     stops
 }
@@ -171,13 +164,11 @@ fn some_reader<'a>(
     ensures { result ≡ is_read_by (readers_seen counts.now periods.now task) period deadline }
 {
     let row = task * Invocation::MOST;
-    let count = count_at(counts, task);
-    let mut k = 0;
-    while k < count {
-        if is_read(period, deadline, number_at(periods, row + k)) {
+    let count = entry_or(counts, task, 0);
+    for k in 0..count {
+        if is_read(period, deadline, entry_or(periods, row + k, 0)) {
             return true;
         }
-        k += 1;
     }
     false
 }
@@ -194,7 +185,7 @@ fn has_message<'a>(
     requires { (task < 256) × (mode < most_modes) × FewReaders counts.now }
     ensures { result ≡ has_message runs.now counts.now periods.now task deadline mode }
 {
-    let period = number_at(runs, mode * TaskNo::MOST + task);
+    let period = entry_or(runs, mode * TaskNo::MOST + task, 0);
     if 0 < period {
         if divides(period, deadline) {
             return some_reader(counts, periods, task, period, deadline);
@@ -207,7 +198,7 @@ fn with_bit(bits: u32, set: bool) -> u32
     requires { bits < 2 ^ 31 }
     ensures { result ≡ cond set 1 0 + 2 * bits }
 {
-    if set { 1 + 2 * bits } else { 2 * bits }
+    u32::from(set) + 2 * bits
 }
 
 // The modes that have the message of a pair, as bits, from the last mode down to the first.
@@ -222,9 +213,7 @@ fn modes_with<'a>(
     ensures { result ≡ bits_of (has_message runs.now counts.now periods.now task deadline) most_modes }
 {
     let mut bits = 0;
-    let mut left = ModeNo::MOST;
-    while 0 < left {
-        left -= 1;
+    for left in (0..ModeNo::MOST).rev() {
         bits = with_bit(
             bits,
             has_message(runs, counts, periods, task, deadline, left),
@@ -245,16 +234,14 @@ fn pair_modes<'a>(
     ensures { result ≡ by_pair pairs (modes_at runs.now counts.now periods.now tasks.now deadlines.now) }
 {
     let mut modes: [u32; Frame::MOST] = [0; Frame::MOST];
-    let mut q = 0;
-    while q < pairs {
+    for q in 0..pairs {
         modes[q] = modes_with(
             runs,
             counts,
             periods,
-            byte_at(tasks, q),
-            number_at(deadlines, q),
+            usize::from(entry_or(tasks, q, 0)),
+            entry_or(deadlines, q, 0),
         );
-        q += 1;
     }
     modes
 }

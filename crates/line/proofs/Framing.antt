@@ -21,8 +21,8 @@ use Rattle.frames.specs.Walk.{is_fair, AreRead}
 use Rattle.frames.proofs.FairRuns.{few-runs, short-period, runs-fair}
 use Rattle.answers.specs.declared.Refusal.{Refusal}
 use Rattle.answers.specs.Refusals.{said, number_of, place_of}
-use Rattle.answers.specs.declared.Verdict.TheVariants.{Fine, Refused}
-use Rattle.line.specs.declared.Laid.{Laid}
+use Rattle.std.specs.Prelude.{Result, Ok, Err}
+use Rattle.line.specs.declared.Line.{Line}
 use Rattle.line.specs.Laying.{Closes, Lays, verdict, laid, framing, closing}
 use Rattle.line.proofs.Ways.{verdict-refused}
 use Rattle.line.proofs.Built.{drawing-is}
@@ -110,13 +110,13 @@ verdict-laid : (p : Plan) (m : Res Layout) → verdict (◌>>◌ m (ok p)) ≡ o
 verdict-laid p (ok l) e = refl
 verdict-laid p (refuse n k) e = refuse≢ok e
 
-module _ (p : Plan) (r : Laid) (c : Closes r (laid p)) where
-  pub fine-laid : {n : ℕ} {tasks releases deadlines : List ℕ} → r.answer ≡ Fine → frames_with n tasks releases deadlines ≡ frames_laid (pairs p)
+module _ (p : Plan) (r : Result Line Refusal) (c : Closes r (laid p)) where
+  pub fine-laid : {n : ℕ} {l : Line} {tasks releases deadlines : List ℕ} → r ≡ Ok l → frames_with n tasks releases deadlines ≡ frames_laid (pairs p)
       → Lays r tasks releases deadlines (laid p)
   unfolding laid
   fine-laid e f =
       let s : laid p ≡ ok p = verdict-laid p (layout p) (rw (← c.answered, e)) in
       record { answered = c.answered; left = rw s (drawing-is p (rw s at c.left) f) }
 
-  pub refused-is : (x : Refusal) → r.answer ≡ Refused x → laid p ≡ said x
+  pub refused-is : (x : Refusal) → r ≡ Err x → laid p ≡ said x
   refused-is x e = verdict-refused (number_of x) (place_of x) (laid p) (rw (← c.answered, e))

@@ -12,13 +12,10 @@ use Rattle.plan.specs.declared.Plan as plans
 use Rattle.plan.specs.Memory.{seen, lay_out}
 use Rattle.plan.proofs.Laid.{seen-laid, read-seen, Placed}
 use Rattle.answers.specs.declared.Refusal.{Refusal}
-use Rattle.answers.specs.Refusals.{said, number_of, place_of, heard}
-use Rattle.answers.specs.declared.Verdict.TheVariants.{Fine, Refused}
-use Rattle.planrules.specs.declared.Reading.{Reading}
+use Rattle.answers.specs.Refusals.{said, number_of, place_of}
 use Rattle.planrules.specs.Reading.{Reads, verdict}
-use Rattle.line.specs.declared.Laid.{Laid}
-use Rattle.answers.specs.declared.Verdict.TheVariants as line
-use Rattle.line.specs.Line.{no_line, line_in}
+use Rattle.std.specs.Prelude.{Result, Ok, Err}
+use Rattle.line.specs.declared.Line.{Line}
 use Rattle.line.specs.Laying.{Lays, laid, file_laid}
 use Rattle.line.proofs.Ways.{verdict-refused, lays_as}
 use Rattle.rules.specs.Traffic.{read_in, plan_in}
@@ -47,44 +44,48 @@ verdict-ok (refuse n k) e go = refuse≢ok e
 
 -- ---- a plan that was read, in its edition
 
-module _ (file : List ℕ) (r : Reading) (h : Reads r (read_plan file)) where
-  pub read_ready : r.answer ≡ Fine → r.plan ≡ lay_out (seen r.plan)
-  read_ready e =
+module _ (file : List ℕ) (r : Result plans.Plan Refusal) (h : Reads r (read_plan file)) where
+  pub read_ready : {plan : plans.Plan} → r ≡ Ok plan → plan ≡ lay_out (seen plan)
+  read_ready {plan} e =
       verdict-ok (read_plan file) (rw (← h.answered, e)) λ p q.
-      let held : r.plan ≡ lay_out p = rw q at h.left in
+      let held : plan ≡ lay_out p = rw (e, q) at h.left in
       rw (held, read-seen file p q)
 
-module _ (consumers : Bool) (file : List ℕ) (r : Reading) (h : Reads r (read_plan file)) where
-  pub sound-read : r.answer ≡ Fine → (plan : plans.Plan) → plan ≡ lay_out (plan_in consumers (seen r.plan))
-      → Reads (record { answer = r.answer; plan = plan }) (read_in consumers file)
+module _ (consumers : Bool) (file : List ℕ) (r : Result plans.Plan Refusal) (h : Reads r (read_plan file)) where
+  pub sound-read : {plan : plans.Plan} → r ≡ Ok plan → {given : plans.Plan} → given ≡ lay_out (plan_in consumers (seen plan))
+      → (x : Result plans.Plan Refusal) → x ≡ Ok given → Reads x (read_in consumers file)
   unfolding read_in
-  sound-read e plan is =
+  sound-read {plan} e {given} is x f =
       verdict-ok (read_plan file) (rw (← h.answered, e)) λ p q.
-      let same : seen r.plan ≡ p = rw (h.left, q) (read-seen file p q) in
-      rw q (record { answered = ap heard e; left = is ∙ ap (λ (x : Plan). lay_out (plan_in consumers x)) same })
+      let held : plan ≡ lay_out p = rw (e, q) at h.left in
+      let same : seen plan ≡ p = rw held (read-seen file p q) in
+      rw (q, f) (record { answered = refl; left = is ∙ ap (λ (x : Plan). lay_out (plan_in consumers x)) same })
 
-  pub refused-read : (why : Refusal) → r.answer ≡ Refused why → Reads r (read_in consumers file)
+  pub refused-read : (why : Refusal) → r ≡ Err why → (x : Result plans.Plan Refusal) → x ≡ Err why → Reads x (read_in consumers file)
   unfolding read_in
-  refused-read why e =
+  refused-read why e x f =
       let n : read_plan file ≡ said why = verdict-refused (number_of why) (place_of why) (read_plan file) (rw (← h.answered, e)) in
-      rw n (record { answered = ap heard e; left = rw n at h.left })
+      rw (n, f) (record { answered = refl; left = refl })
 
-module _ (consumers : Bool) (file : List ℕ) (r : Reading) (h : Reads r (read_in consumers file)) where
-  pub sound-kept : r.answer ≡ Fine → PlanKept (seen r.plan) × InEdition (seen r.plan)
-  sound-kept e =
+module _ (consumers : Bool) (file : List ℕ) (r : Result plans.Plan Refusal) (h : Reads r (read_in consumers file)) where
+  -- the plan that is left is the one that was read
+  plan-read : {C : Type 0} {plan : plans.Plan} → r ≡ Ok plan
+      → ((p : Plan) → read_in consumers file ≡ ok p → plan ≡ lay_out p → seen plan ≡ p → C) → C
+  plan-read {plan = plan} e go =
       verdict-ok (read_in consumers file) (rw (← h.answered, e)) λ p q.
-      rw (h.left, q, read_in_seen consumers file p q) (readable_kept_in consumers file p q, edition-kept consumers file p q)
+      let held : plan ≡ lay_out p = rw (e, q) at h.left in
+      go p q held (rw held (read_in_seen consumers file p q))
 
-  pub sound-laid : (x : Laid) {tasks releases deadlines : List ℕ} → r.answer ≡ Fine → Lays x tasks releases deadlines (laid (seen r.plan))
-      → Lays x tasks releases deadlines (file_laid consumers file)
+  pub sound-kept : {plan : plans.Plan} → r ≡ Ok plan → PlanKept (seen plan) × InEdition (seen plan)
+  sound-kept e = plan-read e λ p q held same. rw same (readable_kept_in consumers file p q, edition-kept consumers file p q)
+
+  pub sound-laid : (x : Result Line Refusal) {tasks releases deadlines : List ℕ} {plan : plans.Plan} → r ≡ Ok plan
+      → Lays x tasks releases deadlines (laid (seen plan)) → Lays x tasks releases deadlines (file_laid consumers file)
   unfolding file_laid
-  sound-laid x e l =
-      verdict-ok (read_in consumers file) (rw (← h.answered, e)) λ p q.
-      let same : seen r.plan ≡ p = rw (h.left, q) (read_in_seen consumers file p q) in
-      rw q (rw same at l)
+  sound-laid x e l = plan-read e λ p q held same. rw q (rw same at l)
 
   -- the arrays of frames are left as they were lent
-  pub refused-laid : (x : Laid) (why : Refusal) {tasks releases deadlines : List ℕ} → r.answer ≡ Refused why → x ≡ record { answer = line.Refused why; line = line_in no_line }
+  pub refused-laid : (x : Result Line Refusal) (why : Refusal) {tasks releases deadlines : List ℕ} → r ≡ Err why → x ≡ Err why
       → (tasks ≡ replicate most_frames 0) × (releases ≡ replicate most_frames 0) × (deadlines ≡ replicate most_frames 0) → Lays x tasks releases deadlines (file_laid consumers file)
   unfolding file_laid
   refused-laid x why e q z =

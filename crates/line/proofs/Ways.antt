@@ -19,8 +19,8 @@ use Rattle.rules.specs.Frames.{layout, layout_of, message_fits, control_fits, pa
 use Rattle.answers.specs.declared.Refusal.{Refusal}
 use Rattle.answers.specs.Refusals.{said}
 use Rattle.bus.specs.Senders.{by_number}
-use Rattle.answers.specs.declared.Verdict.TheVariants.{Fine, Refused}
-use Rattle.line.specs.declared.Laid.{Laid}
+use Rattle.std.specs.Prelude.{Result, Ok, Err}
+use Rattle.line.specs.declared.Line.{Line}
 use Rattle.line.specs.Line.{no_line, line_of, line_in}
 use Rattle.payloads.specs.Tests.{flag_at, message_keeps, payload_keeps}
 use Rattle.line.specs.Laying.{Closes, Lays, verdict, laid, closing}
@@ -29,7 +29,7 @@ pub verdict-refused : (n k : ℕ) (rule : Res Plan) → verdict rule ≡ refuse 
 verdict-refused n k (ok p) e = refuse≢ok (sym e)
 verdict-refused n k (refuse m j) e = rw (refuse-number e, refuse-place e)
 
-module _ (x : Refusal) (r : Laid) (e : r ≡ record { answer = Refused x; line = line_in no_line }) where
+module _ (x : Refusal) (r : Result Line Refusal) (e : r ≡ Err x) where
   pub closes_refused : (p : Plan) → layout p ≡ said x → Closes r (laid p)
   unfolding laid
   closes_refused p q = record { answered = rw (e, q); left = rw (e, q) }
@@ -44,7 +44,7 @@ module _ (x : Refusal) (r : Laid) (e : r ≡ record { answer = Refused x; line =
     unfolding laid
     lays_refused p q = lays_as (laid p) (rw q)
 
-pub closes_sound : (p : Plan) (r : Laid) → r ≡ record { answer = Fine; line = line_in (line_of p) } → layout p ≡ ok (layout_of p) → Closes r (laid p)
+pub closes_sound : (p : Plan) (r : Result Line Refusal) → r ≡ Ok (line_in (line_of p)) → layout p ≡ ok (layout_of p) → Closes r (laid p)
 unfolding laid
 closes_sound p r e q = record { answered = rw (e, q); left = rw (e, q) }
 

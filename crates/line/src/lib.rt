@@ -2,7 +2,7 @@
 // lent, zeros before. Of a plan that is refused there is no line, and the arrays are zeros again.
 #![tactic(auto)]
 
-ghost use Rattle.std.specs.Prelude.{◌≡◌, true, length, replicate, ◌≤◌, ◌<◌, ◌^◌};
+ghost use Rattle.std.specs.Prelude.{◌≡◌, true, Err, length, replicate, ◌≤◌, ◌<◌, ◌^◌};
 ghost use Rattle.rules.specs.Limits.{longest_time, most_frames, most_invocations};
 ghost use Rattle.rules.proofs.PlanKept.{PlanKept};
 ghost use Rattle.plan.specs.Memory.{seen};
@@ -17,9 +17,8 @@ ghost use Rattle.bus.specs.Senders.{by_number, senders_of};
 ghost use Rattle.control.specs.Control.{control_laid};
 ghost use Rattle.line.specs.Line.{no_line, line_of, line_in};
 ghost use Rattle.line.specs.Laying.{Closes, Lays, laid, framing, closing, file_laid};
-ghost use Rattle.answers.specs.declared.Verdict.TheVariants.{Refused};
 
-use answers::{Refusal, Verdict};
+use answers::Refusal;
 use bus::BYTES;
 use bus::edition::in_edition;
 use bus::marks::{counted_tasks, grid_modules};
@@ -33,7 +32,6 @@ use frames::laid::lay;
 use payloads::{controls_fit, message_times, messages_fit, some_bus_task};
 use plan::Plan;
 use plan::look::task_count;
-use planrules::Reading;
 use records::kinds::head_kind;
 use times::{Span, gap_time};
 use units::{Frame, NodeNo, TaskNo, Ticks};
@@ -75,36 +73,20 @@ impl Line {
     }
 }
 
-// What laying a plan out comes to, and the line beside it: none where the plan is refused.
-#[derive(Clone, Copy)]
-pub struct Laid {
-    pub answer: Verdict,
-    pub line: Line,
-}
-
-fn refused(why: Refusal) -> Laid
-    ensures { result ≡ record { answer = Refused why; line = line_in no_line } }
-{
-    Laid {
-        answer: Verdict::Refused(why),
-        line: Line::none(),
-    }
-}
-
 // Refuses a plan whose frames were laid: they are taken back.
 fn taken_back(
     why: Refusal,
     tasks: &mut [u8; Frame::MOST],
     releases: &mut [u32; Frame::MOST],
     deadlines: &mut [u32; Frame::MOST],
-) -> Laid
-    ensures value { result ≡ record { answer = Refused why; line = line_in no_line } }
+) -> Result<Line, Refusal>
+    ensures value { result ≡ Err why }
     ensures tasks_after { (tasks.new ≡ replicate most_frames 0) × (releases.new ≡ replicate most_frames 0) × (deadlines.new ≡ replicate most_frames 0) }
 {
     *tasks = [0; Frame::MOST];
     *releases = [0; Frame::MOST];
     *deadlines = [0; Frame::MOST];
-    refused(why)
+    Err(why)
 }
 
 // The line of a plan that passed refusals 1 to 11.
@@ -138,7 +120,7 @@ fn line_of(p: Plan, period: Ticks, end: Span, control: Control, count: usize) ->
 }
 
 // Refusals 10 and 11 of a plan to which 6 to 9 do not apply, and its line.
-fn closed(p: Plan, senders: Senders, period: Ticks, count: usize) -> Laid
+fn closed(p: Plan, senders: Senders, period: Ticks, count: usize) -> Result<Line, Refusal>
     requires plan_kept { PlanKept (seen p) }
     requires senders_value { senders ≡ senders_of (seen p) }
     requires period_value { (period.0 ≡ (traffic (seen p)).period) × (period.0 ≤ longest_time) }
@@ -149,22 +131,18 @@ fn closed(p: Plan, senders: Senders, period: Ticks, count: usize) -> Laid
     let tasks = senders.tasks;
     let payloads = senders.payloads;
     if !messages_fit(p, tasks) {
-        return refused(Refusal::PayloadTooLarge);
+        return Err(Refusal::PayloadTooLarge);
     }
     let bus = p.bus;
     if !controls_fit(payloads, p.counts[2], bus.most) {
-        return refused(Refusal::PayloadTooLarge);
+        return Err(Refusal::PayloadTooLarge);
     }
     let end = control_end(p, payloads);
-    if (period.0 as u64) < end.0 {
-        return refused(Refusal::ControlTooLong);
+    if u64::from(period.0) < end.0 {
+        return Err(Refusal::ControlTooLong);
     }
     let control = control_rows(p, payloads);
-    let line = line_of(p, period, end, control, count);
-    Laid {
-        answer: Verdict::Fine,
-        line: line,
-    }
+    Ok(line_of(p, period, end, control, count))
 }
 
 // Refusals 9 to 11 of a plan to which 6 to 8 do not apply, its frames and its line.
@@ -176,7 +154,7 @@ fn framed(
     tasks: &mut [u8; Frame::MOST],
     releases: &mut [u32; Frame::MOST],
     deadlines: &mut [u32; Frame::MOST],
-) -> Laid
+) -> Result<Line, Refusal>
     requires plan_kept { PlanKept (seen p) × InEdition (seen p) }
     requires p_value { (some_bus_task (seen p) ≡ true) × ((traffic (seen p)).period ∣ (traffic (seen p)).grid) }
     requires senders_value { (senders ≡ senders_of (seen p)) × (runs ≡ runs_laid (bus_runs (seen p))) × (period.0 ≡ (traffic (seen p)).period) }
@@ -198,10 +176,9 @@ fn framed(
         return taken_back(Refusal::TooManyFrames, tasks, releases, deadlines);
     }
     let laid = closed(p, senders, period, count);
-    let answer = laid.answer;
-    match answer {
-        Verdict::Fine => laid,
-        Verdict::Refused(why) => taken_back(why, tasks, releases, deadlines),
+    match laid {
+        Ok(_) => laid,
+        Err(why) => taken_back(why, tasks, releases, deadlines),
     }
 }
 
@@ -229,7 +206,7 @@ pub fn of_plan(
     tasks: &mut [u8; Frame::MOST],
     releases: &mut [u32; Frame::MOST],
     deadlines: &mut [u32; Frame::MOST],
-) -> Laid
+) -> Result<Line, Refusal>
     requires plan_kept { PlanKept (seen p) × InEdition (seen p) }
     requires tasks_value { (tasks.old ≡ replicate most_frames 0) × (releases.old ≡ replicate most_frames 0) × (deadlines.old ≡ replicate most_frames 0) }
     ensures { Lays result tasks.new releases.new deadlines.new (laid (seen p)) }
@@ -238,34 +215,27 @@ pub fn of_plan(
     let bus_tasks = senders.tasks;
     let modules = senders.modules;
     if !some_bus_task(bus_tasks, task_count(p)) {
-        return refused(Refusal::NoBusTask);
+        return Err(Refusal::NoBusTask);
     }
     let counted = counted_runs(p, bus_tasks);
     let grid = grid_of(p, modules);
     if !period_divides(counted, grid) {
-        return refused(Refusal::PeriodDoesNotDivide);
+        return Err(Refusal::PeriodDoesNotDivide);
     }
     let period = bus_period(counted, grid);
     if !divides(p.bus.resolution.0, period.0) {
-        return refused(Refusal::PeriodOffResolution);
+        return Err(Refusal::PeriodOffResolution);
     }
     let runs = Runs::of(p, bus_tasks);
     framed(p, senders, runs, period, tasks, releases, deadlines)
 }
 
 // The plan of a file in an edition, or the first refusal of 1 to 5 that applies, at its lowest place.
-pub fn read_in(s: &[u8], consumers: bool) -> Reading
+pub fn read_in(s: &[u8], consumers: bool) -> Result<Plan, Refusal>
     ensures { Reads result (read_in consumers s.now) }
 {
-    let reading = planrules::read(s);
-    let answer = reading.answer;
-    match answer {
-        Verdict::Fine => Reading {
-            answer,
-            plan: in_edition(reading.plan, consumers),
-        },
-        Verdict::Refused(_) => reading,
-    }
+    let plan = planrules::read(s)?;
+    Ok(in_edition(plan, consumers))
 }
 
 // The frames and the line of a plan file in an edition, or the first refusal of 1 to 11 that applies, at its lowest place.
@@ -275,14 +245,10 @@ pub fn lay_out(
     tasks: &mut [u8; Frame::MOST],
     releases: &mut [u32; Frame::MOST],
     deadlines: &mut [u32; Frame::MOST],
-) -> Laid
+) -> Result<Line, Refusal>
     requires { (tasks.old ≡ replicate most_frames 0) × (releases.old ≡ replicate most_frames 0) × (deadlines.old ≡ replicate most_frames 0) }
     ensures { Lays result tasks.new releases.new deadlines.new (file_laid consumers s.now) }
 {
-    let reading = read_in(s, consumers);
-    let answer = reading.answer;
-    match answer {
-        Verdict::Fine => of_plan(reading.plan, tasks, releases, deadlines),
-        Verdict::Refused(why) => refused(why),
-    }
+    let plan = read_in(s, consumers)?;
+    of_plan(plan, tasks, releases, deadlines)
 }

@@ -21,12 +21,11 @@ use Rattle.answers.specs.declared.Refusal.TheVariants.{BufferTooShort, NoRoom}
 use Rattle.answers.specs.Refusals.{said}
 use Rattle.line.specs.Line.{Drawing, line_in, line_of, task_of, deadline_of}
 use Rattle.payloads.specs.Tests.{task_time}
-use Rattle.placing.specs.declared.Outcome.TheVariants.{All, Refused as NotPlaced}
+use Rattle.std.specs.Prelude.{Result, Ok, Err}
 use Rattle.placing.specs.Placing.{Placing, frame_at, time_of, laid}
 use Rattle.units.specs.declared.FrameNo.{FrameNo}
 use Rattle.rows.specs.Rows.{Rows, TableRows, rows_laid, scattered, table_rows}
 use Rattle.rows.specs.Frames.{rows_with, NoRows}
-use Rattle.linetable.specs.declared.Answer.TheVariants.{Made, Refused}
 use Rattle.linetable.specs.Making.{Making, Makes, tabled}
 use Rattle.linetable.specs.Steps.{Stands, laid_table, bytes_of}
 use Rattle.line.proofs.Drawn.{Drawn, drawn}
@@ -35,7 +34,7 @@ use Rattle.linetable.proofs.Tabled.{Fair, fair, bytes-long, table-written, rows_
 
 -- ---- a refusal, and a table
 
-pub makes_refused : (x : Refusal) (r : Making) (before after : List ℕ) (rule : Res MadeTable) → r ≡ record { answer = Refused x; rows = rows_laid [] }
+pub makes_refused : (x : Refusal) (r : Making) (before after : List ℕ) (rule : Res MadeTable) → r ≡ record { answer = Err x; rows = rows_laid [] }
     → after ≡ before → rule ≡ said x → Makes r before after rule
 makes_refused x r before after rule e b q = record { answered = rw (e, q); left = rw (e, q); written = rw (b, q) }
 
@@ -46,9 +45,9 @@ no_rows z = rw (z.0, z.1.0, z.1.1.0, z.1.1.1)
 
 -- a refusal with the starts as they came
 tabled-refused : (x : Refusal) (line : Drawing) (starts buffer : List ℕ) (rule : Res MadeTable) → starts ≡ replicate most_frames 0 → rule ≡ said x
-    → Makes (tabled (Refused x) line starts) buffer buffer rule
+    → Makes (tabled (Err x) line starts) buffer buffer rule
 tabled-refused x line starts buffer rule z q =
-    makes_refused x _ buffer buffer rule (ap (λ (rows : Rows). record { answer = Refused x; rows = rows }) (no_rows (refl, (refl, (refl, z))))) refl q
+    makes_refused x _ buffer buffer rule (ap (λ (rows : Rows). record { answer = Err x; rows = rows }) (no_rows (refl, (refl, (refl, z))))) refl q
 
 -- the table at the front is the table stored there
 pub table-stored : (table old : List ℕ) → length table ≤ length old → sets old 0 table ≡ table ++ drop (length table) old
@@ -59,7 +58,7 @@ table-stored table old h =
 pub makes_table : (p : Plan) (placed : List Placed) (n : ℕ) (rows : Rows) (before after : List ℕ) → Fair p placed
     → n ≡ table_length (length (layout_of p).control) (length (layout_of p).pairs) → n ≤ length before
     → rows ≡ rows_laid (made_table (layout_of p) (map alone placed)).rows → after ≡ sets before 0 (table_bytes (layout_of p) (map alone placed))
-    → Makes (record { answer = Made n; rows = rows }) before after (ok (made_table (layout_of p) (map alone placed)))
+    → Makes (record { answer = Ok n; rows = rows }) before after (ok (made_table (layout_of p) (map alone placed)))
 unfolding made_table
 makes_table p placed n rows before after h e room q s =
     let table = table_bytes (layout_of p) (map alone placed) in
@@ -74,7 +73,7 @@ makes_table p placed n rows before after h e room q s =
 
 -- what the rule says of frames that are all placed, and of one that is not
 module _ (l : Layout) where
-  twelve : (k : FrameNo) (rule : Res (List Placed)) → latest_release l ≡ rule → (laid rule).outcome ≡ NotPlaced k → latest_release l ≡ refuse 12 k.0
+  twelve : (k : FrameNo) (rule : Res (List Placed)) → latest_release l ≡ rule → (laid rule).outcome ≡ Err k → latest_release l ≡ refuse 12 k.0
   twelve k (ok placed) e q = let z : ◌≡◌ {A = ℕ} 0 1 = cc in absurd (omega arith)
   twelve k (refuse n f) e q =
       let there : ◌≡◌ {A = FrameNo} (record { 0 = f }) k = cc in
@@ -87,10 +86,10 @@ module _ (l : Layout) where
     pub rule : latest_release l ≡ ok placed
     pub is : placing ≡ laid (ok placed)
 
-  all_of : (rule : Res (List Placed)) (placing : Placing) → latest_release l ≡ rule → placing ≡ laid rule → placing.outcome ≡ All → AllPlaced placing
+  all_of : (rule : Res (List Placed)) (placing : Placing) → latest_release l ≡ rule → placing ≡ laid rule → placing.outcome ≡ Ok tt → AllPlaced placing
   all_of (ok placed) placing e q o = record { placed = placed; rule = e; is = q }
   all_of (refuse n f) placing e q o =
-      let z : NotPlaced (record { 0 = f }) ≡ All = sym (ap (λ (p : Placing). p.outcome) q) ∙ o in
+      let z : ◌≡◌ {A = Result (Unit {0}) FrameNo} (Err (record { 0 = f })) (Ok tt) = sym (ap (λ (p : Placing). p.outcome) q) ∙ o in
       let y : ◌≡◌ {A = ℕ} 0 1 = cc in absurd (omega arith)
 
 -- the latest-release rule over the arrays of a line, from an end on
@@ -134,17 +133,17 @@ module _ (line : Drawing) (s : Stands line) where
         q ∙ ap laid e
 
     -- 12: a frame found no room
-    no_room : (k : FrameNo) (room : ℕ) → placing.outcome ≡ NotPlaced k → laid_table (layout_of s.plan) room ≡ refuse 12 k.0
+    no_room : (k : FrameNo) (room : ℕ) → placing.outcome ≡ Err k → laid_table (layout_of s.plan) room ≡ refuse 12 k.0
     unfolding laid_table
     no_room k room o =
         let t = twelve (layout_of s.plan) k (latest_release (layout_of s.plan)) refl (sym (ap (λ (p : Placing). p.outcome) placing_is) ∙ o) in
         rw t
 
-    pub all_placed : placing.outcome ≡ All → AllPlaced (layout_of s.plan) placing
+    pub all_placed : placing.outcome ≡ Ok tt → AllPlaced (layout_of s.plan) placing
     all_placed o = all_of (layout_of s.plan) (latest_release (layout_of s.plan)) placing refl placing_is o
 
-    pub no_room-made : (k : FrameNo) (starts buffer : List ℕ) → placing.outcome ≡ NotPlaced k → starts ≡ replicate most_frames 0
-        → Makes (tabled (Refused (NoRoom k)) line starts) buffer buffer (laid_table (layout_of s.plan) (length buffer))
+    pub no_room-made : (k : FrameNo) (starts buffer : List ℕ) → placing.outcome ≡ Err k → starts ≡ replicate most_frames 0
+        → Makes (tabled (Err (NoRoom k)) line starts) buffer buffer (laid_table (layout_of s.plan) (length buffer))
     no_room-made k starts buffer o z = tabled-refused (NoRoom k) line starts buffer _ z (no_room k (length buffer) o)
 
   module _ (placing : Placing) (a : AllPlaced (layout_of s.plan) placing) where
@@ -166,7 +165,7 @@ module _ (line : Drawing) (s : Stands line) where
     fits_in room h = rw (a.rule, long, le-leb (table_length line.controls line.frames) room h)
 
     pub short-made : (starts buffer : List ℕ) {n : ℕ} → n ≡ table_length line.controls line.frames → length buffer < n → starts ≡ replicate most_frames 0
-        → Makes (tabled (Refused (BufferTooShort (record { 0 = n }))) line starts) buffer buffer (laid_table (layout_of s.plan) (length buffer))
+        → Makes (tabled (Err (BufferTooShort (record { 0 = n }))) line starts) buffer buffer (laid_table (layout_of s.plan) (length buffer))
     short-made starts buffer {n} e h z =
         tabled-refused (BufferTooShort (record { 0 = n })) line starts buffer _ z
         (too_short (length buffer) (omega arith) ∙ ap (refuse 13) (sym e))
@@ -178,7 +177,7 @@ module _ (line : Drawing) (s : Stands line) where
     pub written-made : (starts before after : List ℕ) {n : ℕ} → n ≡ table_length line.controls line.frames → n ≤ length before
         → after ≡ sets before 0 (bytes_of (line_in line) placing.starts rows)
         → starts ≡ scattered placing.numbers placing.starts line.frames (replicate most_frames 0)
-        → Makes (tabled (Made n) line starts) before after (laid_table (layout_of s.plan) (length before))
+        → Makes (tabled (Ok n) line starts) before after (laid_table (layout_of s.plan) (length before))
     unfolding line_of layout_of pairs made_table bytes_of
     written-made starts before after {n} q room w t =
         let bytes : bytes_of (line_in line) placing.starts rows ≡ table_bytes (layout_of s.plan) (map alone a.placed) =

@@ -12,16 +12,9 @@ ghost use Rattle.linetable.specs.Steps.{Stands, laid_table, bytes_of};
 
 use answers::Refusal;
 use line::Line;
-use placing::{Outcome, Rule};
+use placing::Rule;
 use table::write::table_length;
 use units::{ByteCount, Frame};
-
-#[derive(Clone, Copy)]
-pub enum Answer {
-    // The length of the table at the front of the buffer.
-    Made(usize),
-    Refused(Refusal),
-}
 
 // Writes the table of frames that are placed to the front of the buffer. The numbers of the frames and their starts stand by start.
 fn write_placed<'a>(
@@ -66,7 +59,7 @@ fn write_placed<'a>(
     );
 }
 
-// Refusals 12 and 13 of a line, and its table. The starts by frame number go into `starts`, zeros before, which stay where it refuses.
+// Refusals 12 and 13 of a line, and its table; the length of the table at the front of the buffer. The starts by frame number go into `starts`, zeros before, which stay where it refuses.
 pub fn placed_table<'a>(
     line: Line,
     tasks: &'a [u8; Frame::MOST],
@@ -74,7 +67,7 @@ pub fn placed_table<'a>(
     deadlines: &'a [u32; Frame::MOST],
     starts: &mut [u32; Frame::MOST],
     buf: &mut [u8],
-) -> Answer
+) -> Result<usize, Refusal>
     requires stands { Stands (drawing line tasks.now releases.now deadlines.now) }
     requires starts_value { starts.old ≡ replicate most_frames 0 }
     ensures { (s : Stands (drawing line tasks.now releases.now deadlines.now)) → Makes (tabled result (drawing line tasks.now releases.now deadlines.now) starts.new) buf.old buf.new (laid_table (layout_of s.plan) (length buf.old)) }
@@ -97,16 +90,14 @@ pub fn placed_table<'a>(
         &mut numbers,
         &mut by_start,
     );
-    match outcome {
-        Outcome::All => {
-            let needed = table_length(line.controls, line.frames);
-            if buf.len() < needed {
-                return Answer::Refused(Refusal::BufferTooShort(ByteCount(needed as u32)));
-            }
-            write_placed(&mut *buf, line, tasks, deadlines, &numbers, &by_start);
-            rows::starts_by_number(&numbers, &by_start, line.frames, starts);
-            Answer::Made(needed)
-        }
-        Outcome::Refused(number) => Answer::Refused(Refusal::NoRoom(number)),
+    if let Err(frame) = outcome {
+        return Err(Refusal::NoRoom(frame));
     }
+    let needed = table_length(line.controls, line.frames);
+    if buf.len() < needed {
+        return Err(Refusal::BufferTooShort(ByteCount(needed as u32)));
+    }
+    write_placed(&mut *buf, line, tasks, deadlines, &numbers, &by_start);
+    rows::starts_by_number(&numbers, &by_start, line.frames, starts);
+    Ok(needed)
 }

@@ -2,7 +2,7 @@
 // as 0, and is not stored.
 #![tactic(auto)]
 
-ghost use Rattle.std.specs.Prelude.{◌≡◌, ◌+◌, ◌*◌, ◌≤◌, leb, length, get_or, take, drop, set};
+ghost use Rattle.std.specs.Prelude.{◌≡◌, ◌+◌, ◌≤◌, leb, length, get_or, take, drop, set};
 ghost use Rattle.std.proofs.lemmas.List.Edits.{sets};
 ghost use Rattle.laws.specs.Numbers.{number, bytes};
 
@@ -10,12 +10,17 @@ ghost use Rattle.laws.specs.Numbers.{number, bytes};
 fn byte(s: &[u8], at: usize, k: usize) -> u8
     ensures { result ≡ get_or s.now (at + k) 0 }
 {
-    if at < s.len() {
-        if k < s.len() - at {
-            return s[at + k];
-        }
+    match at.checked_add(k) {
+        Some(place) => s.get(place).copied().unwrap_or(0),
+        None => 0,
     }
-    0
+}
+
+// Whether n bytes stand at a place: those are read, and stored, without a test for each.
+fn holds(s: &[u8], at: usize, n: usize) -> bool
+    ensures { result ≡ leb (at + n) (length s.now) }
+{
+    n <= s.len() && at <= s.len() - n
 }
 
 pub fn read8(s: &[u8], at: usize) -> u8
@@ -24,56 +29,43 @@ pub fn read8(s: &[u8], at: usize) -> u8
     byte(s, at, 0)
 }
 
-fn two(low: u8, high: u8) -> u16
-    ensures { result ≡ low + 256 * high }
-{
-    (low as u16) + 256 * (high as u16)
-}
-
-fn four(a: u8, b: u8, c: u8, d: u8) -> u32
-    ensures { result ≡ a + 256 * (b + 256 * (c + 256 * d)) }
-{
-    (a as u32) + 256 * ((b as u32) + 256 * ((c as u32) + 256 * (d as u32)))
-}
-
-// Whether n bytes stand at a place: those are read without a test for each.
-fn holds(s: &[u8], at: usize, n: usize) -> bool
-    ensures { result ≡ leb (at + n) (length s.now) }
-{
-    let end = s.len();
-    if n <= end { at <= end - n } else { false }
-}
-
 pub fn read16(s: &[u8], at: usize) -> u16
     ensures { result ≡ number (take 2 (drop at s.now)) }
 {
-    if holds(s, at, 2) {
-        return two(s[at], s[at + 1]);
-    }
-    two(byte(s, at, 0), byte(s, at, 1))
+    u16::from_le_bytes([byte(s, at, 0), byte(s, at, 1)])
 }
 
 pub fn read32(s: &[u8], at: usize) -> u32
     ensures { result ≡ number (take 4 (drop at s.now)) }
 {
     if holds(s, at, 4) {
-        return four(s[at], s[at + 1], s[at + 2], s[at + 3]);
+        return u32::from_le_bytes([s[at], s[at + 1], s[at + 2], s[at + 3]]);
     }
-    four(
+    u32::from_le_bytes([
         byte(s, at, 0),
         byte(s, at, 1),
         byte(s, at, 2),
         byte(s, at, 3),
-    )
+    ])
 }
 
 // Stores a byte `k` places behind `at`.
 fn store(buf: &mut [u8], at: usize, k: usize, x: u8)
     ensures { buf.new ≡ set buf.old (at + k) x }
 {
-    if at < buf.len() {
-        if k < buf.len() - at {
-            buf[at + k] = x;
+    if at < buf.len() && k < buf.len() - at {
+        buf[at + k] = x;
+    }
+}
+
+fn put(buf: &mut [u8], at: usize, bytes: &[u8])
+    ensures { buf.new ≡ sets buf.old at bytes.now }
+{
+    if holds(buf, at, bytes.len()) {
+        buf[at..at + bytes.len()].copy_from_slice(bytes);
+    } else {
+        for (k, byte) in bytes.iter().enumerate() {
+            store(buf, at, k, *byte);
         }
     }
 }
@@ -81,44 +73,17 @@ fn store(buf: &mut [u8], at: usize, k: usize, x: u8)
 pub fn put8(buf: &mut [u8], at: usize, x: u8)
     ensures { buf.new ≡ sets buf.old at (bytes 1 x) }
 {
-    store(buf, at, 0, x);
+    put(buf, at, &[x]);
 }
 
 pub fn put16(buf: &mut [u8], at: usize, x: u16)
     ensures { buf.new ≡ sets buf.old at (bytes 2 x) }
 {
-    store(buf, at, 0, (x % 256) as u8);
-    store(buf, at, 1, (x / 256 % 256) as u8);
-}
-
-// Four bytes that all have a place: the compiler stores them at once.
-fn put_whole(buf: &mut [u8], at: usize, x: u32)
-    requires { at + 4 ≤ length buf.old }
-    ensures { buf.new ≡ sets buf.old at (bytes 4 x) }
-{
-    buf[at] = (x % 256) as u8;
-    buf[at + 1] = (x / 256 % 256) as u8;
-    buf[at + 2] = (x / 256 / 256 % 256) as u8;
-    buf[at + 3] = (x / 256 / 256 / 256 % 256) as u8;
-}
-
-fn put_each(buf: &mut [u8], at: usize, x: u32)
-    ensures { buf.new ≡ sets buf.old at (bytes 4 x) }
-{
-    store(buf, at, 0, (x % 256) as u8);
-    store(buf, at, 1, (x / 256 % 256) as u8);
-    store(buf, at, 2, (x / 256 / 256 % 256) as u8);
-    store(buf, at, 3, (x / 256 / 256 / 256 % 256) as u8);
+    put(buf, at, &u16::to_le_bytes(x));
 }
 
 pub fn put32(buf: &mut [u8], at: usize, x: u32)
     ensures { buf.new ≡ sets buf.old at (bytes 4 x) }
 {
-    if 4 <= buf.len() {
-        if at <= buf.len() - 4 {
-            put_whole(buf, at, x);
-            return;
-        }
-    }
-    put_each(buf, at, x);
+    put(buf, at, &u32::to_le_bytes(x));
 }

@@ -16,14 +16,13 @@ use Rattle.rules.specs.Checker.{check}
 use Rattle.rules.proofs.LaidOut.{laid_out}
 use Rattle.rules.proofs.MadePasses.{table-made, made_checked}
 use Rattle.answers.specs.declared.Refusal.{Refusal}
-use Rattle.answers.specs.Refusals.{said, heard}
-use Rattle.line.specs.declared.Laid.{Laid}
-use Rattle.answers.specs.declared.Verdict.TheVariants.{Fine, Refused as LineRefused}
+use Rattle.answers.specs.Refusals.{said}
+use Rattle.std.specs.Prelude.{Result, Ok, Err}
+use Rattle.line.specs.declared.Line.{Line}
 use Rattle.line.specs.Line.{Drawing, drawing, no_line, line_of, line_for}
-use Rattle.line.specs.Laying.{Lays, laid, file_laid, verdict}
+use Rattle.line.specs.Laying.{Lays, laid, file_laid, verdict, heard_line, line_beside}
 use Rattle.rows.specs.Rows.{Rows}
 use Rattle.rows.specs.Frames.{NoRows}
-use Rattle.linetable.specs.declared.Answer.TheVariants.{Refused}
 use Rattle.linetable.specs.Making.{Making, Makes, heard_made, length_of, buffer_left}
 use Rattle.linetable.specs.Steps.{Stands, laid_table}
 use Rattle.linetable.proofs.Ways.{makes_refused, no_rows}
@@ -58,16 +57,16 @@ module _ (edition : ℕ) (plan : List ℕ) (lent room : ℕ) where
   unfolding table_for laid_table
   file-laid p l q r = rw (q, r)
 
-  module _ (enough : most_frames ≤ lent) (known : edition ≤ 1) (r : Laid) {tasks releases deadlines : List ℕ} (h : Lays r tasks releases deadlines (file_laid (for_consumers edition) plan)) where
+  module _ (enough : most_frames ≤ lent) (known : edition ≤ 1) (r : Result Line Refusal) {tasks releases deadlines : List ℕ} (h : Lays r tasks releases deadlines (file_laid (for_consumers edition) plan)) where
     -- the rules refuse the plan for the same reason, and no frames were left
     pub record RefusedFor (why : Refusal) : Type 0 where
       pub rule : lent_for edition plan lent room ≡ said why
-      pub frames : drawing r.line tasks releases deadlines ≡ no_line
+      pub frames : drawing (line_beside r) tasks releases deadlines ≡ no_line
 
-    pub plan-refused : (why : Refusal) → r.answer ≡ LineRefused why → RefusedFor why
-    plan-refused why e = go (file_laid (for_consumers edition) plan) refl (sym (ap heard e) ∙ h.answered) h.left
+    pub plan-refused : (why : Refusal) → r ≡ Err why → RefusedFor why
+    plan-refused why e = go (file_laid (for_consumers edition) plan) refl (sym (ap heard_line e) ∙ h.answered) h.left
       where
-        go : (rule : Res Plan) → file_laid (for_consumers edition) plan ≡ rule → said why ≡ verdict rule → drawing r.line tasks releases deadlines ≡ line_for rule → RefusedFor why
+        go : (rule : Res Plan) → file_laid (for_consumers edition) plan ≡ rule → said why ≡ verdict rule → drawing (line_beside r) tasks releases deadlines ≡ line_for rule → RefusedFor why
         go (ok a) q v w = refuse≢ok v
         go (refuse n p) q v w =
             record {
@@ -75,15 +74,15 @@ module _ (edition : ℕ) (plan : List ℕ) (lent room : ℕ) where
               frames = w;
             }
 
-    pub record StandsFor : Type 0 where
-      pub stands : Stands (drawing r.line tasks releases deadlines)
+    pub record StandsFor (l : Line) : Type 0 where
+      pub stands : Stands (drawing l tasks releases deadlines)
       pub rule : lent_for edition plan lent room ≡ laid_table (layout_of stands.plan) room
 
-    pub plan-sound : r.answer ≡ Fine → StandsFor
+    pub plan-sound : {l : Line} → r ≡ Ok l → StandsFor l
     unfolding file_laid laid
-    plan-sound e = go (file_laid (for_consumers edition) plan) refl (sym (ap heard e) ∙ h.answered) h.left
+    plan-sound {l} e = go (file_laid (for_consumers edition) plan) refl (sym (ap heard_line e) ∙ h.answered) (rw e at h.left)
       where
-        go : (rule : Res Plan) → file_laid (for_consumers edition) plan ≡ rule → ok tt ≡ verdict rule → drawing r.line tasks releases deadlines ≡ line_for rule → StandsFor
+        go : (rule : Res Plan) → file_laid (for_consumers edition) plan ≡ rule → ok tt ≡ verdict rule → drawing l tasks releases deadlines ≡ line_for rule → StandsFor l
         go (ok a) q v w =
             bind_case (read_in (for_consumers edition) plan) laid q λ p is_read x.
             then_case (layout p) (ok p) x λ l y same.
@@ -119,14 +118,14 @@ module _ (edition : ℕ) (plan : List ℕ) (lent : ℕ) where
   made-says r before after m = (m, made-table-passes edition plan lent r before after m)
 
   -- a refusal leaves zeros in the arrays
-  pub refused-made : (why : Refusal) (r : MadeRows) (buffer : List ℕ) {tasks releases deadlines starts : List ℕ} → r ≡ record { answer = Refused why; frames = 0 }
+  pub refused-made : (why : Refusal) (r : MadeRows) (buffer : List ℕ) {tasks releases deadlines starts : List ℕ} → r ≡ record { answer = Err why; frames = 0 }
       → NoRows tasks releases deadlines starts → lent_for edition plan lent (length buffer) ≡ said why
       → Makes (making r tasks releases deadlines starts) buffer buffer (lent_for edition plan lent (length buffer)) × PassesCheck plan r.answer buffer
   refused-made why r buffer e z q =
       made-says _ buffer buffer
-      (makes_refused why _ buffer buffer _ (rw e (ap (λ (rows : Rows). record { answer = Refused why; rows = rows }) (no_rows z))) refl q)
+      (makes_refused why _ buffer buffer _ (rw e (ap (λ (rows : Rows). record { answer = Err why; rows = rows }) (no_rows z))) refl q)
 
-  module _ {enough : most_frames ≤ lent} {known : edition ≤ 1} (laid : Laid) {tasks releases deadlines : List ℕ} {h : Lays laid tasks releases deadlines (file_laid (for_consumers edition) plan)} where
+  module _ {enough : most_frames ≤ lent} {known : edition ≤ 1} (laid : Result Line Refusal) {tasks releases deadlines : List ℕ} {h : Lays laid tasks releases deadlines (file_laid (for_consumers edition) plan)} where
     -- where the plan is refused, the frames are none, so that the arrays are zeros as the starts are
     pub none_left : {room : ℕ} {why : Refusal} {starts : List ℕ} → RefusedFor edition plan lent room enough known laid h why → starts ≡ replicate most_frames 0
         → NoRows tasks releases deadlines starts
@@ -134,7 +133,7 @@ module _ (edition : ℕ) (plan : List ℕ) (lent : ℕ) where
     none_left f z =
         (ap (λ (d : Drawing). d.tasks) f.frames, (ap (λ (d : Drawing). d.releases) f.frames, (ap (λ (d : Drawing). d.deadlines) f.frames, z)))
 
-    pub placed-made : (r : Making) (before after : List ℕ) (f : StandsFor edition plan lent (length before) enough known laid h)
-        → ((s : Stands (drawing laid.line tasks releases deadlines)) → Makes r before after (laid_table (layout_of s.plan) (length before)))
+    pub placed-made : (r : Making) (before after : List ℕ) {l : Line} (f : StandsFor edition plan lent (length before) enough known laid h l)
+        → ((s : Stands (drawing l tasks releases deadlines)) → Makes r before after (laid_table (layout_of s.plan) (length before)))
         → Makes r before after (lent_for edition plan lent (length before)) × PassesCheck plan r.answer after
     placed-made r before after f m = made-says r before after (rw f.rule (m f.stands))

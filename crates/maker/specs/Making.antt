@@ -1,12 +1,11 @@
 -- What making a table answers, and what it leaves of the rows and of the lent buffer.
-use Rattle.std.specs.Prelude.{◌≡◌, Bool, List, eqb, leb, ltb, length, take, ℕ, ◌≤◌}
+use Rattle.std.specs.Prelude.{◌≡◌, Result, Ok, Bool, List, eqb, leb, ltb, length, take, ℕ, ◌≤◌}
 use Rattle.laws.specs.Res.{Res, ok, ◌>>◌, unless}
 use Rattle.rules.specs.Limits.{most_frames}
 use Rattle.rules.specs.Table.{FrameRow, MadeTable, table_for}
 use Rattle.rules.specs.Checker.{check}
 use Rattle.rows.specs.Frames.{rows_with}
-use Rattle.linetable.specs.declared.Answer.{Answer}
-use Rattle.linetable.specs.declared.Answer.TheVariants.{Made}
+use Rattle.answers.specs.declared.Refusal.{Refusal}
 use Rattle.linetable.specs.Making.{Making}
 use Rattle.maker.specs.declared.MadeRows.{MadeRows}
 
@@ -29,6 +28,6 @@ lent_for edition plan lent room = do
   table_for (for_consumers edition) plan room
 
 -- A made table passes the checker, whatever rows of the right number are lent to it.
-unfoldable pub PassesCheck : List ℕ → Answer → List ℕ → Type 0
+unfoldable pub PassesCheck : List ℕ → Result ℕ Refusal → List ℕ → Type 0
 PassesCheck plan answer buffer =
-    (n : ℕ) → answer ≡ Made n → (rows : List FrameRow) → most_frames ≤ length rows → (check plan (take n buffer) rows).answer ≡ ok tt
+    (n : ℕ) → answer ≡ Ok n → (rows : List FrameRow) → most_frames ≤ length rows → (check plan (take n buffer) rows).answer ≡ ok tt

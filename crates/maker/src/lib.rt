@@ -1,19 +1,18 @@
 // The whole of making a table: from a plan file to the table in a lent buffer, with the frame rows in arrays that are lent.
 #![tactic(auto)]
 
-ghost use Rattle.std.specs.Prelude.{◌≡◌, length, replicate, true};
+ghost use Rattle.std.specs.Prelude.{◌≡◌, Err, length, replicate, true};
 ghost use Rattle.rules.specs.Limits.{most_frames};
 ghost use Rattle.rules.specs.Frames.{layout_of};
 ghost use Rattle.line.specs.Line.{drawing};
 ghost use Rattle.rows.specs.Frames.{NoRows};
-ghost use Rattle.linetable.specs.declared.Answer.TheVariants.{Refused};
 ghost use Rattle.linetable.specs.Making.{Makes};
 ghost use Rattle.linetable.specs.Steps.{Stands, laid_table};
 ghost use Rattle.maker.specs.Making.{PassesCheck, is_edition, for_consumers, lent_for, making};
 
-use answers::{Refusal, Verdict};
+use answers::Refusal;
 use line::Line;
-use linetable::{Answer, placed_table};
+use linetable::placed_table;
 use units::Frame;
 
 // Editions by number: every message is sent, or only what a consumer reads.
@@ -30,15 +29,15 @@ pub fn edition_of(consumers: bool) -> u8
 // What making a table comes to, and how many frames stand in the lent arrays: none where the plan is refused.
 #[derive(Clone, Copy)]
 pub struct MadeRows {
-    pub answer: Answer,
+    pub answer: Result<usize, Refusal>,
     pub frames: usize,
 }
 
 fn refused(why: Refusal) -> MadeRows
-    ensures { result ≡ record { answer = Refused why; frames = 0 } }
+    ensures { result ≡ record { answer = Err why; frames = 0 } }
 {
     MadeRows {
-        answer: Answer::Refused(why),
+        answer: Err(why),
         frames: 0,
     }
 }
@@ -58,11 +57,11 @@ fn made_of(
 {
     let answer = placed_table(line, tasks, releases, deadlines, starts, &mut *buf);
     match answer {
-        Answer::Made(length) => MadeRows {
-            answer: Answer::Made(length),
+        Ok(_) => MadeRows {
+            answer,
             frames: line.frames,
         },
-        Answer::Refused(why) => {
+        Err(why) => {
             *tasks = [0; Frame::MOST];
             *releases = [0; Frame::MOST];
             *deadlines = [0; Frame::MOST];
@@ -93,10 +92,9 @@ pub fn made_in(
         return refused(Refusal::NoEdition(edition));
     }
     let laid = line::lay_out(plan, edition == CONSUMERS, tasks, releases, deadlines);
-    let answer = laid.answer;
-    match answer {
-        Verdict::Fine => made_of(laid.line, &mut *buf, tasks, releases, deadlines, starts),
-        Verdict::Refused(why) => refused(why),
+    match laid {
+        Ok(line) => made_of(line, &mut *buf, tasks, releases, deadlines, starts),
+        Err(why) => refused(why),
     }
 }
 

@@ -1,6 +1,9 @@
 -- How a program ends: the number that it gives back to whoever called it.
-use Rattle.std.specs.Prelude.{Bool, true, false, ℤ, pos, ◌≡◌, ℕ}
+use Rattle.std.specs.Prelude.{Bool, true, false, ℕ, Result, Ok, Err}
 use Rattle.laws.specs.Res.{Res, ok, refuse}
+use Rattle.manners.specs.declared.Failed.{Failed}
+use Rattle.manners.specs.declared.Status.{Status}
+use Rattle.manners.specs.declared.Status.TheVariants.{Done, Refused}
 
 -- a result was written
 abbrev pub done : ℕ
@@ -19,7 +22,12 @@ abbrev pub unless_long_status : Bool → ℕ → ℕ
 unless_long_status true status = status
 unless_long_status false status = refused
 
--- A status passes through a write: it stays, or becomes 2 where the write failed.
-pub data Passes (status : ℤ) : ℤ → Type 0 where
-  stays : Passes status status
-  failed : Passes status (pos 2)
+-- the number of each way to end with an answer
+abbrev pub number_of : Status → ℕ
+number_of Done = done
+number_of Refused = refused
+
+-- 2 where there was none
+abbrev pub ending_of : Result Status Failed → ℕ
+ending_of (Ok status) = number_of status
+ending_of (Err failed) = 2

@@ -1,5 +1,5 @@
 // The arguments of a program: `--help`, `--version`, options, and the number of the files.
-use crate::{DONE, FAILED, Start, argument, fail};
+use crate::{Failed, Status, argument, fail};
 use std::env::FillError;
 use std::io::{Print, Stderr, Stdout};
 use std::rt::Env;
@@ -14,7 +14,7 @@ pub fn is_argument(rt: HostRuntime, i: usize, word: &[u8]) -> bool {
 }
 
 // Whether there is an argument i, of whatever length.
-fn is_there(rt: HostRuntime, i: usize) -> bool {
+pub fn has_argument(rt: HostRuntime, i: usize) -> bool {
     let mut room = [0u8; 1];
     match rt.arg(i, &mut room) {
         Ok(_) => true,
@@ -25,22 +25,13 @@ fn is_there(rt: HostRuntime, i: usize) -> bool {
 
 // How many arguments there are, with the program's own name.
 fn argument_count(rt: HostRuntime) -> usize {
-    for i in 0..usize::MAX {
-        if !is_there(rt, i) {
-            return i;
-        }
-    }
-    usize::MAX
+    (0..usize::MAX)
+        .find(|i| !has_argument(rt, *i))
+        .unwrap_or(usize::MAX)
 }
 
 fn any_argument(rt: HostRuntime, word: &[u8]) -> bool {
-    let count = argument_count(rt);
-    for i in 1..count {
-        if is_argument(rt, i, word) {
-            return true;
-        }
-    }
-    false
+    (1..argument_count(rt)).any(|i| is_argument(rt, i, word))
 }
 
 // Whether argument i begins with `-`.
@@ -48,16 +39,6 @@ fn is_option(rt: HostRuntime, i: usize) -> bool {
     let mut room = io::buffer();
     argument(rt, i, &mut room);
     room[0] == b'-'
-}
-
-// The first argument from `first` on that begins with `-`, or `count`.
-fn option_from(rt: HostRuntime, first: usize, count: usize) -> usize {
-    for i in first..count {
-        if is_option(rt, i) {
-            return i;
-        }
-    }
-    count
 }
 
 fn write_usage<P: Print>(to: &P, usage: &[u8]) -> std::io::Result<()> {
@@ -80,12 +61,12 @@ fn put_version(to: &Stdout, name: &[u8]) -> std::io::Result<()> {
 }
 
 // How a program ends that has written so to standard output.
-fn ended(rt: HostRuntime, name: &[u8], written: std::io::Result<()>) -> i32 {
+fn ended(rt: HostRuntime, name: &[u8], written: std::io::Result<()>) -> Result<Status, Failed> {
     match written {
-        Ok(()) => DONE,
+        Ok(()) => Ok(Status::Done),
         Err(why) => {
             fail(rt, name, b"standard output", &why);
-            FAILED
+            Err(Failed)
         }
     }
 }
@@ -104,20 +85,21 @@ fn put_complaint(
     write_usage(to, usage)
 }
 
-fn complain(rt: HostRuntime, name: &[u8], what: &[u8], word: &[u8], usage: &[u8]) -> i32 {
+fn complain(rt: HostRuntime, name: &[u8], what: &[u8], word: &[u8], usage: &[u8]) -> Failed {
     let _ = put_complaint(&rt.stderr(), name, what, word, usage);
-    FAILED
+    Failed
 }
 
-fn unknown_option(rt: HostRuntime, name: &[u8], i: usize, usage: &[u8]) -> i32 {
+fn unknown_option(rt: HostRuntime, name: &[u8], i: usize, usage: &[u8]) -> Failed {
     let mut word = io::buffer();
     let length = argument(rt, i, &mut word);
     complain(rt, name, b": unknown option ", &word[..length], usage)
 }
 
-// The first look at the arguments. `--help` anywhere writes usage and help, `--version` anywhere name and version. Behind the options that
-// the program knows itself, from argument `first` on, stand so many names of files, none of which begins with `-`; anything else is wrong
-// usage. `usage` is a line without its end, `help` whole lines.
+// The first look at the arguments: how the program ends that has said all there is to say, or nothing, where it has work to do. `--help`
+// anywhere writes usage and help, `--version` anywhere name and version. Behind the options that the program knows itself, from argument
+// `first` on, stand so many names of files, none of which begins with `-`; anything else is wrong usage. `usage` is a line without its end,
+// `help` whole lines.
 pub fn opening(
     rt: HostRuntime,
     name: &[u8],
@@ -125,26 +107,22 @@ pub fn opening(
     help: &[u8],
     first: usize,
     files: usize,
-) -> Start {
+) -> Option<Result<Status, Failed>> {
     if any_argument(rt, b"--help") {
-        return Start::Ends(ended(rt, name, put_help(&rt.stdout(), usage, help)));
+        return Some(ended(rt, name, put_help(&rt.stdout(), usage, help)));
     }
     if any_argument(rt, b"--version") {
-        return Start::Ends(ended(rt, name, put_version(&rt.stdout(), name)));
+        return Some(ended(rt, name, put_version(&rt.stdout(), name)));
     }
     let count = argument_count(rt);
-    let option = option_from(rt, first, count);
-    if option < count {
-        return Start::Ends(unknown_option(rt, name, option, usage));
+    if let Some(option) = (first..count).find(|i| is_option(rt, *i)) {
+        return Some(Err(unknown_option(rt, name, option, usage)));
     }
-    if count < first {
-        return Start::Ends(complain(rt, name, b": too few arguments", b"", usage));
-    }
-    if count - first < files {
-        return Start::Ends(complain(rt, name, b": too few arguments", b"", usage));
+    if count < first || count - first < files {
+        return Some(Err(complain(rt, name, b": too few arguments", b"", usage)));
     }
     if count - first > files {
-        return Start::Ends(complain(rt, name, b": too many arguments", b"", usage));
+        return Some(Err(complain(rt, name, b": too many arguments", b"", usage)));
     }
-    Start::Works
+    None
 }

@@ -2,91 +2,88 @@
 // it ends with. Nothing here says which bytes were read or written: no contract can.
 #![tactic(auto)]
 
-ghost use Rattle.std.specs.Prelude.{length, ◌++◌, ◌≡◌, ◌+◌, ◌≤◌};
+ghost use Rattle.std.specs.Prelude.{length, ◌++◌, ◌≡◌, ◌+◌, ◌≤◌, IfOk};
+ghost use Rattle.std.specs.Process.{exit_status};
 ghost use Rattle.std.proofs.lemmas.List.Edits.{sets};
 ghost use Rattle.io.specs.Counts.{IsPrefixLen};
 ghost use Rattle.text.specs.Text.{line_feed};
-ghost use Rattle.manners.specs.Status.{Passes};
+ghost use Rattle.manners.specs.Status.{done, ending_of, number_of, refused};
 
 use std::io::{Print, Write};
+use std::process::ExitCode;
 use std::rt::Env;
 
 mod arguments;
 
-pub use arguments::{is_argument, opening};
+pub use arguments::{has_argument, is_argument, opening};
 
-// A result was written.
-pub const DONE: i32 = 0;
-
-// A refusal, or that a file is too long or cannot be understood.
-pub const REFUSED: i32 = 1;
+// How a program ends that has answered.
+#[derive(Clone, Copy, PartialEq, Eq)]
+pub enum Status {
+    // A result was written.
+    Done,
+    // A refusal, or that a file is too long or cannot be understood.
+    Refused,
+}
 
 // Wrong usage, a file that cannot be read, or a write that failed; standard error has been told which.
-pub const FAILED: i32 = 2;
+#[derive(Clone, Copy, PartialEq, Eq)]
+pub struct Failed;
 
-// What a program answers: the length of what it writes, and how it ends. `status` is DONE or REFUSED, as a number without sign.
+// What a program ends with, for whoever called it.
+pub fn exit_code(ended: Result<Status, Failed>) -> ExitCode
+    ensures { exit_status result ≡ ending_of ended }
+{
+    let number: u8 = match ended {
+        Ok(Status::Done) => 0,
+        Ok(Status::Refused) => 1,
+        Err(Failed) => 2,
+    };
+    ExitCode::from(number)
+}
+
+// What a program answers: the length of what it writes, and how it ends.
 #[derive(Clone, Copy)]
 pub struct Response {
     pub length: usize,
-    pub status: u8,
+    pub status: Status,
 }
 
 impl Response {
     pub fn done(n: usize) -> Response
-        ensures { (result.length ≡ n) × (result.status ≡ 0) }
+        ensures { (result.length ≡ n) × (number_of result.status ≡ done) }
     {
         Response {
             length: n,
-            status: 0,
+            status: Status::Done,
         }
     }
 
     pub fn refused(n: usize) -> Response
-        ensures { (result.length ≡ n) × (result.status ≡ 1) }
+        ensures { (result.length ≡ n) × (number_of result.status ≡ refused) }
     {
         Response {
             length: n,
-            status: 1,
+            status: Status::Refused,
         }
     }
-}
-
-#[derive(Clone, Copy)]
-pub enum Start {
-    Works,
-    // The program has said all that there is to say.
-    Ends(i32),
-}
-
-// Where a part of a path begins that `start` is the beginning of, once its next byte is seen.
-fn part_start(start: usize, byte: u8, next: usize) -> usize
-    requires { start ≤ next }
-    ensures { result ≤ next }
-{
-    if byte == b'/' { next } else { start }
 }
 
 // Where the last part of a path begins: behind its last `/`.
 fn behind_slash(path: &[u8]) -> usize
     ensures { result ≤ length path.now }
 {
-    let mut start = 0;
-    let mut i = 0;
-    while i < path.len() {
-        start = part_start(start, path[i], i + 1);
-        i += 1;
+    match path.iter().rposition(|byte| *byte == b'/') {
+        Some(slash) => slash + 1,
+        None => 0,
     }
-    start
 }
 
 // An argument at the front of `word`; its length, or 0 where there is none or it does not fit.
 pub fn argument(rt: HostRuntime, i: usize, word: &mut [u8]) -> usize
     ensures { IsPrefixLen result word.new }
 {
-    match rt.arg(i, &mut *word) {
-        Ok(length) => length,
-        Err(_) => 0,
-    }
+    rt.arg(i, &mut *word).unwrap_or(0)
 }
 
 // The program's own name at the front of `name`, as it was called but without folders; its length, or 0 where it does not fit.
@@ -116,20 +113,19 @@ fn put_why(why: &std::io::Error, out: &mut [u8; 320]) -> usize
 {
     let mut rest: &mut [u8] = out;
     let _ = write!(rest, "{why}");
-    let left = rest.len();
-    if left <= 320 { 320 - left } else { 0 }
+    320usize.saturating_sub(rest.len())
 }
+
+// Stands in front of the number of an error.
+const NUMBER_MARK: &[u8] = b" (os error ";
 
 // Where the number of an error begins, behind what is said of it; all of the text where it has none.
 fn number_start(text: &[u8]) -> usize
     ensures { result ≤ length text.now }
 {
-    for (i, _byte) in text.iter().enumerate() {
-        if text[i..].starts_with(b" (os error ") {
-            return i;
-        }
-    }
-    text.len()
+    text.windows(NUMBER_MARK.len())
+        .position(|part| part == NUMBER_MARK)
+        .unwrap_or(text.len())
 }
 
 // Tells standard error what failed, and why.
@@ -146,17 +142,17 @@ pub fn fail(rt: HostRuntime, name: &[u8], what: &[u8], why: &std::io::Error) {
     let _ = error.write_all(b"\n");
 }
 
-// Writes the answer to standard output. The status that was given, or FAILED.
-pub fn write_out(rt: HostRuntime, answer: &[u8], status: i32) -> i32
-    ensures { Passes status result }
+// Writes the answer to standard output; the status that was given, where it was written.
+pub fn write_out(rt: HostRuntime, answer: &[u8], status: Status) -> Result<Status, Failed>
+    ensures { IfOk result (λ ended. ended ≡ status) }
 {
     let mut name = io::buffer();
     let named = own_name(rt, &mut name);
     match rt.stdout().write_all(answer) {
-        Ok(()) => status,
+        Ok(()) => Ok(status),
         Err(why) => {
             fail(rt, &name[..named], b"standard output", &why);
-            FAILED
+            Err(Failed)
         }
     }
 }

@@ -95,14 +95,6 @@ pub record Bracket (tasks deadlines : List ℕ) (frames wanted low high : ℕ) :
   pub above : (j : ℕ) → high ≤ j → j < frames → wanted ≤ key_at tasks deadlines j
 
 module _ (tasks deadlines : List ℕ) (frames wanted : ℕ) where
-  pub bracket_start : Bracket tasks deadlines frames wanted 0 frames
-  bracket_start =
-      record { ordered = omega arith; within = omega arith; below = λ j h. absurd (omega arith); above = λ j h w. absurd (omega arith) }
-
-  pub bracket_end : (low high : ℕ) → Bracket tasks deadlines frames wanted low high → high ≤ low → Parted tasks deadlines frames wanted low
-  bracket_end low high b h =
-      record { within = omega (arith, b.ordered, b.within); below = b.below; above = λ j v w. b.above j (omega arith) w }
-
   module _ (n : Numbered tasks deadlines frames) (low high middle : ℕ) (b : Bracket tasks deadlines frames wanted low high)
       (above : low ≤ middle) (below : middle < high) where
     pub bracket_up : key_at tasks deadlines middle < wanted → Bracket tasks deadlines frames wanted (middle + 1) high

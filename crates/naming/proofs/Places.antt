@@ -15,9 +15,9 @@ use Rattle.rules.specs.Limits.{most_frames}
 use Rattle.laws.specs.Lists.{any, first_bad, tab, up_to}
 use Rattle.laws.proofs.Lists.{any-up_to_more}
 use Rattle.laws.proofs.Loops.{first_bad-up_to_hit}
-use Rattle.places.specs.declared.Found.TheVariants.{At, Nothing}
+use Rattle.std.specs.Prelude.{Some, None}
 use Rattle.naming.specs.Places.{place_from, marks, is_new, spread, before_in}
-use Rattle.places.specs.Found.{found_of}
+use Rattle.places.specs.Spot.{spot_of}
 
 -- ---- the first place that passes
 
@@ -70,11 +70,11 @@ before_at a d (suc k) n = let e : suc k - 1 ≡ k = omega arith in rw e
 -- ---- scans
 
 module _ (p : ℕ → Bool) {n k : ℕ} (before : first_bad p (up_to k) ≡ none) where
-  pub scan_hit : k < n → p k ≡ false → At k ≡ found_of (first_bad p (up_to n))
-  scan_hit h e = sym (ap found_of (first_bad-up_to_hit p n k h before e))
+  pub scan_hit : k < n → p k ≡ false → Some k ≡ spot_of (first_bad p (up_to n))
+  scan_hit h e = sym (ap spot_of (first_bad-up_to_hit p n k h before e))
 
-  pub scan_end : n ≤ k → k ≤ n → Nothing ≡ found_of (first_bad p (up_to n))
-  scan_end h w = let e : k ≡ n = omega arith in sym (ap (λ (i : ℕ). found_of (first_bad p (up_to i))) (sym e) ∙ ap found_of before)
+  pub scan_end : n ≤ k → k ≤ n → None ≡ spot_of (first_bad p (up_to n))
+  scan_end h w = let e : k ≡ n = omega arith in sym (ap (λ (i : ℕ). spot_of (first_bad p (up_to i))) (sym e) ∙ ap spot_of before)
 
 -- ---- marks
 

@@ -6,9 +6,8 @@ ghost use Rattle.laws.specs.Lists.{first_bad, up_to};
 ghost use Rattle.laws.specs.Loops.{stores};
 ghost use Rattle.rules.specs.Limits.{most_frames};
 ghost use Rattle.naming.specs.Places.{key_of, Numbered, Parted, has_key, number_of, number_at, is_new, spread};
-ghost use Rattle.places.specs.Found.{found_of};
+ghost use Rattle.places.specs.Spot.{spot_of};
 
-use places::Found;
 use units::{Frame, TaskNo, Ticks};
 
 // A task's number is a byte, so that so many have room below each deadline.
@@ -18,7 +17,7 @@ const BYTES: u64 = 256;
 fn key(deadline: Ticks, task: TaskNo) -> u64
     ensures { result ≡ key_of deadline.0 task.0 }
 {
-    deadline.0 as u64 * BYTES + task.0 as u64
+    u64::from(deadline.0) * BYTES + u64::from(task.0)
 }
 
 // How many frames stand before a key.
@@ -45,6 +44,7 @@ fn before(
 }
 
 // Whether the frame of a number has this key; no frame has a number from `frames` on.
+#[tactic(auto, unfolding(crate::specs::Places::has_key, crate::specs::Places::key_at))]
 fn has_key(
     tasks: &[u8; Frame::MOST],
     deadlines: &[u32; Frame::MOST],
@@ -55,10 +55,7 @@ fn has_key(
     requires { frames ≤ most_frames }
     ensures { result ≡ has_key tasks.now deadlines.now frames wanted k }
 {
-    if k < frames {
-        return key(Ticks(deadlines[k]), TaskNo(tasks[k])) == wanted;
-    }
-    false
+    k < frames && key(Ticks(deadlines[k]), TaskNo(tasks[k])) == wanted
 }
 
 // The number of the frame with this task and deadline, or `frames` where none is. A guess that is right spares the search.
@@ -85,6 +82,7 @@ fn number_of(
 }
 
 // The number of the frame that each row names by its task and its deadline. Most rows stand where their frame does.
+#[tactic(auto, unfolding(crate::specs::Places::number_at))]
 pub fn numbers<'a>(
     tasks: &[u8; Frame::MOST],
     deadlines: &[u32; Frame::MOST],
@@ -99,8 +97,7 @@ pub fn numbers<'a>(
     requires found_value { found.old ≡ replicate most_frames 0 }
     ensures { found.new ≡ stores (replicate most_frames 0) (number_at tasks.now deadlines.now frames row_tasks.now row_deadlines.now) rows }
 {
-    let mut k = 0;
-    while k < rows {
+    for k in 0..rows {
         found[k] = number_of(
             tasks,
             deadlines,
@@ -109,30 +106,24 @@ pub fn numbers<'a>(
             TaskNo(row_tasks[k]),
             Ticks(row_deadlines[k]),
         );
-        k += 1;
     }
 }
 
 // The first row that names no frame, or one that a row before it names.
-pub fn first_unnamed(numbers: &[usize; Frame::MOST], frames: usize, rows: usize) -> Found
+pub fn first_unnamed(numbers: &[usize; Frame::MOST], frames: usize, rows: usize) -> Option<usize>
     requires frames_le_most_frames { frames ≤ most_frames }
     requires rows_le_most_frames { rows ≤ most_frames }
-    ensures { result ≡ found_of (first_bad (is_new numbers.now frames) (up_to rows)) }
+    ensures { result ≡ spot_of (first_bad (is_new numbers.now frames) (up_to rows)) }
 {
     let mut named = [false; Frame::MOST];
-    let mut k = 0;
-    while k < rows {
+    for k in 0..rows {
         let f = numbers[k];
-        if frames <= f {
-            return Found::At(k);
-        }
-        if named[f] {
-            return Found::At(k);
+        if frames <= f || named[f] {
+            return Some(k);
         }
         named[f] = true;
-        k += 1;
     }
-    Found::Nothing
+    None
 }
 
 // The start of each frame, by number.
@@ -146,13 +137,10 @@ pub fn starts_by_frame(
     requires out_value { out.old ≡ replicate most_frames 0 }
     ensures { out.new ≡ spread numbers.now starts.now rows }
 {
-    let mut k = 0;
-    while k < rows {
+    for k in 0..rows {
         let f = numbers[k];
-        let start = starts[k];
-        k += 1;
         if f < Frame::MOST {
-            out[f] = start;
+            out[f] = starts[k];
         }
     }
 }

@@ -1,29 +1,33 @@
--- A beginning's answer, in the numbers that C has, is what the rules say.
-use mathlib.Core.Path.{◌≡◌, sym, ap, ◌∙◌}
+-- A beginning in place is what the rules say: the station begins exactly where nothing is refused.
+use mathlib.Core.Path.{◌≡◌, refl, sym}
 use mathlib.Core.Bool.{true, false}
+use Rattle.std.specs.Prelude.{Result, Ok, Err, is_ok}
 use Rattle.laws.specs.Res.{Res, ok, refuse}
+use Rattle.laws.proofs.Lists.{true-false}
 use Rattle.laws.proofs.Res.{refuse≢ok}
 use Rattle.rules.specs.Station as rules
 use Rattle.starting.specs.declared.Begun as beginning
-use Rattle.beginning.specs.Begins.{Begins}
-use Rattle.answers.specs.Refusals.{heard, said}
+use Rattle.beginning.specs.Begins.{Begins, station_for, verdict}
+use Rattle.answers.specs.Answered.{judged}
 use Rattle.answers.specs.declared.Refusal.{Refusal}
-use Rattle.answers.specs.declared.Verdict.TheVariants.{Fine, Refused}
 use Rattle.station.specs.declared.Station.{Station}
-use Rattle.olbiothar.specs.declared.Begun.{Begun}
-use Rattle.outward.specs.Answers.{answer_of}
-use Rattle.outward.specs.declared.Answer.{Answer}
-use Rattle.olbiothar.specs.Playing.{begun_by}
+use Rattle.olbiothar.specs.Playing.{station_in}
 
-pub begun-fine : (rule : Res rules.Begun) (b : beginning.Begun) {r : Begun} → Begins b rule → b.answer ≡ Fine
-    → r ≡ record { answer = answer_of (ok tt); begins = true; station = b.station } → r ≡ begun_by rule
-begun-fine (ok x) b h e q = q ∙ rw h.left
-begun-fine (refuse n p) b h e q = refuse≢ok (sym h.answered ∙ ap heard e)
+left-begun : (rule : Res rules.Begun) (answer : Result (Unit {0}) Refusal) (before left : Station) → judged answer ≡ verdict rule
+    → left ≡ station_for rule → is_ok answer ≡ true → left ≡ station_in before rule
+left-begun (ok b) answer before left h e t = e
+left-begun (refuse n p) (Ok u) before left h e t = refuse≢ok (sym h)
+left-begun (refuse n p) (Err x) before left h e t = true-false (sym t)
 
-pub begun-refused : (rule : Res rules.Begun) (b : beginning.Begun) (why : Refusal) {a : Answer} {r : Begun} → Begins b rule → b.answer ≡ Refused why
-    → a ≡ answer_of (said why) → r ≡ record { answer = a; begins = false; station = b.station } → r ≡ begun_by rule
-begun-refused (ok x) b why h e c q = refuse≢ok (sym (ap heard e) ∙ h.answered)
-begun-refused (refuse n p) b why h e c q =
-    let same : said why ≡ refuse n p = sym (ap heard e) ∙ h.answered in
-    q ∙ ap {B = Begun} (λ (z : Answer). record { answer = z; begins = false; station = b.station }) (c ∙ ap answer_of same)
-    ∙ ap {B = Begun} (λ (z : Station). record { answer = answer_of (refuse n p); begins = false; station = z }) h.left
+left-refused : (rule : Res rules.Begun) (answer : Result (Unit {0}) Refusal) (before : Station) → judged answer ≡ verdict rule
+    → is_ok answer ≡ false → before ≡ station_in before rule
+left-refused (ok b) (Ok u) before h t = true-false t
+left-refused (ok b) (Err x) before h t = refuse≢ok h
+left-refused (refuse n p) answer before h t = refl
+
+module _ (rule : Res rules.Begun) (b : beginning.Begun) (before : Station) (begins : Begins b rule) where
+  pub begun-leaves : is_ok b.answer ≡ true → b.station ≡ station_in before rule
+  begun-leaves t = left-begun rule b.answer before b.station begins.answered begins.left t
+
+  pub refused-leaves : is_ok b.answer ≡ false → before ≡ station_in before rule
+  refused-leaves t = left-refused rule b.answer before begins.answered t

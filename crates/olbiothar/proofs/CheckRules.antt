@@ -21,9 +21,9 @@ use Rattle.rows.specs.Frames.{row_of, filled, rows_with}
 use Rattle.rows.specs.Passes.{found_after, rows_after, looked_row, cleared_row}
 use Rattle.rows.proofs.Laid.{filled_is}
 use Rattle.rows.proofs.Scanned.{looked-rows, filled-released, cleared-not, cleared-laid}
-use Rattle.answers.specs.declared.Verdict.{Verdict}
-use Rattle.answers.specs.declared.Verdict.TheVariants.{Fine, Refused}
-use Rattle.answers.specs.Refusals.{heard}
+use Rattle.std.specs.Prelude.{Result, Ok, Err}
+use Rattle.answers.specs.Answered.{judged as heard}
+use Rattle.answers.specs.declared.Refusal.{Refusal}
 use Rattle.checked.specs.Checking.{Checked, verdict, rows_of, lent_passed}
 use Rattle.checked.proofs.Rules.{enough-is, short-is, check-answer, check-rows, check-rows-short}
 use Rattle.checker.specs.declared.Ruling.{Ruling}
@@ -95,12 +95,12 @@ module _ (plan table : List ℕ) (ys : List Frame) (r : Answer) (zs : List Frame
   scanned-is : rows_after looked_row m.rows.frames false h.ws ≡ filled m.rows ys
   scanned-is = looked-rows m.rows.frames false h.ws ∙ h.filled_rows
 
-  rows_are : (rule : Res Passed) (a : Verdict) → ((c : Passed) → rule ≡ ok c → m.rows ≡ rows_laid (rows_of (ok c))) → heard a ≡ verdict rule
+  rows_are : (rule : Res Passed) (a : Result (Unit {0}) Refusal) → ((c : Passed) → rule ≡ ok c → m.rows ≡ rows_laid (rows_of (ok c))) → heard a ≡ verdict rule
       → rows_after cleared_row m.rows.frames (refuses a) (filled m.rows ys) ≡ filled (rows_laid (rows_of rule)) ys
-  rows_are (ok c) Fine left e = cleared-not m.rows.frames (filled m.rows ys) ∙ ap (λ r. filled r ys) (left c refl)
-  rows_are (ok c) (Refused x) left e = refuse≢ok e
-  rows_are (refuse k p) Fine left e = refuse≢ok (sym e)
-  rows_are (refuse k p) (Refused x) left e = cleared-laid m.rows ys h.judged.few
+  rows_are (ok c) (Ok u) left e = cleared-not m.rows.frames (filled m.rows ys) ∙ ap (λ r. filled r ys) (left c refl)
+  rows_are (ok c) (Err x) left e = refuse≢ok e
+  rows_are (refuse k p) (Ok u) left e = refuse≢ok (sym e)
+  rows_are (refuse k p) (Err x) left e = cleared-laid m.rows ys h.judged.few
 
   left_is : zs ≡ filled (rows_laid (rows_of (lent_passed plan table (length ys)))) ys
   left_is = h.scanned.cleared ∙ rw (settled.refused, scanned-is) (rows_are (lent_passed plan table (length ys)) n.answer h.judged.left answer-is)

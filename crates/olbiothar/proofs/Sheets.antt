@@ -5,12 +5,13 @@ use lib.ListN.{length}
 use borrow.Author.Tests.{le-leb, lt-leb}
 use Prim.Native.Nat.{ℕ, ◌≤◌, ◌<◌}
 use Rattle.rules.specs.Limits.{longest_sheet}
-use Rattle.answers.specs.Refusals.{heard}
+use Rattle.answers.specs.Answered.{judged}
 use Rattle.outward.specs.declared.Answer.{Answer}
 use Rattle.outward.specs.Answers.{answer_of}
 use Rattle.text.specs.Text.{is_short}
 use Rattle.sheet.specs.Back.{read_back}
-use Rattle.sheetreader.specs.declared.Back.{Back}
+use Rattle.std.specs.Prelude.{Result}
+use Rattle.sheetreader.specs.declared.NoTable.{NoTable}
 use Rattle.sheetreader.specs.Memory.{back_for, left_by}
 use Rattle.sheetwriter.specs.declared.Written.{Written}
 use Rattle.sheetwriter.specs.Writing.{Writes}
@@ -28,7 +29,7 @@ module _ (plan table old : List ℕ) where
   unfolding has_room
   no_room h e = rw (lt-leb longest_sheet (length old) h, e) (refl, refl)
 
-  pub sheet-written : {left : List ℕ} {r : SheetAnswer} (w : Written) → longest_sheet ≤ length old → Writes w old left plan table → {a : Answer} → a ≡ answer_of (heard w.answer)
+  pub sheet-written : {left : List ℕ} {r : SheetAnswer} (w : Written) → longest_sheet ≤ length old → Writes w old left plan table → {a : Answer} → a ≡ answer_of (judged w.answer)
       → r ≡ record { checked = a; length = w.length } → SheetIs r old left plan table
   unfolding has_room
   sheet-written w h by q e =
@@ -45,7 +46,7 @@ module _ (text old : List ℕ) where
   unfolding is_short
   too_long h e = rw (lt-leb (length text) longest_sheet h, e) (refl, refl)
 
-  pub table_back : {left : List ℕ} {r : Answer} {b : Back} → length text ≤ longest_sheet → b ≡ back_for (read_back text) old → left ≡ left_by (read_back text) old → r ≡ back_said b
+  pub table_back : {left : List ℕ} {r : Answer} {b : Result ℕ NoTable} → length text ≤ longest_sheet → b ≡ back_for (read_back text) old → left ≡ left_by (read_back text) old → r ≡ back_said b
       → TableIs r text old left
   unfolding is_short
   table_back h is l e = rw (le-leb (length text) longest_sheet h, e, is, l) (refl, refl)

@@ -2,7 +2,7 @@
 use Rattle.std.specs.Prelude.{◌≡◌, Bool, false, List, length, ℕ}
 use Rattle.units.specs.declared.Frame.{Frame}
 use Rattle.rows.specs.Passes.{found_after, rows_after, looked_row, cleared_row}
-use Rattle.answers.specs.Refusals.{heard}
+use Rattle.answers.specs.Answered.{judged}
 use Rattle.checked.specs.Checking.{lent_passed}
 use Rattle.checker.specs.declared.CheckedRows.{CheckedRows}
 use Rattle.checker.specs.declared.Ruling.{Ruling}
@@ -17,4 +17,4 @@ pub record Scans (answer : Answer) (plan table : List ℕ) (unscanned : CheckedR
   pub looked : early ≡ found_after looked_row unscanned.frames false before
   pub settled : Settles early unscanned.answer (lent_passed plan table (length before)) ruling
   pub cleared : after ≡ rows_after cleared_row unscanned.frames ruling.refused (rows_after looked_row unscanned.frames false before)
-  pub told : answer ≡ answer_of (heard ruling.answer)
+  pub told : answer ≡ answer_of (judged ruling.answer)

@@ -1,5 +1,5 @@
 -- What a sheet and its way back come to in C's numbers, and what is left in the lent bytes.
-use Rattle.std.specs.Prelude.{Bool, true, false, List, leb, length, ℕ}
+use Rattle.std.specs.Prelude.{Bool, true, false, List, leb, length, Result, Ok, Err, ℕ}
 use Rattle.std.proofs.lemmas.List.Edits.{sets}
 use Rattle.rules.specs.Limits.{longest_sheet}
 use Rattle.rules.specs.Checker.{check_files}
@@ -9,8 +9,8 @@ use Rattle.outward.specs.Answers.{answer_of}
 use Rattle.text.specs.Text.{is_short}
 use Rattle.sheet.specs.Sheet.{sheet_text}
 use Rattle.sheet.specs.Back.{read_back}
-use Rattle.sheetreader.specs.declared.Back.{Back}
-use Rattle.sheetreader.specs.declared.Back.TheVariants.{Needs, Table, Unreadable}
+use Rattle.sheetreader.specs.declared.NoTable.{NoTable}
+use Rattle.sheetreader.specs.declared.NoTable.TheVariants.{Needs, Unreadable}
 use Rattle.sheetreader.specs.Memory.{back_for, left_by}
 use Rattle.olbiothar.specs.declared.SheetAnswer.{SheetAnswer}
 
@@ -35,10 +35,10 @@ sheet_left false lent plan table = lent
 abbrev pub is_read : List ℕ → Bool
 is_read text = is_short longest_sheet text
 
-abbrev pub back_said : Back → Answer
-back_said (Table length) = record { number = 0; place = length }
-back_said (Unreadable line) = record { number = 60; place = line }
-back_said (Needs bytes) = record { number = 13; place = bytes }
+abbrev pub back_said : Result ℕ NoTable → Answer
+back_said (Ok length) = record { number = 0; place = length }
+back_said (Err (Unreadable line)) = record { number = 60; place = line }
+back_said (Err (Needs bytes)) = record { number = 13; place = bytes }
 
 abbrev pub table_said : Bool → List ℕ → List ℕ → Answer
 table_said true text lent = back_said (back_for (read_back text) lent)

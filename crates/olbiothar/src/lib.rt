@@ -12,20 +12,19 @@ ghost use Rattle.olbiothar.specs.Lent.{ChecksRows, MakesRows};
 ghost use Rattle.olbiothar.specs.Scanned.{Scans};
 ghost use Rattle.rules.specs.Station.{begin};
 ghost use Rattle.stationruns.specs.Inputs.{starting_at};
-ghost use Rattle.olbiothar.specs.Playing.{BeginsIn, Ticks, begun_by};
+ghost use Rattle.olbiothar.specs.Playing.{BeginsIn, Ticks};
 ghost use Rattle.station.specs.Memory.{kept_of, state_of};
 ghost use Rattle.station.specs.Parts.{Valued};
 ghost use Rattle.outward.specs.Seen.{module_now, task_now, time_now};
 ghost use Rattle.olbiothar.specs.Sheets.{back_said, has_room, is_read, sheet_left, sheet_said, table_left, table_said};
 
-use answers::Verdict;
 use checker::CheckedRows;
 use outward::{
-    Answer, ModuleNow, TaskNow, TickAnswer, TimeNow, answer_before_nodes, judged, made, module_now,
-    refused, task_now, time_now,
+    Answer, ModuleNow, TaskNow, TickAnswer, TimeNow, answer_before_nodes, module_now, task_now,
+    time_now,
 };
 use rows::passes::{clear, fill, some_early, zero_bytes, zero_words};
-use sheetreader::Back;
+use sheetreader::NoTable;
 use station::{Station, nodes_after_tick};
 use stationruns::{Input, Starting};
 use units::{ByteCount, Frame};
@@ -49,7 +48,7 @@ pub fn olbiothar_make(plan: &[u8], edition: u8, rows: &mut [Frame], table: &mut 
         &mut starts,
     );
     fill(rows, making.frames, &tasks, &releases, &deadlines, &starts);
-    made(making.answer)
+    Answer::from(making.answer)
 }
 
 // A table file by its plan: refusals 19, 1 to 11 and 20 to 28, or that it passes. Rule 25 is decided by the scan of the lent rows; only where
@@ -89,38 +88,7 @@ fn scanned(plan: &[u8], table: &[u8], rows: &mut [Frame], unscanned: CheckedRows
     let early = some_early(rows, unscanned.frames, false);
     let settled = checker::settled(plan, table, rows.len(), unscanned.answer, early);
     clear(rows, unscanned.frames, settled.refused);
-    judged(settled.answer)
-}
-
-// A beginning by value: the answer, whether the station begins, and the station.
-#[derive(Clone, Copy)]
-pub struct Begun {
-    pub answer: Answer,
-    pub begins: bool,
-    pub station: Station,
-}
-
-fn begin_by_value(plan: &[u8], table: &[u8], starting: Starting) -> Begun
-    ensures { result ≡ begun_by (begin plan.now table.now (starting_at starting)) }
-{
-    let b = beginning::begin(plan, table, starting);
-    let answer = b.answer;
-    let station = b.station;
-    match answer {
-        Verdict::Fine => Begun {
-            answer: Answer {
-                number: 0,
-                place: 0,
-            },
-            begins: true,
-            station,
-        },
-        Verdict::Refused(why) => Begun {
-            answer: refused(why),
-            begins: false,
-            station,
-        },
-    }
+    Answer::from(settled.answer)
 }
 
 // A station begins with a plan, a table and a mode for each module, in place; where that is refused it is left as it stood.
@@ -132,11 +100,11 @@ pub fn olbiothar_begin(
 ) -> Answer
     ensures { BeginsIn (begin plan.now table.now (starting_at starting)) station.old result station.new }
 {
-    let b = begin_by_value(plan, table, starting);
-    if b.begins {
-        *station = b.station;
+    let begun = beginning::begin(plan, table, starting);
+    if begun.answer.is_ok() {
+        *station = begun.station;
     }
-    b.answer
+    Answer::from(begun.answer)
 }
 
 // What the nodes hold landed and shown fits its type, as of every station. A look behind the reference makes the type's word known; nothing is
@@ -214,27 +182,26 @@ pub fn olbiothar_sheet(plan: &[u8], table: &[u8], text: &mut [u8]) -> SheetAnswe
         };
     }
     let written = sheetwriter::write(plan, table, text);
-    let answer = written.answer;
     SheetAnswer {
-        checked: judged(answer),
+        checked: Answer::from(written.answer),
         length: written.length as u64,
     }
 }
 
 // What reading a sheet back comes to: 60 at the line that cannot be read, 13 at the bytes that the table needs.
-fn read_said(back: Back) -> Answer
+fn read_said(back: Result<usize, NoTable>) -> Answer
     ensures { result ≡ back_said back }
 {
     match back {
-        Back::Table(length) => Answer {
+        Ok(length) => Answer {
             number: 0,
             place: length as u64,
         },
-        Back::Unreadable(line) => Answer {
+        Err(NoTable::Unreadable(line)) => Answer {
             number: 60,
             place: line,
         },
-        Back::Needs(bytes) => Answer {
+        Err(NoTable::Needs(bytes)) => Answer {
             number: 13,
             place: bytes as u64,
         },

@@ -9,28 +9,28 @@ ghost use Rattle.olbiothar.specs.Words.{holds_words, words_left, words_said};
 
 use meanings::put_meaning;
 use outward::Answer;
-use planreader::Back;
-use planwriter::Printing;
+use planreader::Unread;
+use planwriter::Unprinted;
 use reasons::{number_of, put_words};
 use text::put_bytes;
 
-fn text_said(printing: Printing) -> Answer
-    ensures { result ≡ text_said printing }
+fn text_said(printed: Result<usize, Unprinted>) -> Answer
+    ensures { result ≡ text_said printed }
 {
-    match printing {
-        Printing::Text(length) => Answer {
+    match printed {
+        Ok(length) => Answer {
             number: 0,
             place: length as u64,
         },
-        Printing::Refused(place) => Answer {
+        Err(Unprinted::Refused(place)) => Answer {
             number: 1,
-            place: place as u64,
+            place: place.0 as u64,
         },
-        Printing::Needs(bytes) => Answer {
+        Err(Unprinted::Needs(bytes)) => Answer {
             number: 13,
             place: bytes as u64,
         },
-        Printing::TooLong => Answer {
+        Err(Unprinted::TooLong) => Answer {
             number: 61,
             place: planwriter::LONGEST_PLAN as u64,
         },
@@ -54,32 +54,32 @@ pub struct PlanAnswer {
     pub reason: u32,
 }
 
-fn plan_said(back: Back) -> PlanAnswer
+fn plan_said(back: Result<usize, Unread>) -> PlanAnswer
     ensures { result ≡ plan_said back }
 {
     match back {
-        Back::Plan(length) => PlanAnswer {
+        Ok(length) => PlanAnswer {
             answer: Answer {
                 number: 0,
                 place: length as u64,
             },
             reason: 0,
         },
-        Back::Unreadable { line, why } => PlanAnswer {
+        Err(Unread::Unreadable(unreadable)) => PlanAnswer {
             answer: Answer {
                 number: 60,
-                place: line,
+                place: unreadable.line,
             },
-            reason: number_of(why),
+            reason: number_of(unreadable.why),
         },
-        Back::Needs(bytes) => PlanAnswer {
+        Err(Unread::Needs(bytes)) => PlanAnswer {
             answer: Answer {
                 number: 13,
                 place: bytes as u64,
             },
             reason: 0,
         },
-        Back::TooLong => PlanAnswer {
+        Err(Unread::TooLong) => PlanAnswer {
             answer: Answer {
                 number: 61,
                 place: planreader::LONGEST as u64,

@@ -2,56 +2,16 @@
 use mathlib.Core.Path.{◌≡◌, refl, sym, ap, ◌∙◌}
 use mathlib.Core.Bool.{Bool, true, false, ◌&&◌}
 use mathlib.Core.List.{List, []}
-use native.Mathlib.Omega.{arith}
-use borrow.Author.Tests.{le-ltb, lt-ltb}
 use lib.Dec.{ltb}
-use Prim.Native.Nat.{ℕ, ◌+◌, ◌-◌, ◌≤◌, ◌<◌}
+use Prim.Native.Nat.{ℕ}
 use Rattle.rules.specs.Station.{is_awaited, is_running, run_age, run_period, task_age}
 use Rattle.stationrefusals.specs.declared.Fixed.{Fixed}
 use Rattle.stationrefusals.specs.declared.Play.{Play}
 use Rattle.station.specs.declared.Station.{Station}
 use Rattle.station.specs.Memory.{kept_of, state_of}
-use Rattle.outward.specs.Seen.{
-  has_begun,
-  time_if,
-  time_now,
-  time_by,
-  module_if,
-  module_now,
-  module_by,
-  module_at,
-  ticks_left,
-  task_if,
-  task_now,
-  task_by,
-  task_at,
-  partly,
-}
-
-pub one_more : (worst passed : ℕ) → worst - passed - 1 ≡ worst - (passed + 1)
-one_more worst passed = omega arith
+use Rattle.outward.specs.Seen.{has_begun, time_if, time_now, time_by, module_if, module_now, module_by, ticks_left, task_if, task_now, task_by, task_at, partly}
 
 module _ (fixed : Fixed) (play : Play) where
-  pub time-there : 0 < fixed.period.0 → record { begun = 1; clock = play.clock.0; period = fixed.period.0 } ≡ time_by fixed play
-  unfolding time_now has_begun kept_of state_of
-  time-there w =
-      ap (λ (z : Bool). time_if z (kept_of (partly fixed [] play)) (state_of (partly fixed [] play))) (sym (lt-ltb 0 fixed.period.0 w))
-
-  pub time-not : fixed.period.0 ≤ 0 → record { begun = 0; clock = 0; period = 0 } ≡ time_by fixed play
-  unfolding time_now has_begun kept_of state_of
-  time-not w =
-      ap (λ (z : Bool). time_if z (kept_of (partly fixed [] play)) (state_of (partly fixed [] play))) (sym (le-ltb 0 fixed.period.0 w))
-
-  pub module_there : (m : ℕ) {b : Bool} → b ≡ (ltb 0 fixed.period.0 && ltb m fixed.modules.count) → b ≡ true
-      → module_at fixed.modules.sites play.running play.ages m ≡ module_by fixed play m
-  unfolding module_now has_begun kept_of state_of
-  module_there m e y = ap (λ (z : Bool). module_if z (kept_of (partly fixed [] play)) (state_of (partly fixed [] play)) m) (sym y ∙ e)
-
-  pub module_not : (m : ℕ) {b : Bool} → b ≡ (ltb 0 fixed.period.0 && ltb m fixed.modules.count) → b ≡ false
-      → record { there = 0; node = 0; mode = 0; age = 0 } ≡ module_by fixed play m
-  unfolding module_now has_begun kept_of state_of
-  module_not m e y = ap (λ (z : Bool). module_if z (kept_of (partly fixed [] play)) (state_of (partly fixed [] play)) m) (sym y ∙ e)
-
   pub task-there : (runs : List ℕ) (t : ℕ) {b : Bool} → b ≡ (ltb 0 fixed.period.0 && ltb t fixed.tasks.count) → b ≡ true
       → task_at fixed.tasks.count runs play.running play.ages fixed.tasks.homes play.givens fixed.tasks.worsts t ≡ task_by fixed play runs t
   unfolding task_now ticks_left has_begun kept_of state_of is_awaited is_running run_age run_period task_age

@@ -1,15 +1,15 @@
 -- What a tick answers and leaves of the station, in the numbers that C has, by the rules' tick.
-use Rattle.std.specs.Prelude.{true, false, ◌≡◌, List, ℕ}
+use Rattle.std.specs.Prelude.{true, false, None, Some, Ok, Err, ◌≡◌, List, ℕ}
 use Rattle.laws.specs.Res.{Res, ok, refuse}
 use Rattle.answers.specs.Refusals.{said}
 use Rattle.rules.specs.Station as rules
 use Rattle.stationruns.specs.declared.Input.{Input}
 use Rattle.stationnodes.specs.declared.Node.{Node}
-use Rattle.stationmoves.specs.declared.Said.{Said}
-use Rattle.stationmoves.specs.declared.Said.TheVariants.{Control, Data, Quiet, Refused}
+use Rattle.stationmoves.specs.declared.StartedRow.{StartedRow}
+use Rattle.stationmoves.specs.declared.StartedRow.TheVariants.{Control, Data}
 use Rattle.station.specs.declared.Station.{Station}
 use Rattle.station.specs.Memory.{ruled}
-use Rattle.station.specs.Answers.{station_after}
+use Rattle.station.specs.Answers.{Said, station_after}
 use Rattle.station.specs.Parts.{Valued, nodes_by, with_play_and_nodes}
 use Rattle.outward.specs.declared.Answer.{Answer}
 use Rattle.outward.specs.declared.Row.{Row}
@@ -21,17 +21,19 @@ abbrev pub row_for : ℕ → ℕ → ℕ → ℕ → ℕ → Row
 row_for kind sender deadline start stop =
     record { kind = kind; sender = sender; deadline = deadline; start = start; stop = stop }
 
+-- the row that starts, as the code has it
+abbrev pub row_of : StartedRow → Row
+row_of (Control w) = row_for 17 w.node.0 0 w.start.0 w.stop.0
+row_of (Data w) = row_for 18 w.task.0 w.deadline.0 w.start.0 w.stop.0
+
 abbrev pub row_said : Said → Row
-row_said (Control w) = row_for 17 w.node.0 0 w.start.0 w.stop.0
-row_said (Data w) = row_for 18 w.task.0 w.deadline.0 w.start.0 w.stop.0
-row_said Quiet = row_for 0 0 0 0 0
-row_said (Refused x) = row_for 0 0 0 0 0
+row_said (Ok (Some w)) = row_of w
+row_said (Ok None) = row_for 0 0 0 0 0
+row_said (Err x) = row_for 0 0 0 0 0
 
 abbrev pub answer_said : Said → Answer
-answer_said (Control w) = answer_of (ok tt)
-answer_said (Data w) = answer_of (ok tt)
-answer_said Quiet = answer_of (ok tt)
-answer_said (Refused x) = answer_of (said x)
+answer_said (Ok row) = answer_of (ok tt)
+answer_said (Err x) = answer_of (said x)
 
 abbrev pub tick_said : Said → TickAnswer
 tick_said s = record { answer = answer_said s; row = row_said s }

@@ -1,68 +1,73 @@
 // Answers, rows and ticks in the numbers that C has, which has no enums that carry values; and what may be asked of a station.
 #![tactic(auto)]
 
-ghost use Rattle.std.specs.Prelude.{◌≡◌, ◌-◌};
-ghost use Rattle.answers.specs.Refusals.{said, heard};
-ghost use Rattle.linetable.specs.Making as making;
+ghost use Rattle.std.specs.Prelude.{◌≡◌};
+ghost use Rattle.answers.specs.Answered.{judged};
+ghost use Rattle.answers.specs.Refusals.{said};
+ghost use Rattle.linetable.specs.Making.{heard_made};
 ghost use Rattle.outward.specs.Answers.{answer_of, made_of};
-ghost use Rattle.outward.specs.Numbers.{CompletesWith, answer_said, row_for, row_said};
+ghost use Rattle.outward.specs.Numbers.{CompletesWith, row_of, tick_said};
 ghost use Rattle.outward.specs.Seen.{left_of, module_at, module_by, task_at, task_by, time_by};
 ghost use Rattle.station.specs.Parts.{station_by};
 ghost use Rattle.stationruns.specs.Runs.{since_release};
 
-use answers::{Refusal, Verdict};
-use figures::{both, place, rest};
-use places::{byte_at, flag_at, flag_byte, number_at};
+use answers::Refusal;
+use figures::rest;
+use places::{entry_or, flag_at};
 use station::{BeforeNodes, tick_before_nodes};
-use stationmoves::Said;
+use stationmoves::StartedRow;
 use stationrefusals::{Fixed, Play};
 use stationruns::{Input, Run, is_awaited, run_at};
 use units::{Frame, ModeNo, ModuleNo, TaskNo, Ticks};
 
 // Number 0: not refused; the place is then what was made, or 0. Else the refusal's number and its place.
 #[repr(C)]
-#[derive(Clone, Copy)]
+#[derive(Clone, Copy, Default)]
 pub struct Answer {
     pub number: u32,
     pub place: u64,
 }
 
-pub fn refused(why: Refusal) -> Answer
-    ensures { result ≡ answer_of (said why) }
-{
-    Answer {
-        number: why.number(),
-        place: why.place() as u64,
+impl From<Refusal> for Answer {
+    ghost from_gives = { λ why answer. answer ≡ answer_of (said why) };
+
+    fn from(why: Refusal) -> Answer {
+        Answer {
+            number: why.number(),
+            place: why.place() as u64,
+        }
     }
 }
 
-pub fn judged(answer: Verdict) -> Answer
-    ensures { result ≡ answer_of (heard answer) }
-{
-    match answer {
-        Verdict::Fine => Answer {
-            number: 0,
-            place: 0,
-        },
-        Verdict::Refused(why) => refused(why),
+impl From<Result<(), Refusal>> for Answer {
+    ghost from_gives = { λ verdict answer. answer ≡ answer_of (judged verdict) };
+
+    fn from(verdict: Result<(), Refusal>) -> Answer {
+        match verdict {
+            Ok(()) => Answer::default(),
+            Err(why) => Answer::from(why),
+        }
     }
 }
 
-pub fn made(answer: linetable::Answer) -> Answer
-    ensures { result ≡ made_of (making.heard_made answer) }
-{
-    match answer {
-        linetable::Answer::Made(length) => Answer {
-            number: 0,
-            place: length as u64,
-        },
-        linetable::Answer::Refused(why) => refused(why),
+// Of a table: its length is the place.
+impl From<Result<usize, Refusal>> for Answer {
+    ghost from_gives = { λ made answer. answer ≡ made_of (heard_made made) };
+
+    fn from(made: Result<usize, Refusal>) -> Answer {
+        match made {
+            Ok(length) => Answer {
+                number: 0,
+                place: length as u64,
+            },
+            Err(why) => Answer::from(why),
+        }
     }
 }
 
 // The row that starts: kind 17 or 18, the node or task that sends it, deadline (0 of a control row), start and stop. Kind 0: none starts.
 #[repr(C)]
-#[derive(Clone, Copy)]
+#[derive(Clone, Copy, Default)]
 pub struct Row {
     pub kind: u8,
     pub sender: u8,
@@ -71,58 +76,26 @@ pub struct Row {
     pub stop: u32,
 }
 
-fn no_row() -> Row
-    ensures { result ≡ row_for 0 0 0 0 0 }
-{
-    Row {
-        kind: 0,
-        sender: 0,
-        deadline: 0,
-        start: 0,
-        stop: 0,
-    }
-}
+impl From<StartedRow> for Row {
+    ghost from_gives = { λ started row. row ≡ row_of started };
 
-pub fn row_said(said: Said) -> Row
-    ensures { result ≡ row_said said }
-{
-    match said {
-        Said::Control(row) => Row {
-            kind: 17,
-            sender: row.node.0,
-            deadline: 0,
-            start: row.start.0,
-            stop: row.stop.0,
-        },
-        Said::Data(row) => Row {
-            kind: 18,
-            sender: row.task.0,
-            deadline: row.deadline.0,
-            start: row.start.0,
-            stop: row.stop.0,
-        },
-        Said::Quiet => no_row(),
-        Said::Refused(_) => no_row(),
-    }
-}
-
-pub fn answer_said(said: Said) -> Answer
-    ensures { result ≡ answer_said said }
-{
-    match said {
-        Said::Control(_) => Answer {
-            number: 0,
-            place: 0,
-        },
-        Said::Data(_) => Answer {
-            number: 0,
-            place: 0,
-        },
-        Said::Quiet => Answer {
-            number: 0,
-            place: 0,
-        },
-        Said::Refused(why) => refused(why),
+    fn from(started: StartedRow) -> Row {
+        match started {
+            StartedRow::Control(row) => Row {
+                kind: 17,
+                sender: row.node.0,
+                deadline: 0,
+                start: row.start.0,
+                stop: row.stop.0,
+            },
+            StartedRow::Data(row) => Row {
+                kind: 18,
+                sender: row.task.0,
+                deadline: row.deadline.0,
+                start: row.start.0,
+                stop: row.stop.0,
+            },
+        }
     }
 }
 
@@ -132,6 +105,27 @@ pub fn answer_said(said: Said) -> Answer
 pub struct TickAnswer {
     pub answer: Answer,
     pub row: Row,
+}
+
+impl From<Result<Option<StartedRow>, Refusal>> for TickAnswer {
+    ghost from_gives = { λ said tick. tick ≡ tick_said said };
+
+    fn from(said: Result<Option<StartedRow>, Refusal>) -> TickAnswer {
+        match said {
+            Ok(Some(started)) => TickAnswer {
+                answer: Answer::default(),
+                row: Row::from(started),
+            },
+            Ok(None) => TickAnswer {
+                answer: Answer::default(),
+                row: Row::default(),
+            },
+            Err(why) => TickAnswer {
+                answer: Answer::from(why),
+                row: Row::default(),
+            },
+        }
+    }
 }
 
 // What a tick answers, and its part before the nodes.
@@ -166,20 +160,15 @@ pub fn answer_before_nodes<'a>(
         pair_stops,
         pair_modes,
     );
-    let said = first.said;
-    let part = first.part;
     AnswerBeforeNodes {
-        tick: TickAnswer {
-            answer: answer_said(said),
-            row: row_said(said),
-        },
-        part,
+        tick: TickAnswer::from(first.said),
+        part: first.part,
     }
 }
 
 // What may be asked of a station. All is zero where it has not begun, or has no such module or task.
 #[repr(C)]
-#[derive(Clone, Copy)]
+#[derive(Clone, Copy, Default)]
 pub struct TimeNow {
     pub begun: u8,
     pub clock: u32,
@@ -187,6 +176,7 @@ pub struct TimeNow {
 }
 
 // The time: a station that has begun has a bus period.
+#[tactic(auto, unfolding(crate::specs::Seen::time_now, crate::specs::Seen::has_begun, station::specs::Memory::kept_of, station::specs::Memory::state_of))]
 pub fn time_now(fixed: Fixed, play: Play) -> TimeNow
     ensures { result ≡ time_by fixed play }
 {
@@ -197,17 +187,13 @@ pub fn time_now(fixed: Fixed, play: Play) -> TimeNow
             period: fixed.period.0,
         }
     } else {
-        TimeNow {
-            begun: 0,
-            clock: 0,
-            period: 0,
-        }
+        TimeNow::default()
     }
 }
 
 // A module's node, the mode that runs, and the time since that mode began.
 #[repr(C)]
-#[derive(Clone, Copy)]
+#[derive(Clone, Copy, Default)]
 pub struct ModuleNow {
     pub there: u8,
     pub node: u8,
@@ -225,30 +211,31 @@ fn module_at<'a>(
 {
     ModuleNow {
         there: 1,
-        node: byte_at(sites, m) as u8,
-        mode: byte_at(running, m) as u8,
-        age: number_at(ages, m),
+        node: entry_or(sites, m, 0),
+        mode: entry_or(running, m, 0),
+        age: entry_or(ages, m, 0),
     }
 }
 
+#[tactic(auto, unfolding(crate::specs::Seen::module_now, crate::specs::Seen::has_begun, station::specs::Memory::kept_of, station::specs::Memory::state_of))]
 pub fn module_now(fixed: Fixed, play: Play, m: u8) -> ModuleNow
     ensures { result ≡ module_by fixed play m }
 {
-    if both(0 < fixed.period.0, m < fixed.modules.count) {
-        module_at(&fixed.modules.sites, &play.running, &play.ages, place(m))
+    if 0 < fixed.period.0 && m < fixed.modules.count {
+        module_at(
+            &fixed.modules.sites,
+            &play.running,
+            &play.ages,
+            usize::from(m),
+        )
     } else {
-        ModuleNow {
-            there: 0,
-            node: 0,
-            mode: 0,
-            age: 0,
-        }
+        ModuleNow::default()
     }
 }
 
 // A task's module, whether a result is awaited, and how many ticks may still pass without it.
 #[repr(C)]
-#[derive(Clone, Copy)]
+#[derive(Clone, Copy, Default)]
 pub struct TaskNow {
     pub there: u8,
     pub home: u8,
@@ -256,21 +243,14 @@ pub struct TaskNow {
     pub left: u32,
 }
 
-fn less(a: u32, b: u32) -> u32
-    ensures { result ≡ a - b }
-{
-    if b < a { a - b } else { 0 }
-}
-
 fn left(awaited: bool, run: Run, worst: Ticks) -> u32
     ensures { result ≡ left_of awaited worst.0 (since_release run) }
 {
-    if awaited {
-        let passed = rest(less(run.age.0, 1), run.period.0);
-        less(less(worst.0, passed), 1)
-    } else {
-        0
+    if !awaited {
+        return 0;
     }
+    let passed = rest(run.age.0.saturating_sub(1), run.period.0);
+    worst.0.saturating_sub(passed).saturating_sub(1)
 }
 
 fn task_at<'a>(
@@ -286,13 +266,13 @@ fn task_at<'a>(
     ensures { result ≡ task_at tasks runs.now running.now ages.now homes.now had.now worsts.now t.0 }
 {
     let run = run_at(runs, running, ages, homes, t);
-    let k = place(t.0);
-    let worst = Ticks(number_at(worsts, k));
+    let k = t.place();
+    let worst = Ticks(entry_or(worsts, k, 0));
     let awaited = is_awaited(true, run, t.0 < tasks, flag_at(had, k), worst);
     TaskNow {
         there: 1,
-        home: byte_at(homes, k) as u8,
-        awaits: flag_byte(awaited),
+        home: entry_or(homes, k, 0),
+        awaits: u8::from(awaited),
         left: left(awaited, run, worst),
     }
 }
@@ -305,7 +285,7 @@ pub fn task_now<'a>(
 ) -> TaskNow
     ensures { result ≡ task_by fixed play runs.now t }
 {
-    if both(0 < fixed.period.0, t < fixed.tasks.count) {
+    if 0 < fixed.period.0 && t < fixed.tasks.count {
         task_at(
             TaskNo(t),
             fixed.tasks.count,
@@ -317,11 +297,6 @@ pub fn task_now<'a>(
             &fixed.tasks.worsts,
         )
     } else {
-        TaskNow {
-            there: 0,
-            home: 0,
-            awaits: 0,
-            left: 0,
-        }
+        TaskNow::default()
     }
 }

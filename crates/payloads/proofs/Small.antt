@@ -1,6 +1,6 @@
 -- The times of a plan that was read are small.
 use mathlib.Core.Path.{◌≡◌, sym, ap, ◌∙◌}
-use mathlib.Core.List.{List}
+use mathlib.Core.List.{List, map}
 use native.Mathlib.Nat.{max-le, le-mul_of_pos_right, mul-le-mul_right}
 use native.Mathlib.Omega.{arith}
 use lib.Dec.{lit≤}
@@ -15,9 +15,9 @@ use Rattle.laws.proofs.Members.{all-get_or-or, all_weaker}
 use Rattle.rules.specs.Plan.{Bus, Plan, Task, no_task, the_task}
 use Rattle.rules.specs.Frames.{of_bits, on_bus, sending_time, gap_on_bus, gap_time}
 use Rattle.rules.proofs.PlanKept.{PlanKept, BusKept}
-use Rattle.plan.specs.declared.Plan as plan
-use Rattle.plan.specs.Memory.{seen, task_seen, task_laid}
-use Rattle.bus.proofs.Things.{task-here}
+use Rattle.plan.specs.declared.Task as memory
+use Rattle.plan.specs.Memory.{task_seen, task_laid}
+use Rattle.bus.proofs.Marking.{seen_at}
 use Rattle.payloads.specs.Tests.{task_time}
 
 module _ (b : Bus) (k : BusKept b) where
@@ -45,10 +45,10 @@ module _ (b : Bus) (k : BusKept b) where
   unfolding gap_time gap_on_bus
   gap-small = let g : b.gap ≤ 1000 = k.gap.most in ticks-small b.gap (omega arith)
 
--- the number of bytes that a struct has for a task
-pub size_of : (p : plan.Plan) (t : ℕ) → t < length (seen p).tasks → (get_or p.tasks t (task_laid no_task)).size.0 ≡ (the_task (seen p) t).size
+-- the number of bytes that a task has, of the tasks as they are lent
+pub size_of : (p : Plan) (things : List memory.Task) → map task_seen things ≡ p.tasks → (t : ℕ) → t < length things → (get_or things t (task_laid no_task)).size.0 ≡ (the_task p t).size
 unfolding the_task task_seen task_laid
-size_of p t h = sym (ap (λ (x : Task). x.size) (task-here p t h))
+size_of p things e t h = sym (ap (λ (x : Task). x.size) (seen_at task_seen things e t (task_laid no_task) no_task h))
 
 module _ (p : Plan) where
   task-small : PlanKept p → (t : ℕ) → (the_task p t).size ≤ 256

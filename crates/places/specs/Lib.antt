@@ -1,3 +1,3 @@
 pub mod Flags
-pub mod Found
 pub mod Bits
+pub mod Spot

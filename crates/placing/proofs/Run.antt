@@ -22,7 +22,7 @@ use Rattle.rules.specs.Frames.{Pair}
 use Rattle.rules.specs.LatestRelease.{Numbered, Placed, numbered_from, place, fits}
 use Rattle.rules.specs.LatestRelease as rule
 use Rattle.laws.proofs.Laid.{tab-same}
-use Rattle.placing.specs.declared.Outcome.TheVariants.{All as AllPlaced}
+use Rattle.std.specs.Prelude.{Ok}
 use Rattle.placing.specs.Placing.{frame_at, time_of, inserted, outside_at, admitted, low_end_at, placed, laid, number_of, start_of}
 use Rattle.placing.proofs.Pool.{numbered, key_of, entered, pool_at, low_end, top_of, rest_of, placed_at, machine, machine_is, Falling}
 use Rattle.placing.proofs.Pool as pool
@@ -219,11 +219,12 @@ module _ (task release deadline : List ℕ) where
 
     module _
         {keys number start : List ℕ} {left outside low : ℕ} (g : Going keys number start left outside low) (more : 0 < left)
-        {keys' : List ℕ} {low' outside' k : ℕ}
-        (low_is : low' ≡ low_end_at deadline low outside (left - outside))
+        {keys' : List ℕ} {size low' outside' k : ℕ}
+        (size_is : size ≡ left - outside)
+        (low_is : low' ≡ low_end_at deadline low outside size)
         (outside_is : outside' ≡ outside_at deadline low' outside)
-        (keys_are : keys' ≡ admitted release deadline low' outside (left - outside) keys)
-        (k_is : k ≡ get_or keys' (outside + (left - outside) - outside' - 1) 0 % 65536)
+        (keys_are : keys' ≡ admitted release deadline low' outside size keys)
+        (k_is : k ≡ get_or keys' (outside + size - outside' - 1) 0 % 65536)
       where
         js : List ℕ
         js = numbers_in keys (left - outside)
@@ -237,7 +238,7 @@ module _ (task release deadline : List ℕ) where
 
         low_same : low_end F low outside js ≡ low'
         unfolding frame_at low_end_at
-        low_same = go js length_js ∙ sym low_is
+        low_same = go js length_js ∙ sym (rw size_is at low_is)
           where
             go : (l : List ℕ) → length l ≡ left - outside → low_end F low outside l ≡ low_end_at deadline low outside (left - outside)
             go [] e = rw (← e)
@@ -248,7 +249,7 @@ module _ (task release deadline : List ℕ) where
             let h = some_enter deadline low outside (left - outside) (let o : outside ≤ left = g.outside_le in omega arith) in
             let o : outside ≤ left = g.outside_le in
             let q : outside + (left - outside) ≡ left = omega arith in
-            rw (outside_is, low_is) (rw q at h)
+            rw (outside_is, low_is, size_is) (rw q at h)
 
         below' : All (λ j. j < count) js'
         unfolding js js'
@@ -259,7 +260,7 @@ module _ (task release deadline : List ℕ) where
         top_down' : top_down keys' (left - outside') ≡ map (key_of F) js'
         unfolding js js'
         top_down' =
-            rw keys_are
+            rw (keys_are, size_is)
             (keys_pool low' outside (left - outside) (left - outside') keys (numbers_in keys (left - outside))
             (let f : count ≤ most_frames = g.few in let o : outside ≤ left = g.outside_le in let c : left ≤ count = g.left_le in let l : length keys ≡ most_frames = g.keys_long in omega arith)
             g.keyed
@@ -294,7 +295,7 @@ module _ (task release deadline : List ℕ) where
             let o = outside_less in
             let p : outside ≤ left = g.outside_le in
             let q : outside + (left - outside) - outside' - 1 ≡ left - 1 - outside' = omega arith in
-            parts.0 ∙ sym (rw q at k_is)
+            parts.0 ∙ sym (rw (size_is, q) at k_is)
 
         rest-is : rest_of F js' ≡ numbers_in keys' (left - 1 - outside')
         unfolding n
@@ -370,7 +371,7 @@ module _ (task release deadline : List ℕ) where
             going_turn =
                 record {
                   few = g.few;
-                  keys_long = rw keys_are (length-admitted low' outside (left - outside) keys ∙ g.keys_long);
+                  keys_long = rw (keys_are, size_is) (length-admitted low' outside (left - outside) keys ∙ g.keys_long);
                   number_long = rw (number_is, length-set) g.number_long;
                   start_long = rw (start_is, length-set) g.start_long;
                   left_le = let c : left ≤ count = g.left_le in omega arith;
@@ -389,7 +390,7 @@ module _ (task release deadline : List ℕ) where
     -- ---- the loop's end, and its beginning
 
     pub going_end : {keys number start : List ℕ} {left outside low : ℕ} → Going keys number start left outside low → left ≤ 0
-        → placed AllPlaced number start ≡ laid (run_from count e₀ count [] [])
+        → placed (Ok tt) number start ≡ laid (run_from count e₀ count [] [])
     unfolding machine
     going_end {keys} {number} {start} {left = zero} {outside} {low} g h =
         rw g.whole

@@ -12,16 +12,12 @@ use units::{BitCount, ByteBits, ByteCount, ModeNo, ModuleNo, NodeNo, TaskNo, Tic
 fn bus_with(body: &[u8], bits: ByteBits) -> Bus
     ensures { result ≡ bus_laid (with_byte_bits bits.0 (bus_of (record_of 1 body.now))) }
 {
-    let overhead = read16(body, fields::bus::OVERHEAD);
-    let least = read16(body, fields::bus::LEAST);
-    let most = read16(body, fields::bus::MOST);
-    let gap = read16(body, fields::bus::GAP);
     Bus {
         rate: read32(body, fields::bus::RATE),
-        overhead: ByteCount(overhead as u32),
-        least: ByteCount(least as u32),
-        most: ByteCount(most as u32),
-        gap: BitCount(gap as u32),
+        overhead: ByteCount(u32::from(read16(body, fields::bus::OVERHEAD))),
+        least: ByteCount(u32::from(read16(body, fields::bus::LEAST))),
+        most: ByteCount(u32::from(read16(body, fields::bus::MOST))),
+        gap: BitCount(u32::from(read16(body, fields::bus::GAP))),
         resolution: Ticks(read32(body, fields::bus::RESOLUTION)),
         byte_bits: bits,
     }
@@ -60,10 +56,9 @@ pub fn mode(body: &[u8]) -> Mode
 pub fn task(body: &[u8]) -> Task
     ensures { result ≡ task_laid (task_of (record_of 5 body.now).numbers) }
 {
-    let size = read8(body, fields::task::SIZE);
     Task {
         home: ModuleNo(read8(body, fields::task::HOME)),
-        size: ByteCount(size as u32),
+        size: ByteCount(u32::from(read8(body, fields::task::SIZE))),
         worst: Ticks(read32(body, fields::task::WORST)),
     }
 }
@@ -71,11 +66,10 @@ pub fn task(body: &[u8]) -> Task
 pub fn invocation(body: &[u8]) -> Invocation
     ensures { result ≡ invocation_laid (invocation_of (record_of 6 body.now).numbers) }
 {
-    let rate = read16(body, fields::invocation::RATE);
     Invocation {
         mode: ModeNo(read8(body, fields::invocation::MODE)),
         task: TaskNo(read8(body, fields::invocation::TASK)),
-        rate: rate as u32,
+        rate: u32::from(read16(body, fields::invocation::RATE)),
     }
 }
 

@@ -10,7 +10,7 @@ pub mod look;
 use units::{BitCount, ByteBits, ByteCount, ModeNo, ModuleNo, NodeNo, TaskNo, Ticks};
 
 // Rate in kbit/s.
-#[derive(Clone, Copy)]
+#[derive(Clone, Copy, Default)]
 pub struct Bus {
     pub rate: u32,
     pub overhead: ByteCount,
@@ -33,7 +33,7 @@ impl Bus {
     pub const COARSEST: u32 = 1000;
 }
 
-#[derive(Clone, Copy)]
+#[derive(Clone, Copy, Default)]
 pub struct Module {
     pub node: NodeNo,
 }
@@ -42,7 +42,7 @@ impl Module {
     pub const MOST: usize = ModuleNo::MOST;
 }
 
-#[derive(Clone, Copy)]
+#[derive(Clone, Copy, Default)]
 pub struct Mode {
     pub home: ModuleNo,
     pub period: Ticks,
@@ -55,7 +55,7 @@ impl Mode {
     pub const LONGEST: u32 = Ticks::LONGEST;
 }
 
-#[derive(Clone, Copy)]
+#[derive(Clone, Copy, Default)]
 pub struct Task {
     pub home: ModuleNo,
     pub size: ByteCount,
@@ -70,7 +70,7 @@ impl Task {
     pub const LONGEST: u32 = Ticks::LONGEST;
 }
 
-#[derive(Clone, Copy)]
+#[derive(Clone, Copy, Default)]
 pub struct Invocation {
     pub mode: ModeNo,
     pub task: TaskNo,
@@ -83,7 +83,7 @@ impl Invocation {
     pub const MOST_OFTEN: u32 = 65_535;
 }
 
-#[derive(Clone, Copy)]
+#[derive(Clone, Copy, Default, PartialEq, Eq)]
 pub struct Connection {
     pub producer: TaskNo,
     pub consumer: TaskNo,
@@ -108,44 +108,18 @@ pub struct Plan {
 }
 
 impl Plan {
+    #[tactic(auto, unfolding(crate::specs::Memory::empty_plan, crate::specs::Memory::lay_out, crate::specs::Memory::bus_laid, crate::specs::Memory::no_plan, crate::specs::Memory::no_bus, crate::specs::Memory::module_laid, crate::specs::Memory::mode_laid, crate::specs::Memory::task_laid, crate::specs::Memory::invocation_laid, crate::specs::Memory::connection_laid))]
     pub fn empty() -> Plan
         ensures { result ≡ empty_plan }
     {
-        let mode = Mode {
-            home: ModuleNo(0),
-            period: Ticks(0),
-            switch: Ticks(0),
-        };
-        let task = Task {
-            home: ModuleNo(0),
-            size: ByteCount(0),
-            worst: Ticks(0),
-        };
-        let invocation = Invocation {
-            mode: ModeNo(0),
-            task: TaskNo(0),
-            rate: 0,
-        };
-        let connection = Connection {
-            producer: TaskNo(0),
-            consumer: TaskNo(0),
-        };
         Plan {
-            bus: Bus {
-                rate: 0,
-                overhead: ByteCount(0),
-                least: ByteCount(0),
-                most: ByteCount(0),
-                gap: BitCount(0),
-                resolution: Ticks(0),
-                byte_bits: ByteBits(0),
-            },
+            bus: Bus::default(),
             counts: [0; 8],
-            modules: [Module { node: NodeNo(0) }; ModuleNo::MOST],
-            modes: [mode; ModeNo::MOST],
-            tasks: [task; TaskNo::MOST],
-            invocations: [invocation; Invocation::MOST],
-            connections: [connection; Connection::MOST],
+            modules: [Module::default(); ModuleNo::MOST],
+            modes: [Mode::default(); ModeNo::MOST],
+            tasks: [Task::default(); TaskNo::MOST],
+            invocations: [Invocation::default(); Invocation::MOST],
+            connections: [Connection::default(); Connection::MOST],
             consumers: false,
         }
     }

@@ -1,6 +1,3 @@
-pub mod Places
-pub mod ArrayScans
-pub mod Fitting
-pub mod LowestUnfit
-pub mod Repeats
-pub mod Doubtless
+pub mod Chains
+pub mod Seen
+pub mod Rule

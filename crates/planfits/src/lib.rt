@@ -1,222 +1,144 @@
 // Refusal 5: what the things of a plan must keep among each other.
 #![tactic(auto)]
 
-ghost use Rattle.std.specs.Prelude.{◌≡◌, cond, map, length, take, ◌≤◌};
-ghost use Rattle.laws.specs.Lists.{first_bad, is_fresh, up_to};
-ghost use Rattle.rules.specs.Limits.{most_modules, most_modes, most_invocations, most_connections};
+ghost use Rattle.std.specs.Prelude.{◌≡◌, map, length, position, not};
+ghost use Rattle.std.specs.List.{list_any};
+ghost use Rattle.laws.specs.Lists.{first_bad, up_to};
 ghost use Rattle.rules.specs.Plan as rules;
-ghost use Rattle.plan.specs.Memory.{seen, mode_laid, mode_seen, task_laid, task_seen, invocation_seen, connection_seen};
-ghost use Rattle.planfits.specs.Scans.{place_or, unfit_of};
-ghost use Rattle.planfits.specs.Fits.{has_mode_in, fits_these, fits_at};
+ghost use Rattle.places.specs.Spot.{spot_of};
+ghost use Rattle.plan.specs.Memory.{seen, mode_seen, task_seen, invocation_seen, connection_seen};
+ghost use Rattle.planfits.specs.Scans.{unfit_of};
+ghost use Rattle.planfits.specs.Fits.{fits_these};
 
-use figures::{both, divides, lower, quotient};
-use places::Found;
+use figures::{divides, quotient};
+use places::entry_or;
 use plan::{Connection, Invocation, Mode, Plan, Task, look};
-use units::{ByteCount, ModuleNo, Ticks};
+use units::ModuleNo;
 
-fn has_mode(modes: [Mode; Mode::MOST], count: usize, home: ModuleNo) -> bool
-    requires { count ≤ most_modes }
-    ensures { result ≡ has_mode_in (map mode_seen (take count modes)) home.0 }
+#[tactic(auto, unfolding(rules::specs::Plan::is_home, plan::specs::Memory::mode_seen))]
+fn has_mode(modes: &[Mode], home: ModuleNo) -> bool
+    ensures { result ≡ list_any (λ x. rules.is_home home.0 (mode_seen x)) modes.now }
 {
-    let mut k = 0;
-    while k < count {
-        let mode = modes[k];
-        if mode.home.0 == home.0 {
-            return true;
+    modes.iter().any(|mode| mode.home == home)
+}
+
+// The first module without a mode.
+fn first_without_mode(p: Plan) -> Option<usize>
+    ensures { result ≡ spot_of (first_bad (rules.has_mode (seen p)) (up_to (length (seen p).modules))) }
+{
+    let modes = &p.modes[..look::mode_count(p)];
+    for m in 0..look::module_count(p) {
+        if !has_mode(modes, ModuleNo(m as u8)) {
+            return Some(m);
         }
-        k += 1;
     }
-    false
+    None
 }
 
-// The first module without a mode; the number of modules where there is none.
-fn first_without_mode(modes: [Mode; Mode::MOST], count: usize, modules: usize) -> usize
-    requires { (count ≤ most_modes) × (modules ≤ most_modules) }
-    ensures { result ≡ place_or modules (first_bad (has_mode_in (map mode_seen (take count modes))) (up_to modules)) }
+#[tactic(auto, unfolding(rules::specs::Plan::switch_divides, plan::specs::Memory::mode_seen))]
+fn switch_divides(mode: Mode) -> bool
+    ensures { result ≡ rules.switch_divides (mode_seen mode) }
 {
-    let mut m = 0;
-    while m < modules {
-        if !has_mode(modes, count, ModuleNo(m as u8)) {
-            return m;
-        }
-        m += 1;
-    }
-    m
+    divides(mode.switch.0, mode.period.0)
 }
 
-fn switch_divides(m: Mode) -> bool
-    ensures { result ≡ rules.switch_divides (mode_seen m) }
+// The first mode whose switch period does not divide its period.
+fn first_bad_switch(modes: &[Mode]) -> Option<usize>
+    ensures { result ≡ position (λ x. not (rules.switch_divides (mode_seen x))) modes.now }
 {
-    divides(m.switch.0, m.period.0)
+    modes.iter().position(|mode| !switch_divides(*mode))
 }
 
-// The first mode whose switch period does not divide its period; the number of modes where there is none.
-fn first_bad_switch(modes: [Mode; Mode::MOST], count: usize) -> usize
-    requires { count ≤ most_modes }
-    ensures { result ≡ place_or count (first_bad rules.switch_divides (map mode_seen (take count modes))) }
-{
-    let mut k = 0;
-    while k < count {
-        if !switch_divides(modes[k]) {
-            return k;
-        }
-        k += 1;
-    }
-    k
-}
-
+#[tactic(auto, unfolding(crate::specs::Fits::fits_these, plan::specs::Memory::mode_seen, plan::specs::Memory::task_seen))]
 fn fits_its_mode(rate: u32, mode: Mode, task: Task) -> bool
     ensures { result ≡ fits_these rate (mode_seen mode) (task_seen task) }
 {
     let period = quotient(mode.period.0, rate);
-    let divided = both(divides(rate, mode.period.0), divides(period, mode.switch.0));
-    both(
-        divided,
-        both(task.worst.0 <= period, task.home.0 == mode.home.0),
-    )
+    divides(rate, mode.period.0)
+        && divides(period, mode.switch.0)
+        && task.worst.0 <= period
+        && task.home == mode.home
 }
 
-// A mode that is there, else the zero mode.
-fn mode_if(there: bool, mode: Mode) -> Mode
-    ensures { result ≡ cond there mode (mode_laid rules.no_mode) }
+#[tactic(auto, unfolding(rules::specs::Plan::same_run, plan::specs::Memory::invocation_seen))]
+fn same_run(run: Invocation, other: Invocation) -> bool
+    ensures { result ≡ rules.same_run (invocation_seen run) (invocation_seen other) }
 {
-    if there {
-        mode
-    } else {
-        Mode {
-            home: ModuleNo(0),
-            period: Ticks(0),
-            switch: Ticks(0),
+    run.mode == other.mode && run.task == other.task
+}
+
+// The first invocation that does not fit its mode, or whose task and mode an earlier one has.
+fn first_misfit(p: Plan) -> Option<usize>
+    ensures { result ≡ spot_of (first_bad (rules.invocation_keeps (seen p)) (up_to (length (seen p).invocations))) }
+{
+    let modes = &p.modes[..look::mode_count(p)];
+    let tasks = &p.tasks[..look::task_count(p)];
+    let runs = &p.invocations[..look::invocation_count(p)];
+    let mut repeat = None;
+    'pairs: for (k, run) in runs.iter().enumerate() {
+        let mode = entry_or(modes, run.mode.place(), Mode::default());
+        let task = entry_or(tasks, run.task.place(), Task::default());
+        if !fits_its_mode(run.rate, mode, task) {
+            return Some(k);
         }
-    }
-}
-
-// A task that is there, else the zero task.
-fn task_if(there: bool, task: Task) -> Task
-    ensures { result ≡ cond there task (task_laid rules.no_task) }
-{
-    if there {
-        task
-    } else {
-        Task {
-            home: ModuleNo(0),
-            size: ByteCount(0),
-            worst: Ticks(0),
-        }
-    }
-}
-
-// The first invocation that does not fit its mode; the number of invocations where there is none. A number that names something is
-// below the limit, and the remainder leaves it as it is.
-fn first_misfit(p: Plan) -> usize
-    ensures { result ≡ place_or (length (seen p).invocations) (first_bad (fits_at (seen p)) (up_to (length (seen p).invocations))) }
-{
-    let modes = look::mode_count(p);
-    let tasks = look::task_count(p);
-    let count = look::invocation_count(p);
-    let mut k = 0;
-    while k < count {
-        let i = p.invocations[k];
-        let m = i.mode.place();
-        let t = i.task.place();
-        let mode = mode_if(m < modes, p.modes[m % Mode::MOST]);
-        let task = task_if(t < tasks, p.tasks[t % Task::MOST]);
-        if !fits_its_mode(i.rate, mode, task) {
-            return k;
-        }
-        k += 1;
-    }
-    k
-}
-
-fn same_run(i: Invocation, j: Invocation) -> bool
-    ensures { result ≡ rules.same_run (invocation_seen i) (invocation_seen j) }
-{
-    both(i.mode.0 == j.mode.0, i.task.0 == j.task.0)
-}
-
-// The first invocation whose task and mode an earlier one has; the number of invocations where there is none.
-fn first_repeat(invocations: [Invocation; Invocation::MOST], count: usize) -> usize
-    requires { count ≤ most_invocations }
-    ensures { result ≡ place_or count (first_bad (is_fresh rules.same_run rules.no_invocation (map invocation_seen (take count invocations))) (up_to count)) }
-{
-    let mut later = 0;
-    'pairs: while later < count {
-        let mut earlier = 0;
-        while earlier < later {
-            if same_run(invocations[later], invocations[earlier]) {
+        for other in &runs[..k] {
+            if same_run(*run, *other) {
+                repeat = Some(k);
                 break 'pairs;
             }
-            earlier += 1;
         }
-        later += 1;
     }
-    later
+    repeat
 }
 
-fn is_own(c: Connection) -> bool
-    ensures { result ≡ rules.is_own (connection_seen c) }
+#[tactic(auto, unfolding(rules::specs::Plan::is_own, plan::specs::Memory::connection_seen))]
+fn is_own(connection: Connection) -> bool
+    ensures { result ≡ rules.is_own (connection_seen connection) }
 {
-    c.producer.0 == c.consumer.0
+    connection.producer == connection.consumer
 }
 
-fn same_ends(c: Connection, d: Connection) -> bool
-    ensures { result ≡ rules.same_ends (connection_seen c) (connection_seen d) }
+#[tactic(auto, unfolding(rules::specs::Plan::same_ends, plan::specs::Memory::connection_seen))]
+fn has_same_ends(connection: Connection, earlier: &[Connection]) -> bool
+    ensures { result ≡ list_any (λ x. rules.same_ends (connection_seen connection) (connection_seen x)) earlier.now }
 {
-    both(c.producer.0 == d.producer.0, c.consumer.0 == d.consumer.0)
+    earlier.iter().any(|other| connection == *other)
 }
 
-// The first connection from a task to itself, or with the ends of an earlier one; the number of connections where there is none.
-fn first_doubtful(connections: [Connection; Connection::MOST], count: usize) -> usize
-    requires { count ≤ most_connections }
-    ensures { result ≡ place_or count (first_bad (rules.connection_keeps (map connection_seen (take count connections))) (up_to count)) }
+// The first connection from a task to itself, or with the ends of an earlier one.
+fn first_doubtful(p: Plan) -> Option<usize>
+    ensures { result ≡ spot_of (first_bad (rules.connection_keeps (seen p).connections) (up_to (length (seen p).connections))) }
 {
-    let mut later = 0;
-    'pairs: while later < count {
-        if is_own(connections[later]) {
-            break 'pairs;
+    let connections = &p.connections[..look::connection_count(p)];
+    for (k, connection) in connections.iter().enumerate() {
+        if is_own(*connection) || has_same_ends(*connection, &connections[..k]) {
+            return Some(k);
         }
-        let mut earlier = 0;
-        while earlier < later {
-            if same_ends(connections[later], connections[earlier]) {
-                break 'pairs;
-            }
-            earlier += 1;
-        }
-        later += 1;
     }
-    later
+    None
 }
 
 // The record of the first thing that breaks refusal 5's rules.
-pub fn first_unfit(p: Plan) -> Found
+pub fn first_unfit(p: Plan) -> Option<usize>
     ensures { unfit_of result ≡ rules.rule5 (seen p) }
 {
-    let modules = look::module_count(p);
+    if let Some(module) = first_without_mode(p) {
+        return Some(2 + module);
+    }
+    let first_mode = 2 + look::module_count(p);
     let modes = look::mode_count(p);
+    if let Some(mode) = first_bad_switch(&p.modes[..modes]) {
+        return Some(first_mode + mode);
+    }
     let tasks = look::task_count(p);
-    let count = look::invocation_count(p);
-    let all_modes = p.modes;
-    let m = first_without_mode(all_modes, modes, modules);
-    if m < modules {
-        return Found::At(2 + m);
-    }
-    let first_mode = 2 + modules;
-    let k = first_bad_switch(all_modes, modes);
-    if k < modes {
-        return Found::At(first_mode + k);
-    }
     let first_invocation = first_mode + modes + tasks;
-    let invocations = p.invocations;
-    let i = lower(first_misfit(p), first_repeat(invocations, count));
-    if i < count {
-        return Found::At(first_invocation + i);
+    if let Some(run) = first_misfit(p) {
+        return Some(first_invocation + run);
     }
-    let joins = look::connection_count(p);
-    let connections = p.connections;
-    let c = first_doubtful(connections, joins);
-    if c < joins {
-        return Found::At(first_invocation + count + c);
+    let runs = look::invocation_count(p);
+    let first_connection = first_invocation + runs;
+    if let Some(connection) = first_doubtful(p) {
+        return Some(first_connection + connection);
     }
-    Found::Nothing
+    None
 }

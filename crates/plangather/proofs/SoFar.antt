@@ -6,6 +6,7 @@ use native.Mathlib.Omega.{arith}
 use lib.Dec.{eqb}
 use lib.ListN.{length, get_or, set, take, drop, replicate}
 use lib.Seq.{get_or-set_other}
+use Rattle.std.specs.Prelude.{Ok, Err}
 use Prim.Native.Nat.{ℕ, zero, suc, ◌+◌, ◌-◌, ◌≤◌, ◌<◌}
 use Rattle.laws.specs.Res.{Res, ok, refuse}
 use Rattle.laws.proofs.Res.{refuse≢ok, ok_injective, refuse-place}
@@ -19,11 +20,10 @@ use Rattle.records.proofs.Bodies.{record_cut}
 use Rattle.records.proofs.Steps.{from, onward, one-step, found}
 use Rattle.units.specs.declared.Offset.{Offset}
 use Rattle.plan.specs.declared.Plan as memory
-use Rattle.plangather.specs.declared.Outcome.TheVariants.{Whole, Broken}
 use Rattle.plan.specs.Memory.{empty_plan, lay_out, no_plan, count_seen}
 use Rattle.plangather.specs.Gather.{one_more, with_bus, with_nodes, with_module, with_mode, with_task, with_invocation, with_connection, with_record, with_records, number_of, gathered_of}
 use Rattle.plangather.proofs.Gathering.{gathered-whole, file_planned}
-use Rattle.plangather.proofs.Stored.{picked, number-least, sizes_of, sizes_kept}
+use Rattle.plangather.proofs.Stored.{picked, number-least}
 
 -- ---- a count grows by one at most
 
@@ -70,7 +70,6 @@ pub record SoFar (s : List ℕ) (p : memory.Plan) (previous at : ℕ) : Type 0 w
   pub inside : at ≤ length s
   pub whole : gather_on empty_plan (records plan_follows 1 s) ≡ gather_on p (from Plan 1 s previous at)
   pub counted : (k : ℕ) → 3 ≤ k → count_seen p k ≤ at
-  pub sized : sizes_of p ≡ sizes_of empty_plan
 
 gather_before : (order : ℕ → ℕ → Bool) (n : ℕ) (p : memory.Plan) (r : Rec) (w : Res (List Rec))
     → gather_on p (before order n r w) ≡ gather_on (with_record p r) w
@@ -80,15 +79,15 @@ gather_before order n p r (refuse m place) = refl
 module _ (s : List ℕ) where
   pub so_far_none : SoFar s empty_plan 0 0
   unfolding records from empty_plan lay_out no_plan count_seen
-  so_far_none = record { inside = omega arith; whole = refl; counted = λ k h. omega (arith, zeros 8 k); sized = refl }
+  so_far_none = record { inside = omega arith; whole = refl; counted = λ k h. omega (arith, zeros 8 k) }
 
   finished : (p : memory.Plan) (m : Res (List Rec)) → records plan_follows 1 s ≡ m → gather_on empty_plan m ≡ ok p
-      → record { outcome = Whole; plan = p } ≡ gathered_of m
+      → Ok p ≡ gathered_of m
   finished p (ok rs) e g = rw (← ok_injective g, gathered-whole (file_planned s rs e))
   finished p (refuse n place) e g = refuse≢ok g
 
   broken : (place : ℕ) (m : Res (List Rec)) → gather_on empty_plan m ≡ refuse 1 place
-      → record { outcome = Broken (record { 0 = place }); plan = empty_plan } ≡ gathered_of m
+      → Err (record { 0 = place }) ≡ gathered_of m
   broken place (ok rs) g = refuse≢ok (sym g)
   broken place (refuse n q) g = rw (refuse-place g)
 
@@ -111,7 +110,6 @@ module _ {s : List ℕ} {p : memory.Plan} {previous at : ℕ} (h : SoFar s p pre
             ∙ gather_before plan_follows 1 p (record_of kind (drop body s)) (from Plan 1 s kind next)
             ∙ rw r;
         counted = λ k t. rw r (omega (arith, counted-more p (record_of kind (drop body s)) k t, h.counted k t, f.further));
-        sized = rw r (sizes_kept p (record_of kind (drop body s)) ∙ h.sized);
       }
 
   -- a record is counted at a place inside of the file, and what stands behind it is less
@@ -125,10 +123,8 @@ module _ {s : List ℕ} {p : memory.Plan} {previous at : ℕ} (h : SoFar s p pre
       let f = found Plan s previous at kind body next (sym next-is ∙ e) in
       omega (arith, f.further, f.fits)
 
-  pub so_far_end : step ≡ End
-      → record { outcome = Whole; plan = p } ≡ gathered_of (records plan_follows 1 s)
+  pub so_far_end : step ≡ End → Ok p ≡ gathered_of (records plan_follows 1 s)
   so_far_end e = finished s p (records plan_follows 1 s) refl (onwards e)
 
-  pub so_far_wrong : {place : Offset} → step ≡ Wrong place
-      → record { outcome = Broken place; plan = empty_plan } ≡ gathered_of (records plan_follows 1 s)
+  pub so_far_wrong : {place : Offset} → step ≡ Wrong place → Err place ≡ gathered_of (records plan_follows 1 s)
   so_far_wrong {place} e = broken s place.0 (records plan_follows 1 s) (onwards e)

@@ -1,7 +1,7 @@
 -- A plan gathered from records as they are met: what one record adds to the plan in memory, and what a whole file comes to.
-use Rattle.std.specs.Prelude.{Bool, cond, ◌&&◌, List, [], ◌∷◌, eqb, leb, ltb, get_or, set, ℕ, ◌+◌}
+use Rattle.std.specs.Prelude.{Bool, cond, ◌&&◌, List, [], ◌∷◌, Result, Ok, Err, eqb, leb, get_or, set, ℕ, ◌+◌}
+use Rattle.units.specs.declared.Offset.{Offset}
 use Rattle.laws.specs.Res.{Res, ok, refuse}
-use Rattle.rules.specs.Limits.{most_modules, most_modes, most_tasks, most_invocations, most_connections}
 use Rattle.rules.specs.Records.{Rec}
 use Rattle.rules.specs.Plan as rules
 use Rattle.plan.specs.declared.Bus.{Bus}
@@ -11,9 +11,7 @@ use Rattle.plan.specs.declared.Task.{Task}
 use Rattle.plan.specs.declared.Invocation.{Invocation}
 use Rattle.plan.specs.declared.Connection.{Connection}
 use Rattle.plan.specs.declared.Plan.{Plan}
-use Rattle.plangather.specs.declared.Outcome.TheVariants.{Whole, Broken}
-use Rattle.plangather.specs.declared.Gathered.{Gathered}
-use Rattle.plan.specs.Memory.{bus_laid, module_laid, mode_laid, task_laid, invocation_laid, connection_laid, count_seen, lay_out, empty_plan}
+use Rattle.plan.specs.Memory.{bus_laid, module_laid, mode_laid, task_laid, invocation_laid, connection_laid, count_seen, lay_out}
 
 -- the kinds of things
 unfoldable pub is_thing : ℕ → Bool
@@ -25,13 +23,6 @@ number_of counts kind = cond (is_thing kind) (get_or counts kind 0) 0
 
 unfoldable pub counted_more : List ℕ → ℕ → List ℕ
 counted_more counts kind = cond (is_thing kind) (set counts kind (get_or counts kind 0 + 1)) counts
-
--- by kind, how many have a place; and the kind again where the n-th of it has one, else 0
-unfoldable pub places : List ℕ
-places = 0 ∷ 1 ∷ 1 ∷ most_modules ∷ most_modes ∷ most_tasks ∷ most_invocations ∷ most_connections ∷ 0 ∷ 1 ∷ []
-
-unfoldable pub kept_kind : ℕ → ℕ → ℕ
-kept_kind kind n = cond (ltb n (get_or places kind 0)) kind 0
 
 -- the counts with one thing of a kind more
 unfoldable pub one_more : Plan → ℕ → List ℕ
@@ -146,8 +137,7 @@ abbrev pub with_records : Plan → List Rec → Plan
 with_records p [] = p
 with_records p (r ∷ rs) = with_records (with_record p r) rs
 
--- What gathering a file comes to, by what the record rules say of the file: the plan of its records, or refusal 1's place and the
--- plan with nothing in it.
-abbrev pub gathered_of : Res (List Rec) → Gathered
-gathered_of (ok rs) = record { outcome = Whole; plan = lay_out (rules.plan_of rs) }
-gathered_of (refuse n place) = record { outcome = Broken (record { 0 = place }); plan = empty_plan }
+-- What gathering a file comes to, by what the record rules say of the file: the plan of its records, or refusal 1's place.
+abbrev pub gathered_of : Res (List Rec) → Result Plan Offset
+gathered_of (ok rs) = Ok (lay_out (rules.plan_of rs))
+gathered_of (refuse n place) = Err (record { 0 = place })

@@ -1,163 +1,158 @@
 // What the lines of a plan's text have, place by place, and how their words are spelled: for what prints a plan and for what reads one.
 #![tactic(auto)]
 
-ghost use Rattle.std.specs.Prelude.{◌≡◌, [], ◌∷◌, ◌+◌, ◌≤◌, length, get_or};
+ghost use Rattle.std.specs.Prelude.{◌≡◌, ◌+◌, ◌-◌, ◌≤◌, length, take, drop};
 ghost use Rattle.std.proofs.lemmas.List.Edits.{sets};
-ghost use Rattle.laws.specs.Loops.{pad_to};
 ghost use Rattle.text.specs.Lines.{is_word};
 ghost use Rattle.planwords.specs.Items.{spelled, first_of, items_of};
 ghost use Rattle.planwords.specs.TextPlan.{reason_text};
-ghost use Rattle.planwords.specs.declared.Item.TheVariants as item;
-ghost use Rattle.planitems.specs.Bank.{items_laid, span_of};
+ghost use Rattle.planitems.specs.declared.TheConstants.{ITEMS, WORDS};
 
 use planwords::{Item, Name, Reason};
 use text::lines::is_word;
 use text::put_bytes;
 
-// The most items that a line has behind its first word.
-const ITEMS: usize = 14;
+// Numbers of one byte, two and four that stand as they are.
+const BYTE: Item = Item::Number {
+    bytes: 1,
+    columns: 0,
+};
 
-// The kinds from here on have no line, nor have 0 and 8.
-const LISTED: u8 = fields::framed_bus::KIND + 1;
+const SHORT: Item = Item::Number {
+    bytes: 2,
+    columns: 0,
+};
 
-// How many items the line of a kind has behind its first word.
-pub fn item_count(kind: u8) -> usize
-    ensures { (result ≡ length (items_of kind)) × (result ≤ 14) }
-{
-    let counts: [usize; LISTED as usize] = [0, 12, 1, 3, 7, 7, 7, 5, 0, 14];
-    if kind < LISTED {
-        counts[kind as usize]
-    } else {
-        0
-    }
-}
+const LONG: Item = Item::Number {
+    bytes: 4,
+    columns: 0,
+};
 
-// The word that the line of a kind begins with.
-pub fn first_of(kind: u8) -> Name
-    ensures { result ≡ first_of kind }
-{
-    let firsts: [Name; LISTED as usize] = [
-        Name::Bus,
-        Name::Bus,
-        Name::Nodes,
-        Name::Module,
-        Name::Mode,
-        Name::Task,
-        Name::Run,
-        Name::Connect,
-        Name::Bus,
-        Name::Bus,
-    ];
-    if kind < LISTED {
-        firsts[kind as usize]
-    } else {
-        Name::Bus
-    }
-}
+// The number of a thing, a time and a rate, each in its columns.
+const THING: Item = Item::Number {
+    bytes: 1,
+    columns: 2,
+};
 
-// The items of a bus, without those that only kind 9 has.
-fn bus_items() -> [Item; ITEMS]
-    ensures { result ≡ items_laid 1 }
-{
-    let short = Item::Number {
-        bytes: 2,
-        columns: 0,
-    };
-    let long = Item::Number {
-        bytes: 4,
-        columns: 0,
-    };
-    [
-        Item::Word(Name::Kbit),
-        long,
-        Item::Word(Name::Overhead),
-        short,
-        Item::Word(Name::Least),
-        short,
-        Item::Word(Name::Largest),
-        short,
-        Item::Word(Name::Gap),
-        short,
-        Item::Word(Name::Resolution),
-        long,
-        Item::End,
-        Item::End,
-    ]
-}
+const TIME: Item = Item::Number {
+    bytes: 4,
+    columns: 7,
+};
 
-fn number(bytes: u8, columns: u8) -> Item
-    ensures { result ≡ item.Number bytes columns }
-{
-    Item::Number { bytes, columns }
-}
+const RATE: Item = Item::Number {
+    bytes: 2,
+    columns: 5,
+};
 
-// Seven items, filled up with `End`.
-fn seven(a: Item, b: Item, c: Item, d: Item, e: Item, f: Item, g: Item) -> [Item; ITEMS]
-    ensures { result ≡ pad_to 14 item.End (a ∷ b ∷ c ∷ d ∷ e ∷ f ∷ g ∷ []) }
-{
-    let end = Item::End;
-    [a, b, c, d, e, f, g, end, end, end, end, end, end, end]
-}
+// What stands behind the first word of each kind's line, one line behind the other: a bus, of which the last two are kind 9's alone, the
+// nodes, a module, a mode, a task, an invocation, a connection. Of lists apart the compiler would make a table of addresses, which is data.
+const ITEMS: [Item; 44] = [
+    Item::Word(Name::Kbit),
+    LONG,
+    Item::Word(Name::Overhead),
+    SHORT,
+    Item::Word(Name::Least),
+    SHORT,
+    Item::Word(Name::Largest),
+    SHORT,
+    Item::Word(Name::Gap),
+    SHORT,
+    Item::Word(Name::Resolution),
+    LONG,
+    Item::Word(Name::BitsPerByte),
+    BYTE,
+    BYTE,
+    Item::Word(Name::On),
+    Item::Word(Name::Node),
+    BYTE,
+    Item::Word(Name::Of),
+    Item::Word(Name::Module),
+    THING,
+    Item::Word(Name::Period),
+    TIME,
+    Item::Word(Name::Switch),
+    TIME,
+    Item::Word(Name::Of),
+    Item::Word(Name::Module),
+    THING,
+    Item::Word(Name::Bytes),
+    BYTE,
+    Item::Word(Name::Worst),
+    TIME,
+    Item::Word(Name::In),
+    Item::Word(Name::Mode),
+    THING,
+    Item::Word(Name::Task),
+    THING,
+    Item::Word(Name::Rate),
+    RATE,
+    Item::Word(Name::Task),
+    THING,
+    Item::Word(Name::To),
+    Item::Word(Name::Task),
+    THING,
+];
 
-// The items of a kind's line, filled up with `End`.
-fn items_of(kind: u8) -> [Item; ITEMS]
-    ensures { result ≡ items_laid kind }
-{
-    let end = Item::End;
-    let on = Item::Word(Name::On);
-    let node = Item::Word(Name::Node);
-    let of = Item::Word(Name::Of);
-    let module = Item::Word(Name::Module);
-    let period = Item::Word(Name::Period);
-    let switch = Item::Word(Name::Switch);
-    let bytes = Item::Word(Name::Bytes);
-    let worst = Item::Word(Name::Worst);
-    let within = Item::Word(Name::In);
-    let mode = Item::Word(Name::Mode);
-    let task = Item::Word(Name::Task);
-    let rate = Item::Word(Name::Rate);
-    let to = Item::Word(Name::To);
-    let one = number(1, 0);
-    let name = number(1, 2);
-    let time = number(4, 7);
-    match kind {
-        fields::bus::KIND => bus_items(),
-        fields::framed_bus::KIND => {
-            let mut items = bus_items();
-            items[12] = Item::Word(Name::BitsPerByte);
-            items[13] = one;
-            items
-        }
-        fields::nodes::KIND => seven(one, end, end, end, end, end, end),
-        fields::module::KIND => seven(on, node, one, end, end, end, end),
-        fields::mode::KIND => seven(of, module, name, period, time, switch, time),
-        fields::task::KIND => seven(of, module, name, bytes, one, worst, time),
-        fields::invocation::KIND => seven(within, mode, name, task, name, rate, number(2, 5)),
-        fields::connection::KIND => seven(task, name, to, task, name, end, end),
-        _ => [end; ITEMS],
-    }
-}
-
-pub fn item_at(kind: u8, k: usize) -> Item
-    ensures { result ≡ get_or (items_of kind) k item.End }
-{
-    let items = items_of(kind);
-    if k < ITEMS { items[k] } else { Item::End }
-}
-
-// All words, one behind the other.
-const WORDS: [u8; 149] =
-    *b"buskbit/soverhead-bytesleast-payloadlargest-payloadgap-bitsresolutionbits-per-bytenodesmoduleonnodemodeofperiodswitchtaskbytesworstruninrateconnectto";
-
-// A word's part of them.
+// A part of a row: from its first place to before `to`.
 #[derive(Clone, Copy)]
 struct Span {
     from: usize,
     to: usize,
 }
 
+// The word that the line of a kind begins with.
+#[tactic(auto, unfolding(planwords::specs::Items::first_of, planwords::specs::Items::form_of, planwords::specs::Items::forms))]
+pub fn first_of(kind: u8) -> Name
+    ensures { result ≡ first_of kind }
+{
+    match kind {
+        fields::nodes::KIND => Name::Nodes,
+        fields::module::KIND => Name::Module,
+        fields::mode::KIND => Name::Mode,
+        fields::task::KIND => Name::Task,
+        fields::invocation::KIND => Name::Run,
+        fields::connection::KIND => Name::Connect,
+        _ => Name::Bus,
+    }
+}
+
+// Where a kind's line stands among the items.
+#[tactic(auto, unfolding(planwords::specs::Items::items_of, planwords::specs::Items::form_of, planwords::specs::Items::forms))]
+fn line_of(kind: u8) -> Span
+    ensures within { (result.from ≤ result.to) × ((result.to ≤ 44) × (result.to - result.from ≤ 14)) }
+    ensures items { take (result.to - result.from) (drop result.from ITEMS) ≡ items_of kind }
+{
+    match kind {
+        fields::bus::KIND => Span { from: 0, to: 12 },
+        fields::framed_bus::KIND => Span { from: 0, to: 14 },
+        fields::nodes::KIND => Span { from: 14, to: 15 },
+        fields::module::KIND => Span { from: 15, to: 18 },
+        fields::mode::KIND => Span { from: 18, to: 25 },
+        fields::task::KIND => Span { from: 25, to: 32 },
+        fields::invocation::KIND => Span { from: 32, to: 39 },
+        fields::connection::KIND => Span { from: 39, to: 44 },
+        _ => Span { from: 0, to: 0 },
+    }
+}
+
+// What stands behind that word.
+pub fn items_of(kind: u8) -> &'static [Item]
+    ensures all { result.now ≡ items_of kind }
+    ensures few { length result.now ≤ 14 }
+{
+    let line = line_of(kind);
+    &ITEMS[line.from..line.to]
+}
+
+// All words, one behind the other; of words apart there would be a table of addresses too.
+const WORDS: [u8; 149] =
+    *b"buskbit/soverhead-bytesleast-payloadlargest-payloadgap-bitsresolutionbits-per-bytenodesmoduleonnodemodeofperiodswitchtaskbytesworstruninrateconnectto";
+
+// A word's part of them.
+#[tactic(auto, unfolding(planwords::specs::Items::spelled))]
 fn part_of(name: Name) -> Span
-    ensures { result ≡ span_of name }
+    ensures within { (result.from ≤ result.to) × ((result.to ≤ 149) × (result.to - result.from ≤ 15)) }
+    ensures word { take (result.to - result.from) (drop result.from WORDS) ≡ spelled name }
 {
     match name {
         Name::Bus => Span { from: 0, to: 3 },
@@ -187,29 +182,32 @@ fn part_of(name: Name) -> Span
     }
 }
 
+// How a word is spelled.
+fn spelled(name: Name) -> &'static [u8]
+    ensures { (result.now ≡ spelled name) × (length result.now ≤ 15) }
+{
+    let part = part_of(name);
+    &WORDS[part.from..part.to]
+}
+
 // A word from a place on; the place behind it.
 pub fn put_name(out: &mut [u8], at: usize, name: Name) -> usize
     requires { at + 15 ≤ 18446744073709551615 }
     ensures out_after { (out.new ≡ sets out.old at (spelled name)) × (result ≡ at + length (spelled name)) }
     ensures few { result ≤ at + 15 }
 {
-    let part = part_of(name);
-    let from = part.from;
-    let to = part.to;
-    put_bytes(out, at, &WORDS[from..to])
+    put_bytes(out, at, spelled(name))
 }
 
 // Whether a text is the word.
 pub fn is_name(word: &[u8], name: Name) -> bool
     ensures { result ≡ is_word (spelled name) word.now }
 {
-    let part = part_of(name);
-    let from = part.from;
-    let to = part.to;
-    is_word(word, &WORDS[from..to])
+    is_word(word, spelled(name))
 }
 
 // The words of a reason from a place on; the place behind them.
+#[tactic(auto, unfolding(planwords::specs::TextPlan::reason_text))]
 pub fn put_reason(out: &mut [u8], at: usize, why: Reason) -> usize
     requires { at + 25 ≤ 18446744073709551615 }
     ensures out_after { (out.new ≡ sets out.old at (reason_text why)) × (result ≡ at + length (reason_text why)) }

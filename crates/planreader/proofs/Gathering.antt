@@ -33,15 +33,14 @@ use Rattle.planwords.specs.TextPlan.{
   plan_bytes,
 }
 use Rattle.planwords.proofs.Shorter.{record_short}
-use Rattle.planreader.specs.declared.Said.{Said}
-use Rattle.planreader.specs.declared.Said.TheVariants as said
-use Rattle.planreader.specs.declared.Reading.{Reading}
-use Rattle.planreader.specs.declared.Reading.TheVariants as reading
-use Rattle.planreader.specs.Memory.{line_stored, longest_text, reading_from, said_of, stored_lines, stored_on, stored_text}
+use Rattle.std.specs.Prelude.{Result, Ok, Err}
+use Rattle.planreader.specs.declared.Last.{Last}
+use Rattle.planreader.specs.declared.Unreadable.{Unreadable}
+use Rattle.planreader.specs.Memory.{last_of, line_stored, longest_text, reading_from, said_of, stopped, stored_lines, stored_on, stored_text}
 use Rattle.planreader.proofs.Stored.{blank-stored, says-stored}
 
 -- What a text comes to: the reading, and what is left in the lent bytes.
-abbrev pub Gathers : List ℕ → List ℕ → Reading → List ℕ → Type 0
+abbrev pub Gathers : List ℕ → List ℕ → Result ℕ Unreadable → List ℕ → Type 0
 Gathers text old r out = (r ≡ reading_from 0 (text_read text)) × (out ≡ sets old 0 (stored_text text))
 
 pub record Gathering (text old out : List ℕ) (previous end at line : ℕ) : Type 0 where
@@ -69,8 +68,16 @@ unfolding plan_bytes
 before-reading r end (plan rs) =
     let whole = append_assoc (bytes_of r) (joined (map bytes_of rs)) (0 ∷ []) in
     let long = length-append (bytes_of r) (joined (map bytes_of rs) ++ (0 ∷ [])) in
-    ap reading.Plan (ap (λ (l : List ℕ). end + length l) whole ∙ omega (arith, long))
+    ap Ok (ap (λ (l : List ℕ). end + length l) whole ∙ omega (arith, long))
 before-reading r end (unreadable n why) = refl
+
+abbrev kind_in : Result Last Reason → ℕ
+kind_in (Ok last) = last.kind
+kind_in (Err why) = 0
+
+abbrev end_in : Result Last Reason → ℕ
+end_in (Ok last) = last.end
+end_in (Err why) = 0
 
 -- what a line leads to: the kind behind it, and how many bytes of it are stored
 record Leads (previous : ℕ) (line : List ℕ) (m : LineRead) (kind : ℕ) : Type 0 where
@@ -78,10 +85,10 @@ record Leads (previous : ℕ) (line : List ℕ) (m : LineRead) (kind : ℕ) : Ty
   stored : (rest : ℕ → List ℕ) → stored_on previous m rest ≡ rest kind
   few : length (line_stored previous line) ≤ length line
 
-leads : (previous : ℕ) (line : List ℕ) (m : LineRead) → line_read previous line ≡ m → (at kind end : ℕ) → said_of previous at m ≡ said.Goes kind end
+leads : (previous : ℕ) (line : List ℕ) (m : LineRead) → line_read previous line ≡ m → (at kind end : ℕ) → said_of previous at m ≡ Ok (last_of kind end)
     → Leads previous line m kind
 leads previous line blank q at kind end e =
-    let same : previous ≡ kind = cc in
+    let same : previous ≡ kind = ap kind_in e in
     let none = blank-stored previous line q in
     record {
       result = λ number end rest. rw (none, add-zero end, same);
@@ -89,7 +96,7 @@ leads previous line blank q at kind end e =
       few = rw none (omega arith);
     }
 leads previous line (says r) q at kind end e =
-    let same : r.kind ≡ kind = cc in
+    let same : r.kind ≡ kind = ap kind_in e in
     let bytes = says-stored previous line r q in
     record {
       result = λ number end rest. rw (bytes, ← same) (before-reading r end (rest r.kind));
@@ -98,25 +105,25 @@ leads previous line (says r) q at kind end e =
     }
 leads previous line (wrong why) q at kind end e = let z : ◌≡◌ {A = ℕ} 0 1 = cc in absurd (omega arith)
 
-goes_to : (previous : ℕ) (line : List ℕ) (m : LineRead) → (at kind end : ℕ) → said_of previous at m ≡ said.Goes kind end → end ≡ at
-goes_to previous line blank at kind end e = cc
-goes_to previous line (says r) at kind end e = cc
+goes_to : (previous : ℕ) (line : List ℕ) (m : LineRead) → (at kind end : ℕ) → said_of previous at m ≡ Ok (last_of kind end) → end ≡ at
+goes_to previous line blank at kind end e = sym (ap end_in e)
+goes_to previous line (says r) at kind end e = sym (ap end_in e)
 goes_to previous line (wrong why) at kind end e = let z : ◌≡◌ {A = ℕ} 0 1 = cc in absurd (omega arith)
 
-fails_with : (previous at number end : ℕ) (m : LineRead) (why : Reason) (rest : ℕ → TextRead) → said_of previous at m ≡ said.Wrong why
-    → reading_from end (goes_on number previous m rest) ≡ reading.Unreadable number why
+fails_with : (previous at number end : ℕ) (m : LineRead) (why : Reason) (rest : ℕ → TextRead) → said_of previous at m ≡ Err why
+    → reading_from end (goes_on number previous m rest) ≡ Err (stopped number why)
 fails_with previous at number end blank why rest e = let z : ◌≡◌ {A = ℕ} 0 1 = cc in absurd (omega arith)
 fails_with previous at number end (says r) why rest e = let z : ◌≡◌ {A = ℕ} 0 1 = cc in absurd (omega arith)
-fails_with previous at number end (wrong reason) why rest e = let same : reason ≡ why = cc in ap (reading.Unreadable number) same
+fails_with previous at number end (wrong reason) why rest e = let same : reason ≡ why = cc in ap (λ (w : Reason). Err (stopped number w)) same
 
-stops_with : (previous at : ℕ) (m : LineRead) (why : Reason) (rest : ℕ → List ℕ) → said_of previous at m ≡ said.Wrong why → stored_on previous m rest ≡ []
+stops_with : (previous at : ℕ) (m : LineRead) (why : Reason) (rest : ℕ → List ℕ) → said_of previous at m ≡ Err why → stored_on previous m rest ≡ []
 stops_with previous at blank why rest e = let z : ◌≡◌ {A = ℕ} 0 1 = cc in absurd (omega arith)
 stops_with previous at (says r) why rest e = let z : ◌≡◌ {A = ℕ} 0 1 = cc in absurd (omega arith)
 stops_with previous at (wrong reason) why rest e = refl
 
 module _ {text old out : List ℕ} {previous end at line : ℕ} (g : Gathering text old out previous end at line) where
   -- the line that stands here, and what is stored with it
-  module _ {stop : ℕ} {x : Said} {out' : List ℕ} (w : at < length text) (ended : stop ≡ line_end text at)
+  module _ {stop : ℕ} {x : Result Last Reason} {out' : List ℕ} (w : at < length text) (ended : stop ≡ line_end text at)
       (told : (x ≡ said_of previous (end + length (line_stored previous (take (stop - at) (drop at text)))) (line_read previous (take (stop - at) (drop at text))))
       × (out' ≡ sets out end (line_stored previous (take (stop - at) (drop at text))))) where
     here : take (stop - at) (drop at text) ≡ one_line (drop at text)
@@ -153,17 +160,17 @@ module _ {text old out : List ℕ} {previous end at line : ℕ} (g : Gathering t
         ∙ sym (sets_append out end (line_stored previous (one_line (drop at text))) rest)
         ∙ (rw (lines-here text at w) at whole)
 
-    pub gathering_unreadable : {why : Reason} → x ≡ said.Wrong why → Gathers text old (reading.Unreadable (line + 1) why) out'
+    pub gathering_unreadable : {why : Reason} → x ≡ Err why → Gathers text old (Err (stopped (line + 1) why)) out'
     gathering_unreadable {why} q =
         let m = line_read previous (one_line (drop at text)) in
         let place = end + length (line_stored previous (one_line (drop at text))) in
         let wrong-here = sym said_here ∙ q in (
-          ap (λ (n : ℕ). reading.Unreadable n why) (add-one line)
+          ap (λ (n : ℕ). Err (stopped n why)) (add-one line)
               ∙ sym (fails_with previous place (suc line) end m why (λ kind. read_lines (suc (suc line)) kind behind) wrong-here) ∙ result-here,
           ap (sets out' place) (sym (stops_with previous place m why (λ kind. stored_lines kind behind) wrong-here)) ∙ stored_on_lem,
         )
 
-    pub gathering_turn : {kind end' next : ℕ} → x ≡ said.Goes kind end' → (at ≤ length text → stop ≤ length text) × (at ≤ stop)
+    pub gathering_turn : {kind end' next : ℕ} → x ≡ Ok (last_of kind end') → (at ≤ length text → stop ≤ length text) × (at ≤ stop)
         → next ≡ behind_end text stop → Gathering text old out' kind end' next (line + 1)
     unfolding behind line_end
     gathering_turn {kind} {end'} {next} q inside z =
@@ -197,7 +204,7 @@ module _ {text old out : List ℕ} {previous end at line : ℕ} (g : Gathering t
         not-before false h = omega (arith, stop-inside)
 
   -- behind the last line
-  pub gathering_end : {r : Reading} {out' : List ℕ} → length text ≤ at
+  pub gathering_end : {r : Result ℕ Unreadable} {out' : List ℕ} → length text ≤ at
       → (r ≡ reading_from end (read_lines (line + 1) previous [])) × (out' ≡ sets out end (stored_lines previous [])) → Gathers text old r out'
   unfolding lines_of
   gathering_end w e =
@@ -205,11 +212,3 @@ module _ {text old out : List ℕ} {previous end at line : ℕ} (g : Gathering t
       let stored = g.stored in
       let none = drop_all at text w in
       (e.0 ∙ rw (add-one line) (rw none at result), e.1 ∙ (rw none at stored))
-
-  pub last-kept : {r : Reading} {out' : List ℕ}
-      → (r ≡ reading_from end (read_lines (line + 1) previous [])) × (out' ≡ sets out end (stored_lines previous [])) → length out' ≡ length old
-  last-kept e = ap length e.1 ∙ length-sets out end (stored_lines previous []) ∙ g.long
-
-  -- no place and no line's number wraps
-  pub gathering_near : (line ≤ 262144) × (end ≤ 262144)
-  gathering_near = (omega (arith, g.counted, g.within, g.short), omega (arith, g.few, g.within, g.short))

@@ -12,10 +12,7 @@ use Prim.Native.Nat.{ℕ, zero, suc, ◌+◌, ◌-◌, ◌*◌, ◌^◌, ◌≤�
 use Rattle.laws.specs.Numbers.{bytes}
 use Rattle.laws.proofs.Laid.{sets_append}
 use Rattle.text.specs.Lines.{is_word, next_word, whole_number, words}
-use Rattle.text.specs.declared.lines.Whole.{Whole}
-use Rattle.text.specs.declared.lines.Whole.TheVariants as whole
 use Rattle.text.specs.declared.lines.Word.{Word}
-use Rattle.text.specs.declared.lines.Word.TheVariants.{Stands, None}
 use Rattle.text.proofs.Putting.{Put}
 use Rattle.text.proofs.Words.{WordsFrom, later-found, none_found, part_found, word-found, words-from}
 use Rattle.planwords.specs.declared.Item.{Item}
@@ -24,13 +21,10 @@ use Rattle.planwords.specs.declared.Reason.{Reason}
 use Rattle.planwords.specs.declared.Reason.TheVariants as reason
 use Rattle.planwords.specs.Items.{spelled}
 use Rattle.planwords.specs.TextPlan.{Matched, fits, fails, number_first, with_number, matched}
-use Rattle.planreader.specs.declared.Judged.{Judged}
-use Rattle.planreader.specs.declared.Judged.TheVariants as judged-as
-use Rattle.planreader.specs.declared.Found.{Found}
-use Rattle.planreader.specs.declared.Found.TheVariants as found
-use Rattle.planreader.specs.declared.Matching.{Matching}
-use Rattle.planreader.specs.declared.Matching.TheVariants as matching-as
-use Rattle.planreader.specs.Memory.{found_at, found_from, found_with, judged, judged_number, matching, missing, taken, taken_by}
+use Rattle.std.specs.Prelude.{Option, Some, None, Result, Ok, Err}
+use Rattle.planreader.specs.declared.Number.{Number}
+use Rattle.planreader.specs.declared.Passed.{Passed}
+use Rattle.planreader.specs.Memory.{found_at, found_from, found_with, judged, judged_number, matching, missing, number_of, taken, taken_by}
 
 -- ---- words counted
 
@@ -41,23 +35,23 @@ pub record Counting (s : List ℕ) (at next count : ℕ) : Type 0 where
 pub counting_none : {s : List ℕ} {at : ℕ} → Counting s at at 0
 counting_none {s} {at} = record { sum = zero-add (length (words (drop at s))); few = omega arith }
 
-module _ {s : List ℕ} {at next count : ℕ} (g : Counting s at next count) {found : Word} (next-is : found ≡ next_word s next) where
+module _ {s : List ℕ} {at next count : ℕ} (g : Counting s at next count) {found : Option Word} (next-is : found ≡ next_word s next) where
   pub counting_end : found ≡ None → count ≡ length (words (drop at s))
   counting_end e =
       let none = none_found s next next-is e in
       let whole = g.sum in
       sym (add-zero count) ∙ (rw none at whole)
 
-  module _ {from to : ℕ} (e : found ≡ Stands from to) where
-    pub counting_turn : Counting s at to (count + 1)
+  module _ {w : Word} (e : found ≡ Some w) where
+    pub counting_turn : Counting s at w.to (count + 1)
     counting_turn =
         let more = word-found s next next-is e in
         let whole = g.sum in
-        let here : count + suc (length (words (drop to s))) ≡ length (words (drop at s)) = rw more at whole in
+        let here : count + suc (length (words (drop w.to s))) ≡ length (words (drop at s)) = rw more at whole in
         record { sum = omega arith; few = omega (arith, g.few, later-found s next next-is e) }
 
     -- no count wraps, and less is left
-    pub counting_less : (count + 1 ≤ length s) × (length s - to < length s - next)
+    pub counting_less : (count + 1 ≤ length s) × (length s - w.to < length s - next)
     counting_less =
         let part = part_found s next next-is e in
         (omega (arith, g.few, later-found s next next-is e, part.1), omega (arith, later-found s next next-is e, part.1))
@@ -65,18 +59,18 @@ module _ {s : List ℕ} {at next count : ℕ} (g : Counting s at next count) {fo
 -- ---- words held against items
 
 -- what is left to do behind a word
-abbrev matching_on : List Item → List ℕ → ℕ → Found → Matching
-matching_on items s end (found.Wrong why) = matching-as.Fails why
-matching_on items s end (found.Passes wide n next) = matching (matched items (words (drop next s))) end
+abbrev matching_on : List Item → List ℕ → ℕ → Result Passed Reason → Result ℕ Reason
+matching_on items s end (Err why) = Err why
+matching_on items s end (Ok p) = matching (matched items (words (drop p.next s))) end
 
-abbrev taken_on : List Item → List ℕ → Found → List ℕ
-taken_on items s (found.Wrong why) = []
-taken_on items s (found.Passes wide n next) = bytes wide n ++ taken items (words (drop next s))
+abbrev taken_on : List Item → List ℕ → Result Passed Reason → List ℕ
+taken_on items s (Err why) = []
+taken_on items s (Ok p) = bytes p.number.wide p.number.value ++ taken items (words (drop p.next s))
 
 module _ (s : List ℕ) (at : ℕ) (i : Item) (items : List Item) where
   number_step : (wide n end next : ℕ) (b : Bool)
       → matching (cond b (number_first n (matched items (words (drop next s)))) (fails reason.NumberTooLarge)) end
-      ≡ matching_on items s end (found_with (cond b (judged-as.Passes wide n) (judged-as.Wrong reason.NumberTooLarge)) next)
+      ≡ matching_on items s end (found_with (cond b (Ok (number_of wide n)) (Err reason.NumberTooLarge)) next)
   number_step wide n end next true = go (matched items (words (drop next s)))
     where
       go : (m : Matched) → matching (number_first n m) end ≡ matching m end
@@ -90,45 +84,43 @@ module _ (s : List ℕ) (at : ℕ) (i : Item) (items : List Item) where
   matched-step (item.Word name) w end next = go (is_word (spelled name) w)
     where
       go : (b : Bool) → matching (cond b (matched items (words (drop next s))) (fails (reason.Expected name))) end
-          ≡ matching_on items s end (found_with (cond b (judged-as.Passes 0 0) (judged-as.Wrong (reason.Expected name))) next)
+          ≡ matching_on items s end (found_with (cond b (Ok (number_of 0 0)) (Err (reason.Expected name))) next)
       go true = refl
       go false = refl
   matched-step (item.Number wide columns) w end next = go (whole_number w)
     where
-      go : (number : Whole) → matching (with_number wide number (matched items (words (drop next s)))) end
+      go : (number : Option ℕ) → matching (with_number wide number (matched items (words (drop next s)))) end
           ≡ matching_on items s end (found_with (judged_number wide number) next)
-      go whole.None = refl
-      go (whole.Value n) = number_step wide n end next (ltb n (256 ^ wide))
-  matched-step item.End w end next = refl
+      go None = refl
+      go (Some n) = number_step wide n end next (ltb n (256 ^ wide))
 
-  matched-none : (j : Item) (end : ℕ) → matching (matched (j ∷ items) []) end ≡ matching-as.Fails (missing j)
+  matched-none : (j : Item) (end : ℕ) → matching (matched (j ∷ items) []) end ≡ Err (missing j)
   unfolding matched
   matched-none (item.Word name) end = refl
   matched-none (item.Number wide columns) end = refl
-  matched-none item.End end = refl
 
   pub step-matched : (end : ℕ) → matching (matched (i ∷ items) (words (drop at s))) end ≡ matching_on items s end (found_at s at i)
   unfolding found_at
   step-matched end = go (next_word s at) (words-from s at)
     where
-      go : (w : Word) → WordsFrom s at w → matching (matched (i ∷ items) (words (drop at s))) end ≡ matching_on items s end (found_from s i w)
+      go : (w : Option Word) → WordsFrom s at w → matching (matched (i ∷ items) (words (drop at s))) end ≡ matching_on items s end (found_from s i w)
       go None e = rw e (matched-none i end)
-      go (Stands from to) e = rw e.0 (matched-step i (take (to - from) (drop from s)) end to)
+      go (Some w) e = rw e.0 (matched-step i (take (w.to - w.from) (drop w.from s)) end w.to)
 
   pub step-taken : taken (i ∷ items) (words (drop at s)) ≡ taken_on items s (found_at s at i)
   unfolding found_at taken
   step-taken = go (next_word s at) (words-from s at)
     where
-      by : (j : Judged) (next : ℕ) → taken_by j (taken items (words (drop next s))) ≡ taken_on items s (found_with j next)
-      by (judged-as.Passes wide n) next = refl
-      by (judged-as.Wrong why) next = refl
+      by : (j : Result Number Reason) (next : ℕ) → taken_by j (taken items (words (drop next s))) ≡ taken_on items s (found_with j next)
+      by (Ok n) next = refl
+      by (Err why) next = refl
 
-      go : (w : Word) → WordsFrom s at w → taken (i ∷ items) (words (drop at s)) ≡ taken_on items s (found_from s i w)
+      go : (w : Option Word) → WordsFrom s at w → taken (i ∷ items) (words (drop at s)) ≡ taken_on items s (found_from s i w)
       go None e = rw e
-      go (Stands from to) e = rw e.0 (by (judged i (take (to - from) (drop from s))) to)
+      go (Some w) e = rw e.0 (by (judged i (take (w.to - w.from) (drop w.from s))) w.to)
 
 -- what matching words with items comes to, with the place behind the bytes
-abbrev pub outcome : List Item → List (List ℕ) → ℕ → Matching
+abbrev pub outcome : List Item → List (List ℕ) → ℕ → Result ℕ Reason
 outcome items ws at = matching (matched items ws) (at + length (taken items ws))
 
 -- What is stored, and what is left of the items and the words, come to what all of them do.
@@ -139,56 +131,49 @@ pub record Holding (s : List ℕ) (from : ℕ) (items : List Item) (old : List �
   pub few : k ≤ length items
   pub long : length out ≡ length old
 
-pub holding_none : {s : List ℕ} {from : ℕ} {items : List Item} {old : List ℕ} {at : ℕ} → Holding s from items old at old from at 0
-holding_none = record { result = refl; stored = refl; near = omega arith; few = omega arith; long = refl }
-
 module _ {s : List ℕ} {from : ℕ} {items : List Item} {old : List ℕ} {at : ℕ} {out : List ℕ} {next end k : ℕ}
     (g : Holding s from items old at out next end k) where
-  module _ {i : Item} {f : Found} (w : k < length items) (here : i ≡ get_or items k item.End) (read : f ≡ found_at s next i) where
+  module _ (d : Item) {i : Item} {f : Result Passed Reason} (w : k < length items) (here : i ≡ get_or items k d) (read : f ≡ found_at s next i) where
     left : drop k items ≡ i ∷ drop (k + 1) items
-    left = rw (add-one k, here) (drop-cons items k item.End w)
+    left = rw (add-one k, here) (drop-cons items k d w)
 
-    taken_here : (told : Found) → f ≡ told → taken (drop k items) (words (drop next s)) ≡ taken_on (drop (k + 1) items) s told
+    taken_here : (told : Result Passed Reason) → f ≡ told → taken (drop k items) (words (drop next s)) ≡ taken_on (drop (k + 1) items) s told
     taken_here told q =
         ap (λ (l : List Item). taken l (words (drop next s))) left ∙ step-taken s next i (drop (k + 1) items)
         ∙ ap (taken_on (drop (k + 1) items) s) (sym read ∙ q)
 
-    matched-here : (told : Found) → f ≡ told → (place : ℕ)
+    matched-here : (told : Result Passed Reason) → f ≡ told → (place : ℕ)
         → matching (matched (drop k items) (words (drop next s))) place ≡ matching_on (drop (k + 1) items) s place told
     matched-here told q place =
         ap (λ (l : List Item). matching (matched l (words (drop next s))) place) left ∙ step-matched s next i (drop (k + 1) items) place
         ∙ ap (matching_on (drop (k + 1) items) s place) (sym read ∙ q)
 
-    pub holding_wrong : {why : Reason} → f ≡ found.Wrong why
-        → (matching-as.Fails why ≡ outcome items (words (drop from s)) at) × (out ≡ sets old at (taken items (words (drop from s))))
+    pub holding_wrong : {why : Reason} → f ≡ Err why
+        → (Err why ≡ outcome items (words (drop from s)) at) × (out ≡ sets old at (taken items (words (drop from s))))
     holding_wrong {why} q = (
-      sym (matched-here (found.Wrong why) q (end + length (taken (drop k items) (words (drop next s))))) ∙ g.result,
-      ap (sets out end) (sym (taken_here (found.Wrong why) q)) ∙ g.stored,
+      sym (matched-here (Err why) q (end + length (taken (drop k items) (words (drop next s))))) ∙ g.result,
+      ap (sets out end) (sym (taken_here (Err why) q)) ∙ g.stored,
     )
 
-    pub holding_turn : {wide n behind : ℕ} {out' : List ℕ} {end' : ℕ} → f ≡ found.Passes wide n behind → Put out end (bytes wide n) out' end' × (end' ≤ end + 255)
-        → Holding s from items old at out' behind end' (k + 1)
-    holding_turn {wide} {n} {behind} {out'} {end'} q p =
-        let rest = taken (drop (k + 1) items) (words (drop behind s)) in
-        let all = taken_here (found.Passes wide n behind) q in
-        let count : length (bytes wide n ++ rest) ≡ length (bytes wide n) + length rest = length-append (bytes wide n) rest in
-        let same : end' + length rest ≡ end + length (taken (drop k items) (words (drop next s))) = rw all (omega (arith, count, p.0.1)) in
+    pub holding_turn : {p : Passed} {out' : List ℕ} {end' : ℕ} → f ≡ Ok p → Put out end (bytes p.number.wide p.number.value) out' end' × (end' ≤ end + 255)
+        → Holding s from items old at out' p.next end' (k + 1)
+    holding_turn {p} {out'} {end'} q put =
+        let rest = taken (drop (k + 1) items) (words (drop p.next s)) in
+        let all = taken_here (Ok p) q in
+        let count : length (bytes p.number.wide p.number.value ++ rest) ≡ length (bytes p.number.wide p.number.value) + length rest = length-append (bytes p.number.wide p.number.value) rest in
+        let same : end' + length rest ≡ end + length (taken (drop k items) (words (drop next s))) = rw all (omega (arith, count, put.0.1)) in
         record {
           result =
-              ap (matching (matched (drop (k + 1) items) (words (drop behind s)))) same
-              ∙ sym (matched-here (found.Passes wide n behind) q (end + length (taken (drop k items) (words (drop next s))))) ∙ g.result;
+              ap (matching (matched (drop (k + 1) items) (words (drop p.next s)))) same
+              ∙ sym (matched-here (Ok p) q (end + length (taken (drop k items) (words (drop next s))))) ∙ g.result;
           stored =
-              rw (p.0.0, p.0.1) (sym (sets_append out end (bytes wide n) rest)) ∙ ap (sets out end) (sym all) ∙ g.stored;
-          near = omega (arith, g.near, p.1);
+              rw (put.0.0, put.0.1) (sym (sets_append out end (bytes p.number.wide p.number.value) rest)) ∙ ap (sets out end) (sym all) ∙ g.stored;
+          near = omega (arith, g.near, put.1);
           few = omega arith;
-          long = ap length p.0.0 ∙ length-sets out end (bytes wide n) ∙ g.long;
+          long = ap length put.0.0 ∙ length-sets out end (bytes p.number.wide p.number.value) ∙ g.long;
         }
 
-  -- no place wraps
-  pub holding_near : length items ≤ 14 → k < length items → end + 255 ≤ at + 3570
-  holding_near h w = omega (arith, g.near)
-
-  pub holding_end : {r : Matching} → length items ≤ k → r ≡ matching (matched [] (words (drop next s))) end
+  pub holding_end : {r : Result ℕ Reason} → length items ≤ k → r ≡ matching (matched [] (words (drop next s))) end
       → (r ≡ outcome items (words (drop from s)) at) × (out ≡ sets old at (taken items (words (drop from s))))
   unfolding taken
   holding_end {r} w e =

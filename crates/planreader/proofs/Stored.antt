@@ -11,10 +11,9 @@ use Rattle.laws.specs.Lists.{joined}
 use Rattle.rules.specs.Records.{Rec, kinds, fields, plan_follows}
 use Rattle.rules.specs.Table.{encoded, record_bytes}
 use Rattle.text.specs.Lines.{is_word, lines_of, uncommented, whole_number, words}
-use Rattle.text.specs.declared.lines.Whole.{Whole}
-use Rattle.text.specs.declared.lines.Whole.TheVariants as whole
+use Rattle.std.specs.Prelude.{Option, Some, None, Ok, Err}
 use Rattle.planwords.specs.declared.Item.{Item}
-use Rattle.planwords.specs.declared.Item.TheVariants.{Word, Number, End}
+use Rattle.planwords.specs.declared.Item.TheVariants.{Word, Number}
 use Rattle.planwords.specs.declared.Reason.TheVariants.{Expected, NumberTooLarge}
 use Rattle.planwords.specs.Items.{spelled, forms, form_of, items_of}
 use Rattle.planwords.specs.TextPlan.{
@@ -62,8 +61,7 @@ use Rattle.planwords.proofs.LineKinds.{
 }
 use Rattle.planwords.proofs.ReadsBack.{matched-fits, fails≢fits, fits_injective, blank≢says, unreadable≢plan, plan_injective}
 use Rattle.planwords.proofs.Shorter.{Spoken, spoken}
-use Rattle.planreader.specs.declared.Judged.TheVariants.{Passes, Wrong}
-use Rattle.planreader.specs.Memory.{judged_number, kind_stored, line_stored, stored_lines, stored_on, stored_text, taken, taken_by, words_stored}
+use Rattle.planreader.specs.Memory.{judged_number, kind_stored, line_stored, number_of, stored_lines, stored_on, stored_text, taken, taken_by, words_stored}
 
 -- ---- the numbers of a line
 
@@ -73,7 +71,6 @@ item_bytes [] ns = []
 item_bytes (Word name ∷ items) ns = item_bytes items ns
 item_bytes (Number wide columns ∷ items) [] = []
 item_bytes (Number wide columns ∷ items) (n ∷ ns) = bytes wide n ++ item_bytes items ns
-item_bytes (End ∷ items) ns = []
 
 -- are those that are taken
 taken-bytes : (items : List Item) (ws : List (List ℕ)) (ns : List ℕ) → matched items ws ≡ fits ns → taken items ws ≡ item_bytes items ns
@@ -84,7 +81,7 @@ taken-bytes (Word name ∷ items) [] ns e = fails≢fits e
 taken-bytes (Word name ∷ items) (w ∷ ws) ns e = go (is_word (spelled name) w) e (λ q. taken-bytes items ws ns q)
   where
     go : (b : Bool) → cond b (matched items ws) (fails (Expected name)) ≡ fits ns → (matched items ws ≡ fits ns → taken items ws ≡ item_bytes items ns)
-        → taken_by (cond b (Passes 0 0) (Wrong (Expected name))) (taken items ws) ≡ item_bytes items ns
+        → taken_by (cond b (Ok (number_of 0 0)) (Err (Expected name))) (taken items ws) ≡ item_bytes items ns
     go true q rest = rest q
     go false q rest = fails≢fits q
 taken-bytes (Number wide columns ∷ items) [] ns e = fails≢fits e
@@ -99,16 +96,15 @@ taken-bytes (Number wide columns ∷ items) (w ∷ ws) ns e = go (whole_number w
 
     fitting : (n : ℕ) (b : Bool) → cond b (number_first n (matched items ws)) (fails NumberTooLarge) ≡ fits ns
         → ((ms : List ℕ) → matched items ws ≡ fits ms → taken items ws ≡ item_bytes items ms)
-        → taken_by (cond b (Passes wide n) (Wrong NumberTooLarge)) (taken items ws) ≡ item_bytes (Number wide columns ∷ items) ns
+        → taken_by (cond b (Ok (number_of wide n)) (Err NumberTooLarge)) (taken items ws) ≡ item_bytes (Number wide columns ∷ items) ns
     fitting n true q rest = first n (matched items ws) refl q rest
     fitting n false q rest = fails≢fits q
 
-    go : (number : Whole) → with_number wide number (matched items ws) ≡ fits ns
+    go : (number : Option ℕ) → with_number wide number (matched items ws) ≡ fits ns
         → ((ms : List ℕ) → matched items ws ≡ fits ms → taken items ws ≡ item_bytes items ms)
         → taken_by (judged_number wide number) (taken items ws) ≡ item_bytes (Number wide columns ∷ items) ns
-    go whole.None q rest = fails≢fits q
-    go (whole.Value n) q rest = fitting n (ltb n (256 ^ wide)) q rest
-taken-bytes (End ∷ items) ws ns e = fails≢fits e
+    go None q rest = fails≢fits q
+    go (Some n) q rest = fitting n (ltb n (256 ^ wide)) q rest
 
 -- and those of the record's body
 body_bytes : {kind : ℕ} → PlanKind kind → {ns : List ℕ} → Fits (items_of kind) ns → item_bytes (items_of kind) ns ≡ encoded (fields kind) ns

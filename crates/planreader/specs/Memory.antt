@@ -1,14 +1,11 @@
 -- What a line and a text come to, in the code's values; and the bytes that are stored on the way.
-use Rattle.std.specs.Prelude.{cond, List, [], ◌∷◌, ◌++◌, leb, ltb, length, take, drop, ℕ, ◌+◌, ◌-◌, ◌^◌}
+use Rattle.std.specs.Prelude.{cond, List, [], ◌∷◌, ◌++◌, leb, ltb, length, take, drop, Option, Some, None, Result, Ok, Err, ℕ, ◌+◌, ◌-◌, ◌^◌}
 use Rattle.std.proofs.lemmas.List.Edits.{sets}
 use Rattle.laws.specs.Numbers.{bytes}
 use Rattle.rules.specs.Records.{plan_follows}
 use Rattle.text.specs.Text.{is_short}
 use Rattle.text.specs.Lines.{is_word, lines_of, next_word, uncommented, whole_number, words}
-use Rattle.text.specs.declared.lines.Whole.{Whole}
-use Rattle.text.specs.declared.lines.Whole.TheVariants as whole
 use Rattle.text.specs.declared.lines.Word.{Word}
-use Rattle.text.specs.declared.lines.Word.TheVariants as word
 use Rattle.planwords.specs.declared.Item.{Item}
 use Rattle.planwords.specs.declared.Item.TheVariants as item
 use Rattle.planwords.specs.declared.Reason.{Reason}
@@ -28,62 +25,57 @@ use Rattle.planwords.specs.TextPlan.{
   read_text,
   unreadable_line,
 }
-use Rattle.planreader.specs.declared.Judged.{Judged}
-use Rattle.planreader.specs.declared.Judged.TheVariants as judged-as
-use Rattle.planreader.specs.declared.Found.{Found}
-use Rattle.planreader.specs.declared.Found.TheVariants as found
-use Rattle.planreader.specs.declared.Matching.{Matching}
-use Rattle.planreader.specs.declared.Matching.TheVariants as matching-as
-use Rattle.planreader.specs.declared.Said.{Said}
-use Rattle.planreader.specs.declared.Said.TheVariants as said
-use Rattle.planreader.specs.declared.Reading.{Reading}
-use Rattle.planreader.specs.declared.Reading.TheVariants as reading
-use Rattle.planreader.specs.declared.Back.{Back}
-use Rattle.planreader.specs.declared.Back.TheVariants as result
+use Rattle.planreader.specs.declared.Number.{Number}
+use Rattle.planreader.specs.declared.Passed.{Passed}
+use Rattle.planreader.specs.declared.Last.{Last}
+use Rattle.planreader.specs.declared.Unreadable.{Unreadable}
+use Rattle.planreader.specs.declared.Unread.{Unread}
+use Rattle.planreader.specs.declared.Unread.TheVariants as unread
 
 -- ---- the words of a line
 
 -- a number of so many bytes, or what is wrong with the word
-abbrev pub judged_number : ℕ → Whole → Judged
-judged_number wide whole.None = judged-as.Wrong reason.NumberExpected
-judged_number wide (whole.Value n) = cond (ltb n (256 ^ wide)) (judged-as.Passes wide n) (judged-as.Wrong reason.NumberTooLarge)
+abbrev pub number_of : ℕ → ℕ → Number
+number_of wide n = record { wide = wide; value = n }
 
-abbrev pub judged : Item → List ℕ → Judged
-judged (item.Word name) w = cond (is_word (spelled name) w) (judged-as.Passes 0 0) (judged-as.Wrong (reason.Expected name))
+abbrev pub judged_number : ℕ → Option ℕ → Result Number Reason
+judged_number wide None = Err reason.NumberExpected
+judged_number wide (Some n) = cond (ltb n (256 ^ wide)) (Ok (number_of wide n)) (Err reason.NumberTooLarge)
+
+abbrev pub judged : Item → List ℕ → Result Number Reason
+judged (item.Word name) w = cond (is_word (spelled name) w) (Ok (number_of 0 0)) (Err (reason.Expected name))
 judged (item.Number wide columns) w = judged_number wide (whole_number w)
-judged item.End w = judged-as.Wrong reason.EndExpected
 
 -- what is wrong where no word stands
 abbrev pub missing : Item → Reason
 missing (item.Word name) = reason.Expected name
 missing (item.Number wide columns) = reason.NumberExpected
-missing item.End = reason.EndExpected
 
-abbrev pub found_with : Judged → ℕ → Found
-found_with (judged-as.Passes wide n) next = found.Passes wide n next
-found_with (judged-as.Wrong why) next = found.Wrong why
+abbrev pub found_with : Result Number Reason → ℕ → Result Passed Reason
+found_with (Ok number) next = Ok (record { number = number; next = next })
+found_with (Err why) next = Err why
 
-abbrev pub found_from : List ℕ → Item → Word → Found
-found_from s i word.None = found.Wrong (missing i)
-found_from s i (word.Stands from to) = found_with (judged i (take (to - from) (drop from s))) to
+abbrev pub found_from : List ℕ → Item → Option Word → Result Passed Reason
+found_from s i None = Err (missing i)
+found_from s i (Some w) = found_with (judged i (take (w.to - w.from) (drop w.from s))) w.to
 
 -- what the first word from a place on comes to
-unfoldable pub found_at : List ℕ → ℕ → Item → Found
+unfoldable pub found_at : List ℕ → ℕ → Item → Result Passed Reason
 found_at s at i = found_from s i (next_word s at)
 
 -- the bytes of the numbers, up to the first word that is wrong
-abbrev pub taken_by : Judged → List ℕ → List ℕ
-taken_by (judged-as.Passes wide n) rest = bytes wide n ++ rest
-taken_by (judged-as.Wrong why) rest = []
+abbrev pub taken_by : Result Number Reason → List ℕ → List ℕ
+taken_by (Ok number) rest = bytes number.wide number.value ++ rest
+taken_by (Err why) rest = []
 
 unfoldable pub taken : List Item → List (List ℕ) → List ℕ
 taken [] ws = []
 taken (i ∷ items) [] = []
 taken (i ∷ items) (w ∷ ws) = taken_by (judged i w) (taken items ws)
 
-abbrev pub matching : Matched → ℕ → Matching
-matching (back.fits ns) end = matching-as.Fits end
-matching (back.fails why) end = matching-as.Fails why
+abbrev pub matching : Matched → ℕ → Result ℕ Reason
+matching (back.fits ns) end = Ok end
+matching (back.fails why) end = Err why
 
 -- ---- a line
 
@@ -99,10 +91,13 @@ unfoldable pub line_stored : ℕ → List ℕ → List ℕ
 line_stored previous line = words_stored previous (words (uncommented line))
 
 -- the last kind behind the line and the place behind its bytes, or why it cannot be read
-abbrev pub said_of : ℕ → ℕ → LineRead → Said
-said_of previous end back.blank = said.Goes previous end
-said_of previous end (back.says r) = said.Goes r.kind end
-said_of previous end (back.wrong why) = said.Wrong why
+abbrev pub last_of : ℕ → ℕ → Last
+last_of kind end = record { kind = kind; end = end }
+
+abbrev pub said_of : ℕ → ℕ → LineRead → Result Last Reason
+said_of previous end back.blank = Ok (last_of previous end)
+said_of previous end (back.says r) = Ok (last_of r.kind end)
+said_of previous end (back.wrong why) = Err why
 
 -- ---- the whole text
 
@@ -121,9 +116,12 @@ unfoldable pub stored_text : List ℕ → List ℕ
 stored_text text = stored_lines 0 (lines_of text)
 
 -- what records behind so many bytes come to
-abbrev pub reading_from : ℕ → TextRead → Reading
-reading_from at (back.plan rs) = reading.Plan (at + length (plan_bytes rs))
-reading_from at (back.unreadable n why) = reading.Unreadable n why
+abbrev pub stopped : ℕ → Reason → Unreadable
+stopped n why = record { line = n; why = why }
+
+abbrev pub reading_from : ℕ → TextRead → Result ℕ Unreadable
+reading_from at (back.plan rs) = Ok (at + length (plan_bytes rs))
+reading_from at (back.unreadable n why) = Err (stopped n why)
 
 -- ---- the answer
 
@@ -131,17 +129,17 @@ reading_from at (back.unreadable n why) = reading.Unreadable n why
 abbrev pub longest_text : ℕ
 longest_text = 262144
 
-abbrev pub back_of : PlanBack → List ℕ → Back
-back_of (plan_file file) lent = cond (leb (length file) (length lent)) (result.Plan (length file)) (result.Needs (length file))
-back_of (unreadable_line n why) lent = result.Unreadable n why
+abbrev pub back_of : PlanBack → List ℕ → Result ℕ Unread
+back_of (plan_file file) lent = cond (leb (length file) (length lent)) (Ok (length file)) (Err (unread.Needs (length file)))
+back_of (unreadable_line n why) lent = Err (unread.Unreadable (stopped n why))
 
 abbrev pub left_of : PlanBack → List ℕ → List ℕ
 left_of (plan_file file) lent = cond (leb (length file) (length lent)) (sets lent 0 file) lent
 left_of (unreadable_line n why) lent = lent
 
 -- What reading a text gives, and what it leaves in the bytes that are lent: the plan stands there only if all of it does.
-unfoldable pub back_for : List ℕ → List ℕ → Back
-back_for text lent = cond (is_short longest_text text) (back_of (read_text text) lent) result.TooLong
+unfoldable pub back_for : List ℕ → List ℕ → Result ℕ Unread
+back_for text lent = cond (is_short longest_text text) (back_of (read_text text) lent) (Err unread.TooLong)
 
 unfoldable pub left_by : List ℕ → List ℕ → List ℕ
 left_by text lent = cond (is_short longest_text text) (left_of (read_text text) lent) lent

@@ -6,7 +6,7 @@ use mathlib.Core.Option.{Option, none, some}
 use native.Mathlib.Nat.{zero-add}
 use native.Mathlib.Omega.{arith}
 use lib.ListN.{length-map}
-use Prim.Native.Nat.{ℕ, ◌+◌, ◌≤◌, ◌<◌}
+use Prim.Native.Nat.{ℕ, ◌+◌}
 use Rattle.laws.specs.Res.{Res, ok, refuse, at}
 use Rattle.laws.specs.Lists.{first_bad, up_to}
 use Rattle.laws.proofs.Res.{bind_ok, bind_refuse, then_ok, then_refuse, at_none, at_ok, at_some}
@@ -17,21 +17,16 @@ use Rattle.answers.specs.declared.Refusal.{Refusal}
 use Rattle.answers.specs.declared.Refusal.TheVariants.{BadRecords, BadCount, NotThere, OutOfRange, Unfit}
 use Rattle.answers.specs.Refusals.{said}
 use Rattle.plan.specs.declared.Plan.{Plan}
-use Rattle.plangather.specs.declared.Gathered.{Gathered}
-use Rattle.plangather.specs.declared.Outcome.{Outcome}
-use Rattle.plangather.specs.declared.Outcome.TheVariants.{Whole, Broken}
-use Rattle.plan.specs.Memory.{lay_out, empty_plan, seen}
+use Rattle.std.specs.Prelude.{Some, None, Result, Ok, Err}
+use Rattle.units.specs.declared.Offset.{Offset}
+use Rattle.std.specs.Prelude as code
+use Rattle.plan.specs.Memory.{lay_out, seen}
 use Rattle.plangather.specs.Gather.{gathered_of}
 use Rattle.plan.proofs.Laid.{counts-placed, seen-laid}
-use Rattle.places.specs.declared.Found.{Found}
-use Rattle.places.specs.declared.Found.TheVariants.{At, Nothing}
-use Rattle.answers.specs.declared.Verdict.TheVariants.{Fine, Refused}
-use Rattle.planrules.specs.declared.Reading.{Reading}
 use Rattle.planrules.specs.Reading.{Reads}
-use Rattle.planfits.specs.Scans.{place_or, is_ok, first_bad_of, unfit_of}
-use Rattle.places.specs.Found.{found_of}
+use Rattle.planfits.specs.Scans.{is_ok, first_bad_of, unfit_of}
+use Rattle.places.specs.Spot.{spot_of}
 use Rattle.planrules.specs.Tests.{counts_fit, listed}
-use Rattle.planfits.proofs.Places.{at_met_up_to, at-end-up_to}
 use Rattle.planrules.proofs.RecordRefusal.{records-refuse}
 
 -- ---- general
@@ -40,39 +35,32 @@ first_bad_alike : {A : Type 0} (p q : A → Bool) → ((x : A) → p x ≡ q x) 
 first_bad_alike p q e [] = refl
 first_bad_alike p q e (x ∷ l) = rw (e x, first_bad_alike p q e l)
 
-found_some : (o : Option ℕ) (n : ℕ) → At n ≡ found_of o → o ≡ some n
+found_some : (o : Option ℕ) (n : ℕ) → Some n ≡ spot_of o → o ≡ some n
 found_some none n e = let z : ◌≡◌ {A = ℕ} 0 1 = cc in absurd (omega arith)
 found_some (some k) n e = cc
 
-found_none : (o : Option ℕ) → Nothing ≡ found_of o → o ≡ none
+found_none : (o : Option ℕ) → None ≡ spot_of o → o ≡ none
 found_none none e = refl
 found_none (some k) e = let z : ◌≡◌ {A = ℕ} 0 1 = cc in absurd (omega arith)
 
 -- ---- the gathered plan
 
-gathered_as : {C : Type 0} (p : Plan) (m : Res (List Rec)) → gathered_of m ≡ record { outcome = Whole; plan = p }
+gathered_as : {C : Type 0} (p : Plan) (m : Res (List Rec)) → gathered_of m ≡ Ok p
     → ((rs : List Rec) → m ≡ ok rs → p ≡ lay_out (rules.plan_of rs) → C) → C
-gathered_as p (ok rs) e go = go rs refl (sym (ap (λ r. r.plan) e))
-gathered_as p (refuse n place) e go =
-    let w : Broken (record { 0 = place }) ≡ Whole = ap (λ r. r.outcome) e in
-    let z : ◌≡◌ {A = ℕ} 0 1 = cc in
-    absurd (omega arith)
+gathered_as p (ok rs) e go = let same : p ≡ lay_out (rules.plan_of rs) = cc in go rs refl same
+gathered_as p (refuse n place) e go = let z : ◌≡◌ {A = ℕ} 0 1 = cc in absurd (omega arith)
 
 -- a file whose plan is gathered keeps the record rules
-pub gathered-sound : (s : List ℕ) (p : Plan) → gathered_of (records plan_follows 1 s) ≡ record { outcome = Whole; plan = p }
+pub gathered-sound : (s : List ℕ) (p : Plan) → gathered_of (records plan_follows 1 s) ≡ Ok p
     → is_ok (records plan_follows 1 s) ≡ true
 gathered-sound s p e = gathered_as p (records plan_follows 1 s) e λ rs w q. rw w
 
--- what was gathered, with its outcome known
-pub with_outcome : (g : Gathered) (o : Outcome) → g.outcome ≡ o → g ≡ record { outcome = o; plan = g.plan }
-with_outcome g o e = ap (λ (x : Outcome). record { outcome = x; plan = g.plan }) e
-
 -- ---- a reading that says what the rules say
 
-refused-reads : (r : Reading) (x : Refusal) (rule : Res rules.Plan) → r ≡ record { answer = Refused x; plan = empty_plan } → rule ≡ said x → Reads r rule
+refused-reads : (r : Result Plan Refusal) (x : Refusal) (rule : Res rules.Plan) → r ≡ Err x → rule ≡ said x → Reads r rule
 refused-reads r x rule e q = record { answered = rw (e, q); left = rw (e, q) }
 
-sound-reads : (r : Reading) (p : rules.Plan) (rule : Res rules.Plan) → r ≡ record { answer = Fine; plan = lay_out p } → rule ≡ ok p → Reads r rule
+sound-reads : (r : Result Plan Refusal) (p : rules.Plan) (rule : Res rules.Plan) → r ≡ Ok (lay_out p) → rule ≡ ok p → Reads r rule
 sound-reads r p rule e q = record { answered = rw (e, q); left = rw (e, q) }
 
 -- ---- the rules, from a file's records on
@@ -97,118 +85,116 @@ module _ (rs : List Rec) where
       (length-map (rules.things 3 rs) rules.module_of) (length-map (rules.things 4 rs) rules.mode_of) (length-map (rules.things 5 rs) rules.task_of)
 
 module _ (s : List ℕ) (p : Plan) (rs : List Rec) (walked : records plan_follows 1 s ≡ ok rs) (laid : p ≡ lay_out (rules.plan_of rs)) where
-  counts-place : (k : ℕ) → k ≡ place_or 6 (first_bad (counts_fit p.counts) (up_to 6)) → k ≡ place_or 6 (first_bad (rules.count_fits rs) (up_to 6))
-  counts-place k e = e ∙ rw (laid, counts_same rs)
+  counts-place : (f : code.Option ℕ) → f ≡ spot_of (first_bad (counts_fit p.counts) (up_to 6)) → f ≡ spot_of (first_bad (rules.count_fits rs) (up_to 6))
+  counts-place f e = e ∙ rw (laid, counts_same rs)
 
-  bad_count_of : (k : ℕ) → k ≡ place_or 6 (first_bad (counts_fit p.counts) (up_to 6)) → k < 6 → rules.read_plan s ≡ refuse 2 (2 + k)
+  bad_count_of : (k : ℕ) → Some k ≡ spot_of (first_bad (counts_fit p.counts) (up_to 6)) → rules.read_plan s ≡ refuse 2 (2 + k)
   unfolding rules.read_plan
-  bad_count_of k e h =
-      bind_ok _ walked ∙ then_refuse _ (at_met_up_to (rules.count_fits rs) 6 2 2 k (counts-place k e) h)
+  bad_count_of k e =
+      let o : first_bad (rules.count_fits rs) (up_to 6) ≡ some k = found_some _ k (counts-place (Some k) e) in
+      bind_ok _ walked ∙ then_refuse _ (at_some 2 2 o)
 
-  module _ (k : ℕ) (e : k ≡ place_or 6 (first_bad (counts_fit p.counts) (up_to 6))) (counted : 6 ≤ k) where
+  module _ (counted : None ≡ spot_of (first_bad (counts_fit p.counts) (up_to 6))) where
     counts_pass : at 2 2 (first_bad (rules.count_fits rs) (up_to 6)) ≡ ok tt
-    counts_pass = at-end-up_to (rules.count_fits rs) 6 2 2 k (counts-place k e) counted
+    counts_pass = at_none 2 2 (found_none (first_bad (rules.count_fits rs) (up_to 6)) (counts-place None counted))
 
-    names-found : (f : Found) → f ≡ found_of (first_bad_of (rules.names_are_there (listed p.counts)) (records plan_follows 1 s))
-        → f ≡ found_of (first_bad (rules.names_are_there (rules.count rs)) rs)
+    names-found : (f : code.Option ℕ) → f ≡ spot_of (first_bad_of (rules.names_are_there (listed p.counts)) (records plan_follows 1 s))
+        → f ≡ spot_of (first_bad (rules.names_are_there (rules.count rs)) rs)
     names-found f q =
         q ∙ rw (walked, laid, first_bad_alike (rules.names_are_there (listed (lay_out (rules.plan_of rs)).counts)) (rules.names_are_there (rules.count rs)) (names_same rs) rs)
 
-    ranges-found : (f : Found) → f ≡ found_of (first_bad_of rules.numbers_are_within (records plan_follows 1 s))
-        → f ≡ found_of (first_bad rules.numbers_are_within rs)
+    ranges-found : (f : code.Option ℕ) → f ≡ spot_of (first_bad_of rules.numbers_are_within (records plan_follows 1 s))
+        → f ≡ spot_of (first_bad rules.numbers_are_within rs)
     ranges-found f q = q ∙ rw walked
 
-    not-there_of : (n : ℕ) → At n ≡ found_of (first_bad_of (rules.names_are_there (listed p.counts)) (records plan_follows 1 s)) → rules.read_plan s ≡ refuse 3 n
+    not-there_of : (n : ℕ) → Some n ≡ spot_of (first_bad_of (rules.names_are_there (listed p.counts)) (records plan_follows 1 s)) → rules.read_plan s ≡ refuse 3 n
     unfolding rules.read_plan
     not-there_of n q =
-        let o : first_bad (rules.names_are_there (rules.count rs)) rs ≡ some n = found_some _ n (names-found (At n) q) in
+        let o : first_bad (rules.names_are_there (rules.count rs)) rs ≡ some n = found_some _ n (names-found (Some n) q) in
         bind_ok _ walked ∙ then_ok _ counts_pass ∙ then_refuse _ (at_some 3 0 o) ∙ rw (zero-add n)
 
-    module _ (named : Nothing ≡ found_of (first_bad_of (rules.names_are_there (listed p.counts)) (records plan_follows 1 s))) where
+    module _ (named : None ≡ spot_of (first_bad_of (rules.names_are_there (listed p.counts)) (records plan_follows 1 s))) where
       names_pass : at 3 0 (first_bad (rules.names_are_there (rules.count rs)) rs) ≡ ok tt
-      names_pass = at_none 3 0 (found_none (first_bad (rules.names_are_there (rules.count rs)) rs) (names-found Nothing named))
+      names_pass = at_none 3 0 (found_none (first_bad (rules.names_are_there (rules.count rs)) rs) (names-found None named))
 
-      out_of_range_of : (n : ℕ) → At n ≡ found_of (first_bad_of rules.numbers_are_within (records plan_follows 1 s)) → rules.read_plan s ≡ refuse 4 n
+      out_of_range_of : (n : ℕ) → Some n ≡ spot_of (first_bad_of rules.numbers_are_within (records plan_follows 1 s)) → rules.read_plan s ≡ refuse 4 n
       unfolding rules.read_plan
       out_of_range_of n q =
-          let o : first_bad rules.numbers_are_within rs ≡ some n = found_some _ n (ranges-found (At n) q) in
+          let o : first_bad rules.numbers_are_within rs ≡ some n = found_some _ n (ranges-found (Some n) q) in
           bind_ok _ walked ∙ then_ok _ counts_pass ∙ then_ok _ names_pass ∙ then_refuse _ (at_some 4 0 o) ∙ rw (zero-add n)
 
-      module _ (ranged : Nothing ≡ found_of (first_bad_of rules.numbers_are_within (records plan_follows 1 s))) where
+      module _ (ranged : None ≡ spot_of (first_bad_of rules.numbers_are_within (records plan_follows 1 s))) where
         ranges_pass : at 4 0 (first_bad rules.numbers_are_within rs) ≡ ok tt
-        ranges_pass = at_none 4 0 (found_none (first_bad rules.numbers_are_within rs) (ranges-found Nothing ranged))
+        ranges_pass = at_none 4 0 (found_none (first_bad rules.numbers_are_within rs) (ranges-found None ranged))
 
         seen-again : seen p ≡ rules.plan_of rs
         seen-again = rw laid (seen-laid (rules.plan_of rs) (counts-placed rs (at_ok 2 2 _ counts_pass)))
 
-        unfit-of : (n : ℕ) → unfit_of (At n) ≡ rules.rule5 (seen p) → rules.read_plan s ≡ refuse 5 n
+        unfit-of : (n : ℕ) → unfit_of (Some n) ≡ rules.rule5 (seen p) → rules.read_plan s ≡ refuse 5 n
         unfolding rules.read_plan
         unfit-of n q =
             bind_ok _ walked ∙ then_ok _ counts_pass ∙ then_ok _ names_pass ∙ then_ok _ ranges_pass
             ∙ then_refuse _ (sym (rw seen-again at q))
 
-        read_of : unfit_of Nothing ≡ rules.rule5 (seen p) → rules.read_plan s ≡ ok (rules.plan_of rs)
+        read_of : unfit_of None ≡ rules.rule5 (seen p) → rules.read_plan s ≡ ok (rules.plan_of rs)
         unfolding rules.read_plan
         read_of q =
             bind_ok _ walked ∙ then_ok _ counts_pass ∙ then_ok _ names_pass ∙ then_ok _ ranges_pass ∙ then_ok _ (sym (rw seen-again at q))
 
 -- ---- the ways out of the code
 
-module _ (s : List ℕ) (p : Plan) (r : Reading) (g : gathered_of (records plan_follows 1 s) ≡ record { outcome = Whole; plan = p }) where
-  module _ (k : ℕ) (e : k ≡ place_or 6 (first_bad (counts_fit p.counts) (up_to 6))) where
-    pub way_count : k < 6 → r ≡ record { answer = Refused (BadCount (k + 2)); plan = empty_plan } → Reads r (rules.read_plan s)
-    way_count h w =
+module _ (s : List ℕ) (p : Plan) (r : Result Plan Refusal) (g : gathered_of (records plan_follows 1 s) ≡ Ok p) where
+  pub way_count : (k : ℕ) → Some k ≡ spot_of (first_bad (counts_fit p.counts) (up_to 6))
+      → r ≡ Err (BadCount (k + 2)) → Reads r (rules.read_plan s)
+  way_count k e w =
+      gathered_as p (records plan_follows 1 s) g λ rs walked laid.
+      refused-reads r (BadCount (k + 2)) (rules.read_plan s) w
+      (bad_count_of s p rs walked laid k e ∙ ap (refuse 2) (omega arith))
+
+  module _ (counted : None ≡ spot_of (first_bad (counts_fit p.counts) (up_to 6))) where
+    pub way_names : (n : ℕ) → Some n ≡ spot_of (first_bad_of (rules.names_are_there (listed p.counts)) (records plan_follows 1 s))
+        → r ≡ Err (NotThere (record { 0 = n })) → Reads r (rules.read_plan s)
+    way_names n q w =
         gathered_as p (records plan_follows 1 s) g λ rs walked laid.
-        refused-reads r (BadCount (k + 2)) (rules.read_plan s) w
-        (bad_count_of s p rs walked laid k e h ∙ ap (refuse 2) (omega arith))
+        refused-reads r (NotThere (record { 0 = n })) (rules.read_plan s) w (not-there_of s p rs walked laid counted n q)
 
-    module _ (counted : 6 ≤ k) where
-      pub way_names : (n : ℕ) → At n ≡ found_of (first_bad_of (rules.names_are_there (listed p.counts)) (records plan_follows 1 s))
-          → r ≡ record { answer = Refused (NotThere (record { 0 = n })); plan = empty_plan } → Reads r (rules.read_plan s)
-      way_names n q w =
+    module _ (named : None ≡ spot_of (first_bad_of (rules.names_are_there (listed p.counts)) (records plan_follows 1 s))) where
+      pub way_ranges : (n : ℕ) → Some n ≡ spot_of (first_bad_of rules.numbers_are_within (records plan_follows 1 s))
+          → r ≡ Err (OutOfRange (record { 0 = n })) → Reads r (rules.read_plan s)
+      way_ranges n q w =
           gathered_as p (records plan_follows 1 s) g λ rs walked laid.
-          refused-reads r (NotThere (record { 0 = n })) (rules.read_plan s) w (not-there_of s p rs walked laid k e counted n q)
+          refused-reads r (OutOfRange (record { 0 = n })) (rules.read_plan s) w (out_of_range_of s p rs walked laid counted named n q)
 
-      module _ (named : Nothing ≡ found_of (first_bad_of (rules.names_are_there (listed p.counts)) (records plan_follows 1 s))) where
-        pub way_ranges : (n : ℕ) → At n ≡ found_of (first_bad_of rules.numbers_are_within (records plan_follows 1 s))
-            → r ≡ record { answer = Refused (OutOfRange (record { 0 = n })); plan = empty_plan } → Reads r (rules.read_plan s)
-        way_ranges n q w =
+      module _ (ranged : None ≡ spot_of (first_bad_of rules.numbers_are_within (records plan_follows 1 s))) where
+        pub way_unfit : (n : ℕ) → unfit_of (Some n) ≡ rules.rule5 (seen p)
+            → r ≡ Err (Unfit (record { 0 = n })) → Reads r (rules.read_plan s)
+        way_unfit n q w =
             gathered_as p (records plan_follows 1 s) g λ rs walked laid.
-            refused-reads r (OutOfRange (record { 0 = n })) (rules.read_plan s) w (out_of_range_of s p rs walked laid k e counted named n q)
+            refused-reads r (Unfit (record { 0 = n })) (rules.read_plan s) w (unfit-of s p rs walked laid counted named ranged n q)
 
-        module _ (ranged : Nothing ≡ found_of (first_bad_of rules.numbers_are_within (records plan_follows 1 s))) where
-          pub way_unfit : (n : ℕ) → unfit_of (At n) ≡ rules.rule5 (seen p)
-              → r ≡ record { answer = Refused (Unfit (record { 0 = n })); plan = empty_plan } → Reads r (rules.read_plan s)
-          way_unfit n q w =
-              gathered_as p (records plan_follows 1 s) g λ rs walked laid.
-              refused-reads r (Unfit (record { 0 = n })) (rules.read_plan s) w (unfit-of s p rs walked laid k e counted named ranged n q)
-
-          pub way_sound : unfit_of Nothing ≡ rules.rule5 (seen p) → r ≡ record { answer = Fine; plan = p } → Reads r (rules.read_plan s)
-          way_sound q w =
-              gathered_as p (records plan_follows 1 s) g λ rs walked laid.
-              sound-reads r (rules.plan_of rs) (rules.read_plan s) (w ∙ rw laid) (read_of s p rs walked laid k e counted named ranged q)
+        pub way_sound : unfit_of None ≡ rules.rule5 (seen p) → r ≡ Ok p → Reads r (rules.read_plan s)
+        way_sound q w =
+            gathered_as p (records plan_follows 1 s) g λ rs walked laid.
+            sound-reads r (rules.plan_of rs) (rules.read_plan s) (w ∙ rw laid) (read_of s p rs walked laid counted named ranged q)
 
 -- ---- a file that breaks the record rules
 
-place_in : Outcome → ℕ
-place_in Whole = 0
-place_in (Broken o) = o.0
+place_in : Result Plan Offset → ℕ
+place_in (Ok p) = 0
+place_in (Err o) = o.0
 
-broken_as : (place : ℕ) (q : Plan) (m : Res (List Rec)) → gathered_of m ≡ record { outcome = Broken (record { 0 = place }); plan = q }
-    → ((n at : ℕ) → m ≡ refuse n at → n ≡ 1) → m ≡ refuse 1 place
+broken_as : (place : ℕ) (m : Res (List Rec)) → gathered_of m ≡ Err (record { 0 = place })
+    → ((n q : ℕ) → m ≡ refuse n q → n ≡ 1) → m ≡ refuse 1 place
 unfolding place_in
-broken_as place q (ok rs) e one =
-    let w : Whole ≡ Broken (record { 0 = place }) = ap (λ r. r.outcome) e in
-    let z : ◌≡◌ {A = ℕ} 0 1 = cc in
-    absurd (omega arith)
-broken_as place q (refuse n at) e one =
-    let z : at ≡ place = ap (λ r. place_in r.outcome) e in
-    rw (one n at refl, z)
+broken_as place (ok rs) e one = let z : ◌≡◌ {A = ℕ} 0 1 = cc in absurd (omega arith)
+broken_as place (refuse n q) e one =
+    let z : q ≡ place = ap place_in e in
+    rw (one n q refl, z)
 
-pub way_broken : (s : List ℕ) (place : ℕ) (q : Plan) (r : Reading)
-    → gathered_of (records plan_follows 1 s) ≡ record { outcome = Broken (record { 0 = place }); plan = q }
-    → r ≡ record { answer = Refused (BadRecords (record { 0 = place })); plan = empty_plan } → Reads r (rules.read_plan s)
+pub way_broken : (s : List ℕ) (place : ℕ) (r : Result Plan Refusal)
+    → gathered_of (records plan_follows 1 s) ≡ Err (record { 0 = place })
+    → r ≡ Err (BadRecords (record { 0 = place })) → Reads r (rules.read_plan s)
 unfolding rules.read_plan
-way_broken s place q r e w =
+way_broken s place r e w =
     refused-reads r (BadRecords (record { 0 = place })) (rules.read_plan s) w
-    (bind_refuse _ (broken_as place q (records plan_follows 1 s) e (λ n at f. records-refuse s n at f)))
+    (bind_refuse _ (broken_as place (records plan_follows 1 s) e (λ n at f. records-refuse s n at f)))

@@ -19,10 +19,10 @@ use Rattle.records.specs.declared.Step.TheVariants.{Record, End, Wrong}
 use Rattle.records.proofs.Steps.{from, onward, one-step, found}
 use Rattle.units.specs.declared.Offset.{Offset}
 use Rattle.records.proofs.Bodies.{record_cut}
-use Rattle.places.specs.declared.Found.{Found}
-use Rattle.places.specs.declared.Found.TheVariants.{At, Nothing}
+use Rattle.std.specs.Prelude.{Some, None}
+use Rattle.std.specs.Prelude as code
 use Rattle.planfits.specs.Scans.{earlier_of, is_ok, first_bad_of}
-use Rattle.places.specs.Found.{found_of}
+use Rattle.places.specs.Spot.{spot_of}
 
 -- n places further on
 abbrev shifted : ℕ → Option ℕ → Option ℕ
@@ -51,39 +51,39 @@ module _ (order : ℕ → ℕ → Bool) (m : ℕ) (test : Rec → Bool) (r : Rec
   failed_record n (refuse k p) s e = true-false (sym s)
 
 -- what was found before, else what is found from here on
-abbrev or_later : Found → Option ℕ → Found
-or_later (At k) o = At k
-or_later Nothing o = found_of o
+abbrev or_later : code.Option ℕ → Option ℕ → code.Option ℕ
+or_later (Some k) o = Some k
+or_later None o = spot_of o
 
-later-none : (f : Found) → or_later f none ≡ f
-later-none (At k) = refl
-later-none Nothing = refl
+later-none : (f : code.Option ℕ) → or_later f none ≡ f
+later-none (Some k) = refl
+later-none None = refl
 
 module _ (order : ℕ → ℕ → Bool) (m : ℕ) (test : Rec → Bool) (r : Rec) (n : ℕ) (w : Res (List Rec)) (s : is_ok w ≡ true) where
   -- one record more is looked at
-  one_later : (f : Found) (good : Bool) → test r ≡ good
+  one_later : (f : code.Option ℕ) (good : Bool) → test r ≡ good
       → or_later f (shifted n (first_bad_of test (before order m r w))) ≡ or_later (earlier_of f good n) (shifted (n + 1) (first_bad_of test w))
-  one_later (At k) good e = refl
-  one_later Nothing true e = ap found_of (passed_record order m test r n w e)
-  one_later Nothing false e = ap found_of (failed_record order m test r n w s e)
+  one_later (Some k) good e = refl
+  one_later None true e = ap spot_of (passed_record order m test r n w e)
+  one_later None false e = ap spot_of (failed_record order m test r n w s e)
 
 -- the scan so far: n records are looked at
-pub record Scanned (s : List ℕ) (test : Rec → Bool) (previous at n : ℕ) (f : Found) : Type 0 where
+pub record Scanned (s : List ℕ) (test : Rec → Bool) (previous at n : ℕ) (f : code.Option ℕ) : Type 0 where
   pub inside : at ≤ length s
   pub sound : is_ok (from Plan 1 s previous at) ≡ true
-  pub whole : found_of (first_bad_of test (records plan_follows 1 s)) ≡ or_later f (shifted n (first_bad_of test (from Plan 1 s previous at)))
+  pub whole : spot_of (first_bad_of test (records plan_follows 1 s)) ≡ or_later f (shifted n (first_bad_of test (from Plan 1 s previous at)))
   pub counted : n ≤ at
 
-pub scanned-none : {s : List ℕ} {test : Rec → Bool} → is_ok (records plan_follows 1 s) ≡ true → Scanned s test 0 0 0 Nothing
+pub scanned-none : {s : List ℕ} {test : Rec → Bool} → is_ok (records plan_follows 1 s) ≡ true → Scanned s test 0 0 0 None
 unfolding records from
 scanned-none {s} {test} e =
-    record { inside = omega arith; sound = e; whole = ap found_of (sym (shifted_none (first_bad_of test (records plan_follows 1 s)))); counted = omega arith }
+    record { inside = omega arith; sound = e; whole = ap spot_of (sym (shifted_none (first_bad_of test (records plan_follows 1 s)))); counted = omega arith }
 
 -- the step that the reader takes from here is given as a value, with what it is
-module _ {s : List ℕ} {test : Rec → Bool} {previous at n : ℕ} {f : Found} (h : Scanned s test previous at n f) {step : Step}
+module _ {s : List ℕ} {test : Rec → Bool} {previous at n : ℕ} {f : code.Option ℕ} (h : Scanned s test previous at n f) {step : Step}
     (next-is : step ≡ next_at Plan s previous at) where
   onwards : {told : Step} → step ≡ told
-      → found_of (first_bad_of test (records plan_follows 1 s)) ≡ or_later f (shifted n (first_bad_of test (onward Plan 1 s told)))
+      → spot_of (first_bad_of test (records plan_follows 1 s)) ≡ or_later f (shifted n (first_bad_of test (onward Plan 1 s told)))
   onwards q =
       h.whole
       ∙ ap (λ (w : Res (List Rec)). or_later f (shifted n (first_bad_of test w)))
@@ -93,7 +93,7 @@ module _ {s : List ℕ} {test : Rec → Bool} {previous at n : ℕ} {f : Found} 
   sound_on q =
       sym (ap (is_ok {A = List Rec}) (one-step Plan 1 s previous at h.inside ∙ ap (onward Plan 1 s) (sym next-is ∙ q))) ∙ h.sound
 
-  pub scanned_more : {kind body next : ℕ} {lent : List ℕ} {good : Bool} {g : Found} → step ≡ Record kind body next
+  pub scanned_more : {kind body next : ℕ} {lent : List ℕ} {good : Bool} {g : code.Option ℕ} → step ≡ Record kind body next
       → lent ≡ take (next - body) (drop body s) → good ≡ test (record_of kind lent) → g ≡ earlier_of f good n
       → Scanned s test kind next (n + 1) g
   scanned_more {kind} {body} {next} {lent} {good} e l q t =
@@ -112,7 +112,7 @@ module _ {s : List ℕ} {test : Rec → Bool} {previous at n : ℕ} {f : Found} 
         counted = omega (arith, h.counted, u.further);
       }
 
-  pub scanned-end : step ≡ End → f ≡ found_of (first_bad_of test (records plan_follows 1 s))
+  pub scanned-end : step ≡ End → f ≡ spot_of (first_bad_of test (records plan_follows 1 s))
   scanned-end e = sym (onwards e ∙ later-none f)
 
   pub scanned-wrong : {C : Type 0} {place : Offset} → step ≡ Wrong place → C

@@ -6,7 +6,7 @@ use Rattle.rules.specs.Limits.{fastest_bus, most_overhead, most_payload, most_ga
 use Rattle.rules.specs.Plan.{Bus, nth, least_counts, most_counts, names_are_there, numbers_are_within}
 use Rattle.planrules.specs.declared.numbers.Firsts.{Firsts}
 use Rattle.planfits.specs.Scans.{first_bad_of}
-use Rattle.places.specs.Found.{found_of}
+use Rattle.places.specs.Spot.{spot_of}
 
 -- Refusal 2: the count of kind 2 + k, the nodes included, is within its range.
 unfoldable pub counts_fit : List ℕ → ℕ → Bool
@@ -35,6 +35,6 @@ bus_is_within b =
 abbrev pub firsts_of : List ℕ → Res (List Rec) → Firsts
 firsts_of counts file =
     record {
-      named = found_of (first_bad_of (names_are_there (listed counts)) file);
-      ranged = found_of (first_bad_of numbers_are_within file);
+      named = spot_of (first_bad_of (names_are_there (listed counts)) file);
+      ranged = spot_of (first_bad_of numbers_are_within file);
     }

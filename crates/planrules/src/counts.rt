@@ -1,10 +1,9 @@
 // Refusal 2: each count of things is within its range.
 ghost use Rattle.std.specs.Prelude.{◌≡◌, ◌<◌};
 ghost use Rattle.laws.specs.Lists.{first_bad, up_to};
-ghost use Rattle.planfits.specs.Scans.{place_or};
+ghost use Rattle.places.specs.Spot.{spot_of};
 ghost use Rattle.planrules.specs.Tests.{counts_fit};
 
-use figures::both;
 use plan::{Connection, Invocation};
 use units::{ModeNo, ModuleNo, NodeNo, TaskNo};
 
@@ -20,24 +19,23 @@ const MOST: [usize; 6] = [
     Connection::MOST,
 ];
 
+#[tactic(auto, unfolding(crate::specs::Tests::counts_fit, rules::specs::Plan::least_counts, rules::specs::Plan::most_counts))]
 fn fits(counts: [usize; 8], k: usize) -> bool
     requires { k < 6 }
     ensures { result ≡ counts_fit counts k }
 {
     let count = counts[2 + k];
-    both(LEAST[k] <= count, count <= MOST[k])
+    LEAST[k] <= count && count <= MOST[k]
 }
 
-// How far behind kind 2 the first kind stands whose count is outside its range; 6 where there is none.
-pub fn first_bad(counts: [usize; 8]) -> usize
-    ensures { result ≡ place_or 6 (first_bad (counts_fit counts) (up_to 6)) }
+// How far behind kind 2 the first kind stands whose count is outside its range.
+pub fn first_bad(counts: [usize; 8]) -> Option<usize>
+    ensures { result ≡ spot_of (first_bad (counts_fit counts) (up_to 6)) }
 {
-    let mut k = 0;
-    while k < 6 {
+    for k in 0..6 {
         if !fits(counts, k) {
-            return k;
+            return Some(k);
         }
-        k += 1;
     }
-    k
+    None
 }

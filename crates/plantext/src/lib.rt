@@ -4,14 +4,14 @@
 ghost use Rattle.std.specs.Prelude.{◌≡◌, ◌≤◌, ◌<◌, length};
 ghost use Rattle.std.proofs.lemmas.List.Edits.{sets};
 ghost use Rattle.io.specs.Counts.{IsPrefixLen};
+ghost use Rattle.manners.specs.Status.{number_of};
 ghost use Rattle.input.specs.Room.{zeros};
-ghost use Rattle.laws.proofs.Little.{Bytes};
+ghost use Rattle.text.specs.Text.{refused_line};
 ghost use Rattle.plantext.specs.Answer.{answer_for, longest_text, status_for};
 
-use input::Input;
-use manners::{FAILED, Response, Start, put_lines};
+use manners::{Failed, Response, Status, put_lines};
 use meanings::put_help_lines;
-use planwriter::Printing;
+use planwriter::Unprinted;
 use text::{put_refused, put_too_long};
 
 // Room for the longest text: 42 bytes for each of the longest plan.
@@ -21,49 +21,36 @@ fn longest_room() -> [u8; 2752512]
     [0; 2752512]
 }
 
-fn wide(b: u8) -> u64
-    ensures { (result ≡ b) × (b < 256) }
+// The line `refused 1 at P` at the front of the buffer; its length.
+fn put_refusal(out: &mut [u8], place: usize) -> usize
+    ensures out_after { (out.new ≡ sets out.old 0 (refused_line 1 place)) × (result ≡ length (refused_line 1 place)) }
+    ensures few { result ≤ 53 }
 {
-    b as u64
-}
-
-// Looks at each byte, so that a contract may say that it is one: how long a text is hangs on it.
-fn looked(s: &[u8])
-    ensures { Bytes s.now }
-{
-    let mut i = 0;
-    while i < s.len() {
-        wide(s[i]);
-        i += 1;
-    }
+    put_refused(out, 1, place)
 }
 
 // The answer at the front of `out`, which has room for the longest text, and how the program ends.
 fn respond(plan: &[u8], out: &mut [u8]) -> Response
     requires { longest_text ≤ length out.old }
     ensures out_after { (out.new ≡ sets out.old 0 (answer_for plan.now)) × (result.length ≡ length (answer_for plan.now)) }
-    ensures status_value { result.status ≡ status_for plan.now }
+    ensures status_value { number_of result.status ≡ status_for plan.now }
     ensures prefix_len { IsPrefixLen result.length out.new }
 {
-    looked(plan);
     match planwriter::print(plan, &mut *out) {
-        Printing::Text(length) => Response::done(length),
-        Printing::Refused(place) => Response::refused(put_refused(&mut *out, 1, place)),
-        Printing::TooLong => Response::refused(put_too_long(&mut *out)),
+        Ok(length) => Response::done(length),
+        Err(Unprinted::Refused(place)) => Response::refused(put_refusal(&mut *out, place.0)),
+        Err(Unprinted::TooLong) => Response::refused(put_too_long(&mut *out)),
         // No text is longer than what is lent.
-        Printing::Needs(bytes) => Response::refused(bytes),
+        Err(Unprinted::Needs(bytes)) => Response::refused(bytes),
     }
 }
 
-fn print(rt: HostRuntime) -> i32 {
+fn print(rt: HostRuntime) -> Result<Status, Failed> {
     let mut plan = input::file_room();
-    let Input::Bytes(n) = input::read_open(rt, &mut rt.stdin(), b"standard input", &mut plan) else {
-        return FAILED;
-    };
+    let n = input::read_open(rt, &mut rt.stdin(), b"standard input", &mut plan)?;
     let mut out = longest_room();
     let answer = respond(&plan[..n], &mut out);
-    let length = answer.length;
-    manners::write_out(rt, &out[..length], answer.status as i32)
+    manners::write_out(rt, &out[..answer.length], answer.status)
 }
 
 // What `--help` says behind the usage.
@@ -83,11 +70,11 @@ fn put_help(out: &mut [u8]) -> usize
     put_help_lines(&mut *out, refusals_at, 1, 1)
 }
 
-// The program; the number that it ends with.
-pub fn run(rt: HostRuntime) -> i32 {
+// The program, and how it ends.
+pub fn run(rt: HostRuntime) -> Result<Status, Failed> {
     let mut help = io::buffer();
     let end = put_help(&mut help);
-    let start = manners::opening(
+    let opened = manners::opening(
         rt,
         b"plantext",
         b"plantext < PLAN > TEXT",
@@ -95,8 +82,8 @@ pub fn run(rt: HostRuntime) -> i32 {
         1,
         0,
     );
-    match start {
-        Start::Works => print(rt),
-        Start::Ends(status) => status,
+    match opened {
+        Some(ended) => ended,
+        None => print(rt),
     }
 }

@@ -15,13 +15,13 @@ use Rattle.laws.proofs.Members.{All, empty, also, all-get_or-or}
 use Rattle.rules.specs.Records.{Rec}
 use Rattle.text.specs.Text.{ascii, decimal, marked, pad_left, pad_right, spaces}
 use Rattle.text.specs.Lines.{blank_first, is_blank, is_other, uncommented, whole_number, words}
-use Rattle.text.specs.declared.lines.Whole.TheVariants as whole
+use Rattle.std.specs.Prelude.{Some}
 use Rattle.text.proofs.Runs.{front_over, is_no_stop, is_feedless}
 use Rattle.text.proofs.Words.{decimal-wordy, left_padded, spaces_passed, whole-decimal, word_then}
 use Rattle.text.proofs.Padded.{all_both, all_left, all_right, decimal-other}
 use Rattle.planwords.specs.declared.Name.{Name}
 use Rattle.planwords.specs.declared.Item.{Item}
-use Rattle.planwords.specs.declared.Item.TheVariants.{Word, Number, End}
+use Rattle.planwords.specs.declared.Item.TheVariants.{Word, Number}
 use Rattle.planwords.specs.Items.{spelled, no_form, forms, form_of, first_of, items_of, thing_of}
 use Rattle.planwords.specs.PlanText.{items_text, record_text, counted_as, comment_text, plan_line}
 use Rattle.planwords.specs.TextPlan.{matched, fits, of_kind, words_read, says, line_read, kind_by, may_come}
@@ -36,7 +36,6 @@ item_words [] ns = []
 item_words (Word name ∷ items) ns = spelled name ∷ item_words items ns
 item_words (Number wide columns ∷ items) [] = []
 item_words (Number wide columns ∷ items) (n ∷ ns) = decimal n ∷ item_words items ns
-item_words (End ∷ items) ns = []
 
 items-blank : {items : List Item} {ns : List ℕ} (f : Fits items ns) (rest : List ℕ) → blank_first rest ≡ true
     → blank_first (items_text items ns ++ rest) ≡ true
@@ -69,7 +68,6 @@ abbrev is_narrow : List Item → Bool
 is_narrow [] = true
 is_narrow (Word name ∷ items) = is_narrow items
 is_narrow (Number wide columns ∷ items) = leb wide 8 && is_narrow items
-is_narrow (End ∷ items) = is_narrow items
 
 narrow_items : {kind : ℕ} → PlanKind kind → is_narrow (items_of kind) ≡ true
 unfolding items_of form_of forms
@@ -82,7 +80,7 @@ narrow_items a_run = refl
 narrow_items a_connection = refl
 narrow_items framed_bus = refl
 
-number_read : (wide n : ℕ) → leb wide 8 ≡ true → n < 256 ^ wide → whole_number (decimal n) ≡ whole.Value n
+number_read : (wide n : ℕ) → leb wide 8 ≡ true → n < 256 ^ wide → whole_number (decimal n) ≡ Some n
 number_read wide n e h =
     let most : 256 ^ wide ≤ 256 ^ 8 = pow-le-pow_right (lit< tt) (leb-true wide 8 e) in
     let below : n < 2 ^ 64 = lt_of_lt_of_le h most in

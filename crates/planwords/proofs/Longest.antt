@@ -21,7 +21,7 @@ use Rattle.rules.proofs.TableFile.{body_fits, body_bytes, rest-bytes}
 use Rattle.text.specs.Text.{ascii, decimal, ended, line_feed, marked, pad_left, pad_right}
 use Rattle.text.proofs.Padded.{decimal-few, left-few, right_few}
 use Rattle.planwords.specs.declared.Item.{Item}
-use Rattle.planwords.specs.declared.Item.TheVariants.{Word, Number, End}
+use Rattle.planwords.specs.declared.Item.TheVariants.{Word, Number}
 use Rattle.planwords.specs.Items.{spelled, forms, form_of, first_of, items_of, thing_of}
 use Rattle.planwords.specs.PlanText.{items_text, record_text, counted_as, comment_text, plan_line, count_of, plan_lines, text_of, printed, plan_text}
 use Rattle.planwords.proofs.LineKinds.{
@@ -66,13 +66,11 @@ abbrev most_of : List Item → ℕ
 most_of [] = 0
 most_of (Word name ∷ items) = suc (length (spelled name) + most_of items)
 most_of (Number wide columns ∷ items) = suc ((columns + 3 * wide) + most_of items)
-most_of (End ∷ items) = 0
 
 abbrev is_wide : List Item → Bool
 is_wide [] = true
 is_wide (Word name ∷ items) = is_wide items
 is_wide (Number wide columns ∷ items) = leb 1 wide && is_wide items
-is_wide (End ∷ items) = true
 
 items-few : {items : List Item} {ns : List ℕ} → Fits items ns → is_wide items ≡ true → length (items_text items ns) ≤ most_of items
 unfolding items_text

@@ -19,12 +19,11 @@ use Rattle.rules.proofs.RecordsExact.{records_exact}
 use Rattle.rules.proofs.TableBytes as table
 use Rattle.rules.proofs.TableFile.{body_written, body_fits, body_bytes, rest-bytes}
 use Rattle.text.specs.Lines.{is_word, lines_of, uncommented, whole_number, words}
-use Rattle.text.specs.declared.lines.Whole.{Whole}
-use Rattle.text.specs.declared.lines.Whole.TheVariants as whole
+use Rattle.std.specs.Prelude.{Option, Some, None}
 use Rattle.text.proofs.Runs.{is_feedless, lines-joined}
 use Rattle.planwords.specs.declared.Name.{Name}
 use Rattle.planwords.specs.declared.Item.{Item}
-use Rattle.planwords.specs.declared.Item.TheVariants.{Word, Number, End}
+use Rattle.planwords.specs.declared.Item.TheVariants.{Word, Number}
 use Rattle.planwords.specs.declared.Reason.{Reason}
 use Rattle.planwords.specs.declared.Reason.TheVariants.{Expected, NumberTooLarge}
 use Rattle.planwords.specs.Items.{spelled, items_of}
@@ -175,10 +174,10 @@ pub file_injective : {f g : List ℕ} → plan_file f ≡ plan_file g → f ≡ 
 file_injective e = cc
 
 -- a number that was taken fits its bytes, and the rest was taken too
-number-taken : (wide columns : ℕ) (items : List Item) (number : Whole) (rest : Matched) (ns : List ℕ)
+number-taken : (wide columns : ℕ) (items : List Item) (number : Option ℕ) (rest : Matched) (ns : List ℕ)
     → ((ms : List ℕ) → rest ≡ fits ms → Fits items ms) → with_number wide number rest ≡ fits ns → Fits (Number wide columns ∷ items) ns
-number-taken wide columns items whole.None rest ns others e = fails≢fits e
-number-taken wide columns items (whole.Value n) rest ns others e = fitting (ltb n (256 ^ wide)) refl e
+number-taken wide columns items None rest ns others e = fails≢fits e
+number-taken wide columns items (Some n) rest ns others e = fitting (ltb n (256 ^ wide)) refl e
   where
     joined_with : (m : Matched) → rest ≡ m → n < 256 ^ wide → number_first n m ≡ fits ns → Fits (Number wide columns ∷ items) ns
     joined_with (fits ms) q h p = subst (Fits (Number wide columns ∷ items)) (fits_injective p) (fits-number h (others ms q))
@@ -203,7 +202,6 @@ matched-fits (Word name ∷ items) (w ∷ ws) ns e =
 matched-fits (Number wide columns ∷ items) [] ns e = fails≢fits e
 matched-fits (Number wide columns ∷ items) (w ∷ ws) ns e =
     number-taken wide columns items (whole_number w) (matched items ws) ns (λ ms q. matched-fits items ws ms q) e
-matched-fits (End ∷ items) ws ns e = fails≢fits e
 
 -- a record that a line says may stand where the line does, and its numbers fit
 pub record MayFollow (previous : ℕ) (r : Rec) : Type 0 where

@@ -11,11 +11,10 @@ use Rattle.laws.specs.Lists.{joined}
 use Rattle.rules.specs.Records.{Rec, kinds, fields, plan_follows}
 use Rattle.rules.specs.Table.{record_bytes}
 use Rattle.text.specs.Lines.{blank_first, blank_or, in_front, is_blank, is_other, is_word, letter_first, lines_of, or_feed, uncommented, whole_number, words}
-use Rattle.text.specs.declared.lines.Whole.{Whole}
-use Rattle.text.specs.declared.lines.Whole.TheVariants as whole
+use Rattle.std.specs.Prelude.{Option, Some, None}
 use Rattle.text.proofs.Runs.{front-taken}
 use Rattle.planwords.specs.declared.Item.{Item}
-use Rattle.planwords.specs.declared.Item.TheVariants.{Word, Number, End}
+use Rattle.planwords.specs.declared.Item.TheVariants.{Word, Number}
 use Rattle.planwords.specs.declared.Reason.TheVariants.{Expected, NumberTooLarge}
 use Rattle.planwords.specs.Items.{spelled, forms, form_of, items_of}
 use Rattle.planwords.specs.TextPlan.{
@@ -142,11 +141,10 @@ matched-long (Number wide columns ∷ items) (w ∷ ws) ns e = go (whole_number 
     fitting n true q rest = first n (matched items ws) refl q rest
     fitting n false q rest = fails≢fits q
 
-    go : (number : Whole) → with_number wide number (matched items ws) ≡ fits ns
+    go : (number : Option ℕ) → with_number wide number (matched items ws) ≡ fits ns
         → ((ms : List ℕ) → matched items ws ≡ fits ms → length ws ≡ length items) → suc (length ws) ≡ suc (length items)
-    go whole.None q rest = fails≢fits q
-    go (whole.Value n) q rest = fitting n (ltb n (256 ^ wide)) q rest
-matched-long (End ∷ items) ws ns e = fails≢fits e
+    go None q rest = fails≢fits q
+    go (Some n) q rest = fitting n (ltb n (256 ^ wide)) q rest
 
 -- a record has fewer bytes than twice as many as its line has words
 record_few : {kind : ℕ} → PlanKind kind → {ns : List ℕ} → Fits (items_of kind) ns

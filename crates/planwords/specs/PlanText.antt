@@ -5,7 +5,7 @@ use Rattle.laws.specs.Lists.{joined}
 use Rattle.rules.specs.Records.{Rec, records, plan_follows}
 use Rattle.text.specs.Text.{ascii, decimal, ended, marked, pad_left, pad_right, refused_line}
 use Rattle.planwords.specs.declared.Item.{Item}
-use Rattle.planwords.specs.declared.Item.TheVariants.{Word, Number, End}
+use Rattle.planwords.specs.declared.Item.TheVariants.{Word, Number}
 use Rattle.planwords.specs.Items.{spelled, first_of, items_of, thing_of}
 
 -- Rules 19.2 and 19.3: what stands behind the first word, each with a space in front; a number at the right end of its columns.
@@ -14,7 +14,6 @@ items_text [] numbers = []
 items_text (Word name ∷ items) numbers = 32 ∷ spelled name ++ items_text items numbers
 items_text (Number bytes columns ∷ items) [] = []
 items_text (Number bytes columns ∷ items) (n ∷ numbers) = 32 ∷ pad_left columns (decimal n) ++ items_text items numbers
-items_text (End ∷ items) numbers = []
 
 unfoldable pub record_text : Rec → List ℕ
 record_text r = spelled (first_of r.kind) ++ items_text (items_of r.kind) r.numbers

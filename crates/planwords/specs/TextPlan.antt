@@ -1,14 +1,12 @@
 -- docs/RULES.md, section 20: a text read as a plan. Any text is read: to a plan's bytes, or to the first line that cannot be read, with the reason.
-use Rattle.std.specs.Prelude.{Bool, cond, not, ◌&&◌, List, [], ◌∷◌, ◌++◌, map, eqb, ltb, length, ℕ, suc, ◌^◌}
+use Rattle.std.specs.Prelude.{Bool, cond, not, ◌&&◌, List, [], ◌∷◌, ◌++◌, map, eqb, ltb, length, Option, Some, None, ℕ, suc, ◌^◌}
 use Rattle.laws.specs.Lists.{joined}
 use Rattle.rules.specs.Records.{Rec, is_bus, plan_follows}
 use Rattle.rules.specs.Table.{record_bytes}
 use Rattle.text.specs.Text.{ascii, line_feed, marked}
 use Rattle.text.specs.Lines.{is_word, lines_of, uncommented, whole_number, words}
-use Rattle.text.specs.declared.lines.Whole.{Whole}
-use Rattle.text.specs.declared.lines.Whole.TheVariants as whole
 use Rattle.planwords.specs.declared.Item.{Item}
-use Rattle.planwords.specs.declared.Item.TheVariants.{Word, Number, End}
+use Rattle.planwords.specs.declared.Item.TheVariants.{Word, Number}
 use Rattle.planwords.specs.declared.Name.TheVariants.{Bus, Nodes, Module, Mode, Task, Run, Connect}
 use Rattle.planwords.specs.declared.Reason.{Reason}
 use Rattle.planwords.specs.declared.Reason.TheVariants as reason
@@ -45,9 +43,9 @@ number_first n (fits ns) = fits (n ∷ ns)
 number_first n (fails why) = fails why
 
 -- Rule 20.4: a number is digits; it has to fit its bytes, whatever its range.
-abbrev pub with_number : ℕ → Whole → Matched → Matched
-with_number wide whole.None rest = fails reason.NumberExpected
-with_number wide (whole.Value n) rest = cond (ltb n (256 ^ wide)) (number_first n rest) (fails reason.NumberTooLarge)
+abbrev pub with_number : ℕ → Option ℕ → Matched → Matched
+with_number wide None rest = fails reason.NumberExpected
+with_number wide (Some n) rest = cond (ltb n (256 ^ wide)) (number_first n rest) (fails reason.NumberTooLarge)
 
 -- Rules 20.3 and 20.5: place by place, from left to right.
 unfoldable pub matched : List Item → List (List ℕ) → Matched
@@ -57,7 +55,6 @@ matched (Word name ∷ items) [] = fails (reason.Expected name)
 matched (Word name ∷ items) (w ∷ ws) = cond (is_word (spelled name) w) (matched items ws) (fails (reason.Expected name))
 matched (Number bytes columns ∷ items) [] = fails reason.NumberExpected
 matched (Number bytes columns ∷ items) (w ∷ ws) = with_number bytes (whole_number w) (matched items ws)
-matched (End ∷ items) ws = fails reason.EndExpected
 
 -- What a line says: nothing, a record, or that it cannot be read.
 pub data LineRead : Type 0 where

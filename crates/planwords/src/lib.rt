@@ -3,7 +3,7 @@
 #![tactic(auto)]
 
 // The words of the lines, in the order in which the kinds have them.
-#[derive(Clone, Copy)]
+#[derive(Clone, Copy, PartialEq, Eq)]
 pub enum Name {
     Bus,
     Kbit,
@@ -31,16 +31,15 @@ pub enum Name {
     To,
 }
 
-// What stands at a place of a line: a word; a number that has so many bytes in the record and is printed in so many columns; nothing.
-#[derive(Clone, Copy)]
+// What stands at a place of a line: a word; a number that has so many bytes in the record and is printed in so many columns.
+#[derive(Clone, Copy, PartialEq, Eq)]
 pub enum Item {
     Word(Name),
     Number { bytes: u8, columns: u8 },
-    End,
 }
 
 // Why a line cannot be read.
-#[derive(Clone, Copy)]
+#[derive(Clone, Copy, PartialEq, Eq)]
 pub enum Reason {
     BusExpected,
     NodesExpected,

@@ -21,7 +21,7 @@ use Rattle.units.specs.declared.Offset.{Offset}
 use Rattle.text.specs.Text.{ended}
 use Rattle.text.proofs.Putting.{Put}
 use Rattle.planwords.specs.PlanText.{count_of, plan_line, plan_lines, plan_text, printed, text_of}
-use Rattle.planwriter.specs.declared.Lines.TheVariants.{Whole, Broken}
+use Rattle.std.specs.Prelude.{Ok, Err}
 use Rattle.planwriter.specs.Printing.{MayPut, lines_for, lines_left}
 
 -- where the text stands and ends
@@ -98,19 +98,19 @@ module _ {s old buf : List ℕ} {previous at k number end : ℕ} (h : SoFar s ol
       let f = found Plan s previous at kind body next (sym next-is ∙ e) in
       omega (arith, f.further, f.fits)
 
-  pub so_far_end : step ≡ End → (Whole end ≡ lines_for (plan_text s)) × (buf ≡ lines_left (plan_text s) old)
+  pub so_far_end : step ≡ End → (Ok end ≡ lines_for (plan_text s)) × (buf ≡ lines_left (plan_text s) old)
   unfolding plan_text plan_lines text_of
   so_far_end e = finished (records plan_follows 1 s) (onwards e)
     where
-      finished : (m : Res (List Rec)) → put_on old 0 0 0 0 m ≡ ok (placed buf end []) → (Whole end ≡ lines_for (printed m)) × (buf ≡ lines_left (printed m) old)
+      finished : (m : Res (List Rec)) → put_on old 0 0 0 0 m ≡ ok (placed buf end []) → (Ok end ≡ lines_for (printed m)) × (buf ≡ lines_left (printed m) old)
       finished (ok rs) g =
           let same : placed old 0 (text_from 0 0 0 rs) ≡ placed buf end [] = ok_injective g in
           let far : 0 + length (text_from 0 0 0 rs) ≡ end + 0 = ap (λ (p : Placed). p.place) same in
           let long : end ≡ length (text_from 0 0 0 rs) = omega arith in
-          (ap Whole long, sym (ap (λ (p : Placed). p.bytes) same))
+          (ap Ok long, sym (ap (λ (p : Placed). p.bytes) same))
       finished (refuse n place) g = refuse≢ok g
 
-  pub so_far_wrong : {place : Offset} → step ≡ Wrong place → MayPut (plan_text s) old → (Broken place ≡ lines_for (plan_text s)) × (buf ≡ lines_left (plan_text s) old)
+  pub so_far_wrong : {place : Offset} → step ≡ Wrong place → MayPut (plan_text s) old → (Err place ≡ lines_for (plan_text s)) × (buf ≡ lines_left (plan_text s) old)
   unfolding plan_text
   so_far_wrong {place} e may = broken (records plan_follows 1 s) (onwards e) may
     where
@@ -121,6 +121,6 @@ module _ {s old buf : List ℕ} {previous at k number end : ℕ} (h : SoFar s ol
       empty (x ∷ a) (y ∷ b) p q = absurd (omega arith)
 
       broken : (m : Res (List Rec)) → put_on old 0 0 0 0 m ≡ refuse 1 place.0 → MayPut (printed m) old
-          → (Broken place ≡ lines_for (printed m)) × (buf ≡ lines_left (printed m) old)
+          → (Err place ≡ lines_for (printed m)) × (buf ≡ lines_left (printed m) old)
       broken (ok rs) g may = refuse≢ok (sym g)
       broken (refuse n p) g may = (rw (refuse-place g), empty buf old h.kept may)

@@ -5,13 +5,12 @@ use native.Mathlib.Numerals.{add-one}
 use native.Mathlib.Omega.{arith}
 use lib.ListN.{length, get_or, drop, length-append, drop_of_length-le}
 use lib.Seq.{sets, length-sets, drop-cons, drop-drop}
-use Prim.Native.Nat.{ℕ, zero, suc, ◌+◌, ◌-◌, ◌≤◌, ◌<◌, min}
+use Prim.Native.Nat.{ℕ, zero, suc, ◌+◌, ◌-◌, ◌≤◌, ◌<◌}
 use Rattle.laws.proofs.Laid.{sets_append}
 use Rattle.rules.specs.Records.{fields, kinds, record_of}
 use Rattle.text.specs.Text.{ascii, decimal, ended, line_feed, marked, pad_left, pad_right, spaces}
 use Rattle.text.proofs.Putting.{Put, both_put}
 use Rattle.planwords.specs.declared.Item.{Item}
-use Rattle.planwords.specs.declared.Item.TheVariants.{End}
 use Rattle.planwords.specs.Items.{first_of, form_of, forms, items_of, spelled, thing_of}
 use Rattle.planwords.specs.PlanText.{comment_text, counted_as, items_text, plan_line, record_text}
 use Rattle.planwriter.specs.Pieces.{item_text, item_wide, items_in, number_in}
@@ -42,15 +41,10 @@ module _ {old : List ℕ} {at : ℕ} {whole : List ℕ} where
 
 -- ---- items
 
-pub number_put : (b b₁ b₂ : List ℕ) (at k₁ k₂ columns x : ℕ) {width long least : ℕ} → width ≡ columns → long ≡ length (decimal x) → least ≡ min width long
-    → Put b at (spaces (1 + (width - least))) b₁ k₁ → Put b₁ k₁ (decimal x) b₂ k₂ → Put b at (32 ∷ pad_left columns (decimal x)) b₂ k₂
+pub number_put : (b b₁ b₂ : List ℕ) (at k₁ k₂ columns x : ℕ) {blanks : ℕ} → blanks ≡ suc (columns - length (decimal x)) → Put b at (spaces blanks) b₁ k₁
+    → Put b₁ k₁ (decimal x) b₂ k₂ → Put b at (32 ∷ pad_left columns (decimal x)) b₂ k₂
 unfolding pad_left
-number_put b b₁ b₂ at k₁ k₂ columns x {width} {long} {least} w l m p q =
-    let one : 1 + (width - least) ≡ suc (columns - length (decimal x)) = omega arith in
-    rw one at (both_put b b₁ b₂ (spaces (1 + (width - least))) (decimal x) at k₁ k₂ p q)
-
-pub nothing_put : (b : List ℕ) (at : ℕ) → Put b at [] b at
-nothing_put b at = (refl, omega arith)
+number_put b b₁ b₂ at k₁ k₂ columns x {blanks} e p q = rw e at (both_put b b₁ b₂ (spaces blanks) (decimal x) at k₁ k₂ p q)
 
 -- a body's bytes by the items are the record's numbers by the fields
 pub items_are : (kind : ℕ) (body : List ℕ) → items_in (items_of kind) body ≡ items_text (items_of kind) (record_of kind body).numbers
@@ -78,12 +72,12 @@ module _ {old : List ℕ} {at kind : ℕ} {body : List ℕ} where
   pub itemed_none : Itemed old at kind body 0 0 old at
   itemed_none = record { still = rw (items_are kind body) rest_all }
 
-  pub itemed_turn : {k from wide : ℕ} {item : Item} {buf buf' : List ℕ} {next next' : ℕ} → Itemed old at kind body k from buf next
-      → k < length (items_of kind) → item ≡ get_or (items_of kind) k End → wide ≡ item_wide item
+  pub itemed_turn : (d : Item) {k from wide : ℕ} {item : Item} {buf buf' : List ℕ} {next next' : ℕ} → Itemed old at kind body k from buf next
+      → k < length (items_of kind) → item ≡ get_or (items_of kind) k d → wide ≡ item_wide item
       → Put buf next (item_text item (drop from body)) buf' next' → Itemed old at kind body (k + 1) (from + wide) buf' next'
-  itemed_turn {k} {from} {wide} {item} i h e w p =
+  itemed_turn d {k} {from} {wide} {item} i h e w p =
       let items : drop k (items_of kind) ≡ item ∷ drop (k + 1) (items_of kind) =
-      drop-cons (items_of kind) k End h ∙ ap₂ (λ (x : Item) (j : ℕ). x ∷ drop j (items_of kind)) (sym e) (sym (add-one k)) in
+      drop-cons (items_of kind) k d h ∙ ap₂ (λ (x : Item) (j : ℕ). x ∷ drop j (items_of kind)) (sym e) (sym (add-one k)) in
       let behind : drop (item_wide item) (drop from body) ≡ drop (from + wide) body =
       drop-drop (item_wide item) from body ∙ ap (λ (j : ℕ). drop (from + j) body) (sym w) in
       let here = rw items at i.still in
@@ -99,24 +93,7 @@ module _ {old : List ℕ} {at kind : ℕ} {body : List ℕ} where
       let none : drop k (items_of kind) ≡ [] = drop_of_length-le (items_of kind) far in
       rest_end (rw none at i.still)
 
-  pub itemed_length : {k from : ℕ} {buf : List ℕ} {next : ℕ} → Itemed old at kind body k from buf next → length buf ≡ length old
-  itemed_length i = i.still.kept
-
 -- ---- the comment
-
-pub no_thing : (kind : ℕ) → (kind ≡ 3 → ⊥) → (kind ≡ 4 → ⊥) → (kind ≡ 5 → ⊥) → (kind ≡ 6 → ⊥) → (kind ≡ 7 → ⊥) → thing_of kind ≡ []
-unfolding thing_of form_of forms
-no_thing zero a b c d e = refl
-no_thing (suc zero) a b c d e = refl
-no_thing (suc (suc zero)) a b c d e = refl
-no_thing (suc (suc (suc zero))) a b c d e = absurd (a refl)
-no_thing (suc (suc (suc (suc zero)))) a b c d e = absurd (b refl)
-no_thing (suc (suc (suc (suc (suc zero))))) a b c d e = absurd (c refl)
-no_thing (suc (suc (suc (suc (suc (suc zero)))))) a b c d e = absurd (d refl)
-no_thing (suc (suc (suc (suc (suc (suc (suc zero))))))) a b c d e = absurd (e refl)
-no_thing (suc (suc (suc (suc (suc (suc (suc (suc zero)))))))) a b c d e = refl
-no_thing (suc (suc (suc (suc (suc (suc (suc (suc (suc zero))))))))) a b c d e = refl
-no_thing (suc (suc (suc (suc (suc (suc (suc (suc (suc (suc kind)))))))))) a b c d e = refl
 
 pub comment_put : (b b₁ b₂ b₃ : List ℕ) (at k₁ k₂ k₃ kind k number : ℕ) → Put b at (ascii "  # ") b₁ k₁ → Put b₁ k₁ (counted_as (thing_of kind) k) b₂ k₂
     → Put b₂ k₂ (marked (ascii "record ") number) b₃ k₃ → Put b at (comment_text kind k number) b₃ k₃
@@ -129,8 +106,8 @@ comment_put b b₁ b₂ b₃ at k₁ k₂ k₃ kind k number p q r =
 -- ---- the line
 
 -- how many columns are still to be filled
-pub unfilled : (b b₁ b₂ : List ℕ) (at k₁ k₂ kind : ℕ) (body : List ℕ) {least : ℕ} → least ≡ min 47 (k₂ - at) → Put b at (spelled (first_of kind)) b₁ k₁
-    → Put b₁ k₁ (items_text (items_of kind) (record_of kind body).numbers) b₂ k₂ → 47 - least ≡ 47 - length (record_text (record_of kind body))
+pub unfilled : (b b₁ b₂ : List ℕ) (at k₁ k₂ kind : ℕ) (body : List ℕ) {n : ℕ} → n ≡ 47 - (k₂ - at) → Put b at (spelled (first_of kind)) b₁ k₁
+    → Put b₁ k₁ (items_text (items_of kind) (record_of kind body).numbers) b₂ k₂ → n ≡ 47 - length (record_text (record_of kind body))
 unfolding record_text record_of
 unfilled b b₁ b₂ at k₁ k₂ kind body e p q =
     let first = spelled (first_of kind) in

@@ -3,7 +3,7 @@ use Rattle.std.specs.Prelude.{cond, List, [], ◌∷◌, ◌++◌, eqb, take, dr
 use Rattle.laws.specs.Numbers.{number}
 use Rattle.text.specs.Text.{decimal, pad_left}
 use Rattle.planwords.specs.declared.Item.{Item}
-use Rattle.planwords.specs.declared.Item.TheVariants.{Word, Number, End}
+use Rattle.planwords.specs.declared.Item.TheVariants.{Word, Number}
 use Rattle.planwords.specs.Items.{spelled}
 
 -- the number at the front of bytes: it has one byte, two or four
@@ -14,12 +14,10 @@ number_in wide body = cond (eqb wide 1) (number (take 1 body)) (cond (eqb wide 2
 abbrev pub item_text : Item → List ℕ → List ℕ
 item_text (Word name) body = 32 ∷ spelled name
 item_text (Number wide columns) body = 32 ∷ pad_left columns (decimal (number_in wide body))
-item_text End body = []
 
 abbrev pub item_wide : Item → ℕ
 item_wide (Word name) = 0
 item_wide (Number wide columns) = wide
-item_wide End = 0
 
 abbrev pub items_in : List Item → List ℕ → List ℕ
 items_in [] body = []

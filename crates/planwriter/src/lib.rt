@@ -10,9 +10,8 @@ ghost use Rattle.planwords.specs.PlanText.{comment_text, counted_as, count_of, i
 ghost use Rattle.planwriter.specs.Pieces.{item_text, item_wide, number_in};
 ghost use Rattle.planwriter.specs.Printing.{MayPut, left_by, lines_for, lines_left, printing_for};
 
-use figures::{lower, place};
 use little::{read8, read16, read32};
-use planitems::{first_of, item_at, item_count, put_name};
+use planitems::{first_of, items_of, put_name};
 use planwords::Item;
 use records::{Sort, Step};
 use text::{decimal_length, put_bytes, put_decimal, put_marked, put_spaces};
@@ -24,33 +23,37 @@ pub const LONGEST_PLAN: usize = 65536;
 // The columns that a line is filled up to, in front of its comment.
 const COLUMNS: usize = 47;
 
-// What a plan comes to as text: so many bytes, at the front of the lent ones; a place where the record rules are broken; so many bytes that are
-// needed, and more than were lent; a plan that is longer than is read. Only the first stores anything.
-#[derive(Clone, Copy)]
-pub enum Printing {
-    Text(usize),
-    Refused(usize),
+// Why no text stands at the front of the lent bytes, which are then as they were: the place where the record rules are broken; how many bytes
+// the text needs, where fewer are lent; a plan that is longer than is read.
+#[derive(Clone, Copy, PartialEq, Eq)]
+pub enum Unprinted {
+    Refused(Offset),
     Needs(usize),
     TooLong,
 }
 
-// The place behind the lines of a whole plan, or where the record rules are broken.
-#[derive(Clone, Copy)]
-enum Lines {
-    Whole(usize),
-    Broken(Offset),
+impl From<Offset> for Unprinted {
+    ghost use Rattle.planwriter.specs.declared.Unprinted.TheVariants.{Refused as refused};
+    ghost use Rattle.std.specs.Prelude.{◌≡◌};
+
+    ghost from_gives = { λ place unprinted. unprinted ≡ refused place };
+
+    fn from(place: Offset) -> Unprinted {
+        Unprinted::Refused(place)
+    }
 }
 
 // ---- items
 
 // A number of a body, by its width in bytes.
+#[tactic(auto, unfolding(crate::specs::Pieces::number_in))]
 fn number_at(body: &[u8], at: usize, wide: u8) -> u64
     ensures { result ≡ number_in wide (drop at body.now) }
 {
     match wide {
-        1 => read8(body, at) as u64,
-        2 => read16(body, at) as u64,
-        _ => read32(body, at) as u64,
+        1 => u64::from(read8(body, at)),
+        2 => u64::from(read16(body, at)),
+        _ => u64::from(read32(body, at)),
     }
 }
 
@@ -60,8 +63,7 @@ fn put_number(out: &mut [u8], at: usize, columns: u8, x: u64) -> usize
     ensures out_after { (out.new ≡ sets out.old at (32 ∷ pad_left columns (decimal x))) × (result ≡ at + length (32 ∷ pad_left columns (decimal x))) }
     ensures few { result ≤ at + 276 }
 {
-    let width = place(columns);
-    let blanks = 1 + (width - lower(width, decimal_length(x)));
+    let blanks = 1 + usize::from(columns).saturating_sub(decimal_length(x));
     let number_at = put_spaces(&mut *out, at, blanks);
     put_decimal(out, number_at, x)
 }
@@ -80,7 +82,6 @@ fn put_item(out: &mut [u8], at: usize, item: Item, body: &[u8], from: usize) -> 
         Item::Number { bytes, columns } => {
             put_number(out, at, columns, number_at(body, from, bytes))
         }
-        Item::End => at,
     }
 }
 
@@ -90,8 +91,7 @@ fn item_wide(item: Item) -> usize
 {
     match item {
         Item::Word(_) => 0,
-        Item::Number { bytes, columns: _ } => place(bytes),
-        Item::End => 0,
+        Item::Number { bytes, columns: _ } => usize::from(bytes),
     }
 }
 
@@ -101,15 +101,12 @@ fn put_items(out: &mut [u8], at: usize, kind: u8, body: &[u8]) -> usize
     ensures out_after { (out.new ≡ sets out.old at (items_text (items_of kind) (record_of kind body.now).numbers)) × (result ≡ at + length (items_text (items_of kind) (record_of kind body.now).numbers)) }
     ensures few { result ≤ at + 3864 }
 {
-    let count = item_count(kind);
     let mut next = at;
     let mut from = 0;
-    let mut k = 0;
-    while k < count {
-        let item = item_at(kind, k);
-        next = put_item(&mut *out, next, item, body, from);
-        from += item_wide(item);
-        k += 1;
+    let items = items_of(kind);
+    for item in items {
+        next = put_item(&mut *out, next, *item, body, from);
+        from += item_wide(*item);
     }
     next
 }
@@ -127,6 +124,7 @@ fn put_counted(out: &mut [u8], at: usize, mark: &[u8], k: usize) -> usize
     put_bytes(out, end, b", ")
 }
 
+#[tactic(auto, unfolding(planwords::specs::Items::thing_of, planwords::specs::Items::form_of, planwords::specs::Items::forms))]
 fn put_thing(out: &mut [u8], at: usize, kind: u8, k: usize) -> usize
     requires { at + 33 ≤ 18446744073709551615 }
     ensures out_after { (out.new ≡ sets out.old at (counted_as (thing_of kind) k)) × (result ≡ at + length (counted_as (thing_of kind) k)) }
@@ -163,20 +161,22 @@ fn put_line(out: &mut [u8], at: usize, kind: u8, body: &[u8], k: usize, number: 
     let items_at = put_name(&mut *out, at, first_of(kind));
     let filled_at = put_items(&mut *out, items_at, kind, body);
     let used = filled_at - at;
-    let comment_at = put_spaces(&mut *out, filled_at, COLUMNS - lower(COLUMNS, used));
+    let comment_at = put_spaces(&mut *out, filled_at, COLUMNS.saturating_sub(used));
     let end = put_comment(&mut *out, comment_at, kind, k, number);
     put_bytes(out, end, b"\n")
 }
 
 // How many records of a kind came before, where `k` of the kind `previous` did.
+#[tactic(auto, unfolding(planwords::specs::PlanText::count_of))]
 fn count_of(previous: u8, k: usize, kind: u8) -> usize
     ensures { (result ≡ count_of previous k kind) × (result ≤ k) }
 {
     if kind == previous { k } else { 0 }
 }
 
-// Each record's line, in the file's order. Where no bytes are lent nothing is stored, so that the lines are measured.
-fn put_lines(plan: &[u8], text: &mut [u8]) -> Lines
+// Each record's line, in the file's order, to the place behind them, or to where the record rules are broken. Where no bytes are lent nothing is
+// stored, so that the lines are measured.
+fn put_lines(plan: &[u8], text: &mut [u8]) -> Result<usize, Offset>
     requires { (length plan.now ≤ 65536) × MayPut (plan_text plan.now) text.old }
     ensures value { result ≡ lines_for (plan_text plan.now) }
     ensures left { text.new ≡ lines_left (plan_text plan.now) text.old }
@@ -201,29 +201,24 @@ fn put_lines(plan: &[u8], text: &mut [u8]) -> Lines
                 k = before + 1;
                 number += 1;
             }
-            Step::End => return Lines::Whole(end),
-            Step::Wrong(place) => return Lines::Broken(place),
+            Step::End => return Ok(end),
+            Step::Wrong(place) => return Err(place),
         }
     }
 }
 
-// A file of any bytes, printed at the front of the lent bytes if the whole text has room there.
-pub fn print(plan: &[u8], text: &mut [u8]) -> Printing
+// A file of any bytes, printed at the front of the lent bytes if the whole text has room there; the text's length.
+pub fn print(plan: &[u8], text: &mut [u8]) -> Result<usize, Unprinted>
     ensures value { result ≡ printing_for plan.now text.old }
     ensures left { text.new ≡ left_by plan.now text.old }
 {
     if LONGEST_PLAN < plan.len() {
-        return Printing::TooLong;
+        return Err(Unprinted::TooLong);
     }
-    let mut nothing: [u8; 0] = [0; 0];
-    match put_lines(plan, &mut nothing) {
-        Lines::Broken(place) => Printing::Refused(place.0),
-        Lines::Whole(length) => {
-            if length <= text.len() {
-                put_lines(plan, text);
-                return Printing::Text(length);
-            }
-            Printing::Needs(length)
-        }
+    let length = put_lines(plan, &mut [])?;
+    if text.len() < length {
+        return Err(Unprinted::Needs(length));
     }
+    let _ = put_lines(plan, text);
+    Ok(length)
 }

@@ -5,19 +5,19 @@
 ghost use Rattle.std.specs.Prelude.{◌≡◌, ◌≤◌, length};
 ghost use Rattle.std.proofs.lemmas.List.Edits.{sets};
 ghost use Rattle.io.specs.Counts.{IsPrefixLen};
+ghost use Rattle.manners.specs.Status.{number_of};
 ghost use Rattle.playstation.specs.Closing.{closing_status, closing_text, end_status, end_text};
 
-use figures::both;
 use hearing::{LONGEST, Stage, attend};
-use input::{Input, file_room, read_argument, text_room};
-use manners::{FAILED, REFUSED, Response, Start, is_argument, put_lines, write_out};
+use input::{file_room, read_argument, text_room};
+use manners::{Failed, Response, Status, is_argument, put_lines, write_out};
 use meanings::put_help_lines;
 use text::{put_too_long, put_unreadable};
 
 // What is said at the end of a history of which so many bytes came, and how the program ends; `begun`: the station has begun.
 fn ended(out: &mut [u8], came: usize, begun: bool) -> Response
     ensures out_after { (out.new ≡ sets out.old 0 (end_text came)) × (result.length ≡ length (end_text came)) }
-    ensures status_value { result.status ≡ end_status came begun }
+    ensures status_value { number_of result.status ≡ end_status came begun }
     ensures few { result.length ≤ 41 }
 {
     if came > LONGEST {
@@ -32,7 +32,7 @@ fn ended(out: &mut [u8], came: usize, begun: bool) -> Response
 // The same, where a line may have stopped the history.
 fn closing(out: &mut [u8], came: usize, stage: Stage) -> Response
     ensures out_after { (out.new ≡ sets out.old 0 (closing_text came stage)) × (result.length ≡ length (closing_text came stage)) }
-    ensures status_value { result.status ≡ closing_status came stage }
+    ensures status_value { number_of result.status ≡ closing_status came stage }
     ensures few { result.length ≤ 41 }
 {
     match stage {
@@ -42,43 +42,34 @@ fn closing(out: &mut [u8], came: usize, stage: Stage) -> Response
     }
 }
 
-fn finish(rt: HostRuntime, came: usize, stage: Stage) -> i32 {
+fn finish(rt: HostRuntime, came: usize, stage: Stage) -> Result<Status, Failed> {
     let mut out = [0u8; 64];
     let closed = closing(&mut out, came, stage);
-    let length = closed.length;
-    write_out(rt, &out[..length], closed.status as i32)
+    write_out(rt, &out[..closed.length], closed.status)
 }
 
-fn too_long(rt: HostRuntime) -> i32 {
+fn too_long(rt: HostRuntime) -> Result<Status, Failed> {
     let mut out = [0u8; 64];
     let length = put_too_long(&mut out);
-    write_out(rt, &out[..length], REFUSED)
+    write_out(rt, &out[..length], Status::Refused)
 }
 
-fn play(rt: HostRuntime, plan: &[u8], table: &[u8], rows: bool) -> i32 {
-    if both(plan.len() <= 65536, table.len() <= 65536) {
-        let mut history = text_room();
-        let attended = attend(rt, plan, table, rows, &mut rt.stdin(), &mut history);
-        let heard = attended.heard;
-        let stage = heard.stage;
-        if attended.fine {
-            return finish(rt, attended.length, stage);
-        }
-        return FAILED;
+fn play(rt: HostRuntime, plan: &[u8], table: &[u8], rows: bool) -> Result<Status, Failed> {
+    if plan.len() > 65536 || table.len() > 65536 {
+        return too_long(rt);
     }
-    too_long(rt)
+    let mut history = text_room();
+    let attended = attend(rt, plan, table, rows, &mut rt.stdin(), &mut history)?;
+    let heard = attended.heard;
+    finish(rt, attended.length, heard.stage)
 }
 
 // The files are named by these arguments.
-fn answer(rt: HostRuntime, plan_at: usize, table_at: usize, rows: bool) -> i32 {
+fn answer(rt: HostRuntime, plan_at: usize, table_at: usize, rows: bool) -> Result<Status, Failed> {
     let mut plan = file_room();
-    let Input::Bytes(n) = read_argument(rt, plan_at, b"PLAN", &mut plan) else {
-        return FAILED;
-    };
+    let n = read_argument(rt, plan_at, b"PLAN", &mut plan)?;
     let mut table = file_room();
-    let Input::Bytes(m) = read_argument(rt, table_at, b"TABLE", &mut table) else {
-        return FAILED;
-    };
+    let m = read_argument(rt, table_at, b"TABLE", &mut table)?;
     play(rt, &plan[..n], &table[..m], rows)
 }
 
@@ -101,30 +92,22 @@ fn put_help(out: &mut [u8]) -> usize
     put_help_lines(&mut *out, station_at, 40, 5)
 }
 
-fn first_file(rows: bool) -> usize {
-    if rows { 2 } else { 1 }
-}
-
-// The program; the number that it ends with.
-pub fn run(rt: HostRuntime) -> i32 {
+// The program, and how it ends.
+pub fn run(rt: HostRuntime) -> Result<Status, Failed> {
     let rows = is_argument(rt, 1, b"--rows");
+    let first = 1 + usize::from(rows);
     let mut help = io::large_buffer();
     let end = put_help(&mut help);
-    let start = manners::opening(
+    let opened = manners::opening(
         rt,
         b"playstation",
         b"playstation [--rows] PLAN TABLE < HISTORY",
         &help[..end],
-        first_file(rows),
+        first,
         2,
     );
-    match start {
-        Start::Ends(status) => status,
-        Start::Works => {
-            if rows {
-                return answer(rt, 2, 3, true);
-            }
-            answer(rt, 1, 2, false)
-        }
+    match opened {
+        Some(ended) => ended,
+        None => answer(rt, first, first + 1, rows),
     }
 }

@@ -1,30 +1,33 @@
-// The programs, each as a function that is given the runtime: a program's `main` calls its own, and ends with the number.
+// The programs, each as a function that is given the runtime: a program's `main` calls its own, and ends with what it gives.
 #![tactic(auto)]
 
-pub fn olbiothar_run_bustable(rt: HostRuntime) -> i32 {
-    bustable::run(rt)
+use manners::exit_code;
+use std::process::ExitCode;
+
+pub fn olbiothar_run_bustable(rt: HostRuntime) -> ExitCode {
+    exit_code(bustable::run(rt))
 }
 
-pub fn olbiothar_run_checktable(rt: HostRuntime) -> i32 {
-    checktable::run(rt)
+pub fn olbiothar_run_checktable(rt: HostRuntime) -> ExitCode {
+    exit_code(checktable::run(rt))
 }
 
-pub fn olbiothar_run_playstation(rt: HostRuntime) -> i32 {
-    playstation::run(rt)
+pub fn olbiothar_run_playstation(rt: HostRuntime) -> ExitCode {
+    exit_code(playstation::run(rt))
 }
 
-pub fn olbiothar_run_tablesheet(rt: HostRuntime) -> i32 {
-    tablesheet::run(rt)
+pub fn olbiothar_run_tablesheet(rt: HostRuntime) -> ExitCode {
+    exit_code(tablesheet::run(rt))
 }
 
-pub fn olbiothar_run_sheettable(rt: HostRuntime) -> i32 {
-    sheettable::run(rt)
+pub fn olbiothar_run_sheettable(rt: HostRuntime) -> ExitCode {
+    exit_code(sheettable::run(rt))
 }
 
-pub fn olbiothar_run_textplan(rt: HostRuntime) -> i32 {
-    textplan::run(rt)
+pub fn olbiothar_run_textplan(rt: HostRuntime) -> ExitCode {
+    exit_code(textplan::run(rt))
 }
 
-pub fn olbiothar_run_plantext(rt: HostRuntime) -> i32 {
-    plantext::run(rt)
+pub fn olbiothar_run_plantext(rt: HostRuntime) -> ExitCode {
+    exit_code(plantext::run(rt))
 }

@@ -3,8 +3,8 @@ use mathlib.Core.Path.{◌≡◌, refl, sym, ap, ◌∙◌}
 use mathlib.Core.Option.{Option, none, some}
 use native.Mathlib.Omega.{arith}
 use borrow.Author.Tests.{le-leb, lt-leb}
-use lib.ListN.{get_or, get_or-eq_default}
-use Prim.Native.Nat.{ℕ, zero, suc, ◌-◌, ◌≤◌, ◌<◌}
+use lib.ListN.{get_or}
+use Prim.Native.Nat.{ℕ, ◌-◌, ◌≤◌, ◌<◌}
 use Rattle.laws.proofs.Members.{map-get_or}
 use Rattle.text.specs.Text.{ascii}
 use Rattle.planwords.specs.declared.Name.{Name}
@@ -12,34 +12,18 @@ use Rattle.planwords.specs.declared.Name.TheVariants.{Bus, Kbit, Overhead, Least
 use Rattle.planwords.specs.declared.Reason.{Reason}
 use Rattle.planwords.specs.declared.Reason.TheVariants.{BusExpected, NodesExpected, UnknownWord, OutOfOrder, Expected, NumberExpected, NumberTooLarge, EndExpected}
 use Rattle.planwords.specs.TextPlan.{reason_text}
-use Rattle.reasons.specs.declared.Found.{Found}
-use Rattle.reasons.specs.declared.Found.TheVariants.{Why, None}
+use Rattle.std.specs.Prelude as code
 use Rattle.reasons.specs.Memory.{found}
 use Rattle.reasons.specs.Numbers.{asked, expected_reasons, name_number, names, plain_reasons, reason_at, reason_number, reason_words, words_or}
 
--- no plain reason has another number
-pub no_plain : (n : ℕ) → (n ≡ 1 → ⊥) → (n ≡ 2 → ⊥) → (n ≡ 3 → ⊥) → (n ≡ 4 → ⊥) → (n ≡ 5 → ⊥) → (n ≡ 6 → ⊥) → (n ≡ 7 → ⊥) → get_or plain_reasons n none ≡ none
-no_plain zero a b c d e f g = refl
-no_plain (suc zero) a b c d e f g = absurd (a refl)
-no_plain (suc (suc zero)) a b c d e f g = absurd (b refl)
-no_plain (suc (suc (suc zero))) a b c d e f g = absurd (c refl)
-no_plain (suc (suc (suc (suc zero)))) a b c d e f g = absurd (d refl)
-no_plain (suc (suc (suc (suc (suc zero))))) a b c d e f g = absurd (e refl)
-no_plain (suc (suc (suc (suc (suc (suc zero)))))) a b c d e f g = absurd (f refl)
-no_plain (suc (suc (suc (suc (suc (suc (suc zero))))))) a b c d e f g = absurd (g refl)
-no_plain (suc (suc (suc (suc (suc (suc (suc (suc k)))))))) a b c d e f g = refl
-
-pub expected_is : (k : ℕ) → k < 24 → Why (Expected (get_or names k Bus)) ≡ found (get_or expected_reasons k none)
+pub expected_is : (k : ℕ) → k < 24 → code.Some (Expected (get_or names k Bus)) ≡ found (get_or expected_reasons k none)
 expected_is k h = sym (ap found (map-get_or asked names Bus none k h))
 
-pub none_expected : (k : ℕ) → 24 ≤ k → None ≡ found (get_or expected_reasons k none)
-none_expected k h = sym (ap found (get_or-eq_default expected_reasons none h))
-
-pub plain_at : (n : ℕ) {r : Found} → n < 32 → r ≡ found (get_or plain_reasons n none) → r ≡ found (reason_at n)
+pub plain_at : (n : ℕ) {r : code.Option Reason} → n < 32 → r ≡ found (get_or plain_reasons n none) → r ≡ found (reason_at n)
 unfolding reason_at
 plain_at n h e = e ∙ rw (lt-leb 32 n h)
 
-pub expected_at : (n : ℕ) {r : Found} → 32 ≤ n → r ≡ found (get_or expected_reasons (n - 32) none) → r ≡ found (reason_at n)
+pub expected_at : (n : ℕ) {r : code.Option Reason} → 32 ≤ n → r ≡ found (get_or expected_reasons (n - 32) none) → r ≡ found (reason_at n)
 unfolding reason_at
 expected_at n h e = e ∙ rw (le-leb 32 n h)
 
@@ -83,19 +67,19 @@ words_of_number NumberTooLarge = refl
 words_of_number EndExpected = refl
 
 -- what is put is the words of the number, by what was found
-module _ (number : ℕ) {f : Found} (e : f ≡ found (reason_at number)) where
-  pub why_words : (why : Reason) → f ≡ Why why → reason_text why ≡ reason_words number
+module _ (number : ℕ) {f : code.Option Reason} (e : f ≡ found (reason_at number)) where
+  pub why_words : (why : Reason) → f ≡ code.Some why → reason_text why ≡ reason_words number
   unfolding reason_words
   why_words why q = go (reason_at number) (sym q ∙ e)
     where
-      go : (o : Option Reason) → Why why ≡ found o → reason_text why ≡ words_or o
+      go : (o : Option Reason) → code.Some why ≡ found o → reason_text why ≡ words_or o
       go none p = let z : ◌≡◌ {A = ℕ} 0 1 = cc in absurd (omega arith)
       go (some other) p = let same : why ≡ other = cc in ap reason_text same
 
-  pub no_words : f ≡ None → ascii "no number of a reason" ≡ reason_words number
+  pub no_words : f ≡ code.None → ascii "no number of a reason" ≡ reason_words number
   unfolding reason_words
   no_words q = go (reason_at number) (sym q ∙ e)
     where
-      go : (o : Option Reason) → None ≡ found o → ascii "no number of a reason" ≡ words_or o
+      go : (o : Option Reason) → code.None ≡ found o → ascii "no number of a reason" ≡ words_or o
       go none p = refl
       go (some other) p = let z : ◌≡◌ {A = ℕ} 0 1 = cc in absurd (omega arith)

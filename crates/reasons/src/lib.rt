@@ -14,40 +14,16 @@ use text::put_bytes;
 // The numbers of those that ask for a word begin here.
 const WORDS: u32 = 32;
 
-// How many words there are.
-const NAMES: u32 = 24;
-
+// The words are declared in the order of their numbers.
+#[tactic(auto, unfolding(crate::specs::Numbers::name_number))]
 fn name_number(name: Name) -> u32
     ensures { (result ≡ name_number name) × (result ≤ 23) }
 {
-    match name {
-        Name::Bus => 0,
-        Name::Kbit => 1,
-        Name::Overhead => 2,
-        Name::Least => 3,
-        Name::Largest => 4,
-        Name::Gap => 5,
-        Name::Resolution => 6,
-        Name::BitsPerByte => 7,
-        Name::Nodes => 8,
-        Name::Module => 9,
-        Name::On => 10,
-        Name::Node => 11,
-        Name::Mode => 12,
-        Name::Of => 13,
-        Name::Period => 14,
-        Name::Switch => 15,
-        Name::Task => 16,
-        Name::Bytes => 17,
-        Name::Worst => 18,
-        Name::Run => 19,
-        Name::In => 20,
-        Name::Rate => 21,
-        Name::Connect => 22,
-        Name::To => 23,
-    }
+    name as u32
 }
 
+// No `From`: this crate owns neither of the two types.
+#[tactic(auto, unfolding(crate::specs::Numbers::reason_number))]
 pub fn number_of(why: Reason) -> u32
     ensures { result ≡ reason_number why }
 {
@@ -64,7 +40,7 @@ pub fn number_of(why: Reason) -> u32
 }
 
 // The words by their numbers.
-const NAMED: [Name; NAMES as usize] = [
+const NAMED: [Name; 24] = [
     Name::Bus,
     Name::Kbit,
     Name::Overhead,
@@ -91,39 +67,30 @@ const NAMED: [Name; NAMES as usize] = [
     Name::To,
 ];
 
-// The reason that a number has.
-#[derive(Clone, Copy)]
-enum Found {
-    Why(Reason),
-    None,
-}
-
-fn plain_reason(number: u32) -> Found
+fn plain_reason(number: u32) -> Option<Reason>
     ensures { result ≡ found (get_or plain_reasons number none) }
 {
     match number {
-        1 => Found::Why(Reason::BusExpected),
-        2 => Found::Why(Reason::NodesExpected),
-        3 => Found::Why(Reason::UnknownWord),
-        4 => Found::Why(Reason::OutOfOrder),
-        5 => Found::Why(Reason::NumberExpected),
-        6 => Found::Why(Reason::NumberTooLarge),
-        7 => Found::Why(Reason::EndExpected),
-        _ => Found::None,
+        1 => Some(Reason::BusExpected),
+        2 => Some(Reason::NodesExpected),
+        3 => Some(Reason::UnknownWord),
+        4 => Some(Reason::OutOfOrder),
+        5 => Some(Reason::NumberExpected),
+        6 => Some(Reason::NumberTooLarge),
+        7 => Some(Reason::EndExpected),
+        _ => None,
     }
 }
 
-fn expected_reason(k: u32) -> Found
+fn expected_reason(k: u32) -> Option<Reason>
     ensures { result ≡ found (get_or expected_reasons k none) }
 {
-    if k < NAMES {
-        let name = NAMED[k as usize];
-        return Found::Why(Reason::Expected(name));
-    }
-    Found::None
+    let name = NAMED.get(k as usize)?;
+    Some(Reason::Expected(*name))
 }
 
-fn reason_at(number: u32) -> Found
+// The reason that a number has.
+fn reason_at(number: u32) -> Option<Reason>
     ensures { result ≡ found (reason_at number) }
 {
     if number < WORDS {
@@ -139,9 +106,8 @@ pub fn put_words(out: &mut [u8], at: usize, number: u32) -> usize
     ensures out_after { (out.new ≡ sets out.old at (reason_words number)) × (result ≡ at + length (reason_words number)) }
     ensures few { result ≤ at + 25 }
 {
-    let reason = reason_at(number);
-    match reason {
-        Found::Why(why) => put_reason(out, at, why),
-        Found::None => put_bytes(out, at, b"no number of a reason"),
+    match reason_at(number) {
+        Some(why) => put_reason(out, at, why),
+        None => put_bytes(out, at, b"no number of a reason"),
     }
 }

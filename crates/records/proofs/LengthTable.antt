@@ -1,15 +1,19 @@
 -- The kinds that the rules list: no body of one of them is 255 bytes long, and every kind behind them is unknown.
-use mathlib.Core.Path.{◌≡◌, refl, ap}
-use mathlib.Core.Bool.{Bool, true, false, cond, not}
+use Rattle.std.proofs.Common.{◌≡◌, refl, sym, ◌∙◌, Bool, true, false, cond, ℕ, ◌≤◌, ◌<◌, arith, ltb, length, get_or}
+use Rattle.std.specs.Prelude.{None, Some}
 use mathlib.Core.Option.{none}
-use Prim.Native.Nat.{ℕ, ◌≤◌, ◌<◌}
-use native.Mathlib.Omega.{arith}
-use lib.Dec.{eqb, ltb}
-use lib.ListN.{length, get_or, get_or-eq_default}
-use borrow.Author.Tests.{ne_eqb, ltb-true, ltb-false}
+use lib.ListN.{get_or-eq_default}
+use borrow.Author.Tests.{ltb-true, ltb-false}
+use Rattle.laws.specs.Lists.{tab}
+use Rattle.laws.proofs.Lists.{length-tab}
+use Rattle.laws.proofs.Bus.{table_at}
 use Rattle.laws.proofs.Table.{below}
 use Rattle.rules.specs.Records.{kinds, known, fields, body_length}
-use Rattle.records.specs.Kinds.{length_of}
+use Rattle.records.specs.Kinds.{if_known, length_of}
+
+-- a kind as the table of the source has it: 255 stands for an unknown one
+unfoldable pub length_byte : ℕ → ℕ
+length_byte k = cond (known k) (body_length k) 255
 
 -- no body is 255 bytes long
 is_short : ℕ → Bool
@@ -23,8 +27,8 @@ module _ (k : ℕ) where
   unlisted : length kinds ≤ k → get_or kinds k none ≡ none
   unlisted h = get_or-eq_default kinds none h
 
-  pub above : length kinds ≤ k → length_of k ≡ 255
-  unfolding length_of known
+  above : length kinds ≤ k → length_byte k ≡ 255
+  unfolding length_byte known
   above h = rw (unlisted h)
 
   short_if : (b : Bool) → ltb k (length kinds) ≡ b → body_length k < 255
@@ -35,14 +39,29 @@ module _ (k : ℕ) where
   pub short : body_length k < 255
   short = short_if (ltb k (length kinds)) refl
 
-  told : (b : Bool) (n : ℕ) → n < 255 → not (eqb (cond b n 255) 255) ≡ b
-  told true n h = ap not (ne_eqb n 255 (λ e. omega arith))
-  told false n h = refl
+  told-none : (b : Bool) (n : ℕ) → n < 255 → cond b n 255 ≡ 255 → None ≡ if_known b n
+  told-none true n h e = absurd (omega arith)
+  told-none false n h e = refl
 
-  pub known-told : not (eqb (length_of k) 255) ≡ known k
-  unfolding length_of
-  known-told = told (known k) (body_length k) short
+  told-some : (b : Bool) (n : ℕ) → (cond b n 255 ≡ 255 → ⊥) → Some (cond b n 255) ≡ if_known b n
+  told-some true n h = refl
+  told-some false n h = absurd (h refl)
 
-  pub known-length : known k ≡ true → length_of k ≡ body_length k
-  unfolding length_of
-  known-length e = rw e
+  pub unknown_none : length_byte k ≡ 255 → None ≡ length_of k
+  unfolding length_byte length_of
+  unknown_none = told-none (known k) (body_length k) short
+
+  pub known_some : (length_byte k ≡ 255 → ⊥) → Some (length_byte k) ≡ length_of k
+  unfolding length_byte length_of
+  known_some = told-some (known k) (body_length k)
+
+-- the table of the source, by kind; 255 behind its end
+looked-up_if : (k : ℕ) (b : Bool) → ltb k (length kinds) ≡ b → get_or (tab length_byte 0 (length kinds)) k 255 ≡ length_byte k
+looked-up_if k true e = table_at (length kinds) length_byte k 255 (ltb-true k (length kinds) e)
+looked-up_if k false e =
+    let h : length kinds ≤ k = ltb-false k (length kinds) e in
+    let behind : length (tab length_byte 0 (length kinds)) ≤ k = rw (length-tab length_byte 0 (length kinds)) h in
+    get_or-eq_default (tab length_byte 0 (length kinds)) 255 behind ∙ sym (above k h)
+
+pub looked_up : (k : ℕ) → get_or (tab length_byte 0 (length kinds)) k 255 ≡ length_byte k
+looked_up k = looked-up_if k (ltb k (length kinds)) refl

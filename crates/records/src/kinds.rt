@@ -35,76 +35,68 @@ const LENGTHS: [u8; LISTED as usize] = [
     fields::header::LENGTH as u8,
 ];
 
-pub fn body_length(kind: u8) -> u8
+// The length of a kind's body; an unknown kind has none.
+pub fn body_length(kind: u8) -> Option<u8>
     ensures { result ≡ length_of kind }
 {
-    if kind < LISTED {
-        LENGTHS[kind as usize]
+    let length = LENGTHS.get(usize::from(kind)).copied().unwrap_or(UNKNOWN);
+    if length == UNKNOWN {
+        None
     } else {
-        UNKNOWN
+        Some(length)
     }
 }
 
+#[tactic(auto, unfolding(crate::specs::Kinds::length_of))]
 pub fn known(kind: u8) -> bool
     ensures { result ≡ rules.known kind }
 {
-    body_length(kind) != UNKNOWN
+    body_length(kind).is_some()
 }
 
 // Whether the file may end here, or a kind of `low` to `high` stands where none descends.
 fn rises(previous: u8, kind: u8, low: u8, high: u8) -> bool
     ensures { result ≡ (eqb kind 0 || (leb low kind && (leb previous kind && leb kind high))) }
 {
-    if kind == fields::end::KIND {
-        return true;
-    }
-    if kind < low {
-        return false;
-    }
-    if kind < previous {
-        return false;
-    }
-    kind <= high
+    kind == fields::end::KIND || low <= kind && previous <= kind && kind <= high
 }
 
+#[tactic(auto, unfolding(rules::specs::Records::is_bus))]
 fn is_bus(kind: u8) -> bool
     ensures { result ≡ is_bus kind }
 {
-    if kind == fields::bus::KIND {
-        return true;
-    }
-    kind == fields::framed_bus::KIND
+    matches!(kind, fields::bus::KIND | fields::framed_bus::KIND)
 }
 
 // Whether a kind may stand behind another in a plan; behind nothing where `previous` is 0.
+#[tactic(auto, unfolding(rules::specs::Records::plan_follows))]
 pub fn plan_follows(previous: u8, kind: u8) -> bool
     ensures { result ≡ plan_follows previous kind }
 {
     if previous == 0 {
-        return is_bus(kind);
+        is_bus(kind)
+    } else if is_bus(previous) {
+        kind == fields::nodes::KIND
+    } else {
+        rises(
+            previous,
+            kind,
+            fields::module::KIND,
+            fields::connection::KIND,
+        )
     }
-    if is_bus(previous) {
-        return kind == fields::nodes::KIND;
-    }
-    rises(
-        previous,
-        kind,
-        fields::module::KIND,
-        fields::connection::KIND,
-    )
 }
 
 // The two heads of a table, of one edition each (rule 21.1).
+#[tactic(auto, unfolding(rules::specs::Records::is_head, rules::specs::Records::head_kind))]
 fn is_head(kind: u8) -> bool
     ensures { result ≡ is_head kind }
 {
-    if kind == fields::header::KIND {
-        return true;
-    }
-    kind == fields::header::CONSUMERS_KIND
+    matches!(kind, fields::header::KIND | fields::header::CONSUMERS_KIND)
 }
 
 // The kind of a table's head in an edition.
+#[tactic(auto, unfolding(rules::specs::Records::head_kind))]
 pub fn head_kind(consumers: bool) -> u8
     ensures { result ≡ head_kind consumers }
 {
@@ -116,18 +108,17 @@ pub fn head_kind(consumers: bool) -> u8
 }
 
 // The same in a table.
+#[tactic(auto, unfolding(rules::specs::Records::table_follows))]
 pub fn table_follows(previous: u8, kind: u8) -> bool
     ensures { result ≡ table_follows previous kind }
 {
     if previous == 0 {
         return is_head(kind);
     }
-    if is_head(previous) {
-        // No row is below a head, also where its number is.
-        return rises(0, kind, fields::control_row::KIND, fields::data_row::KIND);
-    }
+    // No row is below a head, also where its number is.
+    let above = if is_head(previous) { 0 } else { previous };
     rises(
-        previous,
+        above,
         kind,
         fields::control_row::KIND,
         fields::data_row::KIND,

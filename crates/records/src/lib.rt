@@ -1,5 +1,5 @@
-// Records: the table of kinds, and the reader that gives one record of a lent file at a time (rules 2.9, 2.10). `next` and `body`
-// stand on that reader and have plain parameters, so whoever calls them needs no walk.
+// Records: the table of kinds, and the reader that gives one record of a lent file at a time (rules 2.9, 2.10). `next` and `body` make a
+// reader and ask it.
 #![tactic(auto)]
 
 ghost use Rattle.std.specs.Prelude.{◌≡◌, ◌-◌, ◌≤◌, length, take, drop};
@@ -33,7 +33,7 @@ pub enum Step {
 pub fn next(s: &[u8], sort: Sort, previous: u8, at: usize) -> Step
     ensures { result ≡ next_at sort s.now previous at }
 {
-    reader::next(Reader { src: s, at }, sort, previous)
+    Reader { src: s, at }.next(sort, previous)
 }
 
 // The body of a record that a step gave, whose places are `start` and `end`: that part of the lent file itself.
@@ -41,5 +41,5 @@ pub fn body(s: &[u8], start: usize, end: usize) -> &[u8]
     requires { (start ≤ end) × (end ≤ length s.now) }
     ensures { result.now ≡ take (end - start) (drop start s.now) }
 {
-    reader::body(Reader { src: s, at: start }, end)
+    Reader { src: s, at: start }.body(end)
 }

@@ -2,20 +2,18 @@
 use mathlib.Core.Path.{◌≡◌, sym, ap, ◌∙◌}
 use mathlib.Core.List.{List}
 use mathlib.Core.Logic.{◌⊎◌, inl, inr}
-use native.Mathlib.Nat.{le_refl, eq-or-lt_of_le}
+use native.Mathlib.Nat.{eq-or-lt_of_le}
 use native.Mathlib.Omega.{arith}
-use lib.ListN.{length, get_or}
+use lib.ListN.{length}
 use borrow.Author.Tests.{lt-ltb, le-ltb, le-leb, lt-leb}
 use Prim.Native.Nat.{ℕ, ◌≤◌, ◌<◌}
 use Rattle.rules.specs.Limits.{most_frames}
 use Rattle.laws.specs.Lists.{tab}
 use Rattle.laws.specs.Loops.{stores}
-use Rattle.laws.proofs.Orders.{le-or-lt}
-use Rattle.laws.proofs.Arrays.{tab_list}
-use Rattle.laws.proofs.Loops.{stores_at, stores_beyond, length-stores}
+use Rattle.laws.proofs.Loops.{stores-all}
 use Rattle.rows.specs.Rows.{Rows}
 use Rattle.units.specs.declared.Frame.{Frame}
-use Rattle.rows.specs.Frames.{zero_frame, within_places, frame_at, frame_in, end_in, end_of, filled}
+use Rattle.rows.specs.Frames.{zero_frame, within_places, frame_at, frame_in, end_of, filled}
 
 -- ---- at most 1,024
 
@@ -27,13 +25,6 @@ pub within-past : (k : ℕ) → most_frames ≤ k → most_frames ≡ within_pla
 unfolding within_places
 within-past k h = rw (le-ltb k most_frames h)
 
-pub within-most : (k : ℕ) → within_places k ≤ most_frames
-within-most k = by_place (le-or-lt most_frames k)
-  where
-    by_place : (most_frames ≤ k) ⊎ (k < most_frames) → within_places k ≤ most_frames
-    by_place (inl h) = let e : most_frames ≡ within_places k = within-past k h in omega arith
-    by_place (inr h) = let e : k ≡ within_places k = within-below k h in omega arith
-
 pub within_all : (n : ℕ) → n ≤ most_frames → n ≡ within_places n
 within_all n h = by_case (eq-or-lt_of_le h)
   where
@@ -42,14 +33,6 @@ within_all n h = by_case (eq-or-lt_of_le h)
     by_case (inr l) = within-below n l
 
 -- ---- the lent rows that are written
-
-pub end_none : (n : ℕ) → n < most_frames → 0 ≡ end_in n
-unfolding end_in
-end_none n h = rw (lt-ltb n most_frames h)
-
-pub end-all : (n : ℕ) → most_frames ≤ n → n ≡ end_in n
-unfolding end_in
-end-all n h = rw (le-ltb n most_frames h)
 
 -- those that have a frame
 pub end_short : (frames n : ℕ) → n < most_frames → 0 ≡ end_of frames n
@@ -83,37 +66,7 @@ pub filled-all : (r : Rows) (ys : List Frame) → most_frames ≤ length ys → 
 unfolding filled
 filled-all r ys h = rw (le-leb most_frames (length ys) h)
 
--- ---- the two loops: all rows are cleared, then the frames are stored
+-- ---- the loop at its end
 
-module _ (r : Rows) (ys us : List Frame) (cleared : us ≡ stores ys (λ k. zero_frame) (end_in (length ys))) where
-  pub filled-end : (ws : List Frame) → ws ≡ stores us (frame_in r) (end_of r.frames (length ys)) → ws ≡ filled r ys
-  filled-end ws e = e ∙ by_length (le-or-lt most_frames (length ys))
-    where
-      n : ℕ
-      n = length ys
-
-      places : ℕ
-      places = within_places r.frames
-
-      long : length us ≡ n
-      long = ap length cleared ∙ length-stores ys (λ k. zero_frame) (end_in n)
-
-      zero_row : most_frames ≤ n → (k : ℕ) → k < n → get_or us k zero_frame ≡ zero_frame
-      zero_row enough k h =
-          ap (λ (l : List Frame). get_or l k zero_frame) cleared
-          ∙ stores_at ys (λ k. zero_frame) (end_in n) k zero_frame (rw (sym (end-all n enough)) h) (rw (sym (end-all n enough)) (le_refl n))
-
-      row-at : most_frames ≤ n → (k : ℕ) → k < n → get_or (stores us (frame_in r) places) k zero_frame ≡ frame_in r k
-      row-at enough k h = by_place (le-or-lt places k)
-        where
-          by_place : (places ≤ k) ⊎ (k < places) → get_or (stores us (frame_in r) places) k zero_frame ≡ frame_in r k
-          by_place (inl l) = stores_beyond us (frame_in r) places k zero_frame l ∙ zero_row enough k h ∙ sym (frame_behind r k l)
-          by_place (inr l) = stores_at us (frame_in r) places k zero_frame l (rw long (omega (arith, within-most r.frames, enough)))
-
-      by_length : (most_frames ≤ n) ⊎ (n < most_frames) → stores us (frame_in r) (end_of r.frames n) ≡ filled r ys
-      by_length (inl h) =
-          ap (stores us (frame_in r)) (sym (end-within r.frames n h))
-          ∙ sym (tab_list (frame_in r) (stores us (frame_in r) places) zero_frame n (sym (length-stores us (frame_in r) places ∙ long)) (λ k w. sym (row-at h k w)))
-          ∙ sym (filled-all r ys h)
-      by_length (inr h) =
-          ap (stores us (frame_in r)) (sym (end_short r.frames n h)) ∙ cleared ∙ ap (stores ys (λ k. zero_frame)) (sym (end_none n h)) ∙ sym (filled-few r ys h)
+pub filled-end : (r : Rows) (ys ws : List Frame) (k : ℕ) → most_frames ≤ length ys → ws ≡ stores ys (frame_in r) k → k ≡ length ys → ws ≡ filled r ys
+filled-end r ys ws k enough e q = e ∙ ap (stores ys (frame_in r)) q ∙ stores-all ys (frame_in r) ∙ sym (filled-all r ys enough)

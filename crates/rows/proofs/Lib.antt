@@ -1,4 +1,3 @@
-pub mod Placed
 pub mod Filled
 pub mod Scanned
 pub mod Laid

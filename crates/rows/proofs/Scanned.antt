@@ -7,7 +7,12 @@ use native.Mathlib.Nat.{zero-add}
 use native.Mathlib.Numerals.{add-one}
 use native.Mathlib.Omega.{arith}
 use lib.Dec.{ltb, lit≤}
-use lib.ListN.{length, get_or}
+use lib.ListN.{length, get_or, take, drop, replicate, length-replicate, length-append, length-drop, get_or-replicate}
+use lib.Seq.{ext_get_or}
+use Rattle.std.proofs.Common.{◌||◌, ◌++◌, ◌-◌}
+use Rattle.std.specs.List.{list_any}
+use Rattle.std.proofs.lemmas.List.{length-take-le, get_or-drop, get_or-append_right, get_or_append_left}
+use Rattle.std.proofs.lemmas.List.Folds.{list_any_more}
 use borrow.Author.Tests.{ltb-false}
 use Prim.Native.Nat.{ℕ, zero, suc, ◌+◌, ◌≤◌, ◌<◌, zero-le}
 use Rattle.rules.specs.Limits.{most_frames}
@@ -15,34 +20,27 @@ use Rattle.laws.specs.Lists.{tab}
 use Rattle.laws.specs.Loops.{stores}
 use Rattle.laws.proofs.Lists.{neither_left, neither_right, length-tab, get_or-tab}
 use Rattle.laws.proofs.Orders.{le-or-lt}
-use Rattle.laws.proofs.Loops.{stores_at, stores_beyond, stores-next, length-stores}
+use Rattle.laws.proofs.Loops.{stores_at, stores_beyond, length-stores}
 use Rattle.laws.proofs.Stores.{stores-idle}
 use Rattle.laws.proofs.Arrays.{tab_list}
 use Rattle.rows.specs.Rows.{Rows}
 use Rattle.rows.specs.Rows.{rows_laid}
 use Rattle.units.specs.declared.Frame.{Frame}
-use Rattle.rows.specs.declared.passes.Step.{Step}
 use Rattle.rows.specs.Frames.{zero_frame, frame_at, frame_in, end_of, filled}
 use Rattle.rows.specs.Passes.{found_in, passed_row, found_after, rows_after, looked_row, cleared_row}
 use Rattle.rows.proofs.Filled.{within_all, end_short, end-frames, frame_there, frame_behind, filled-few, filled-all}
 
--- ---- a turn, and the end
+or-false : (b : Bool) → (b || false) ≡ b
+or-false true = refl
+or-false false = refl
 
-module _ (g : Bool → Frame → Step) (b : Bool) (ys : List Frame) where
-  at_row : (k : ℕ) (ws : List Frame) → ws ≡ stores ys (passed_row g b ys) k → get_or ws k zero_frame ≡ get_or ys k zero_frame
-  at_row k ws e = ap (λ (l : List Frame). get_or l k zero_frame) e ∙ stores-next ys (passed_row g b ys) k zero_frame
-
-  pub as_found : (k : ℕ) (ws : List Frame) (u : Step) → ws ≡ stores ys (passed_row g b ys) k → u ≡ g (found_in g b ys k) (get_or ws k zero_frame) → u.found ≡ found_in g b ys (k + 1)
-  unfolding found_in
-  as_found k ws u e h = ap (λ (z : Step). z.found) (h ∙ ap (g (found_in g b ys k)) (at_row k ws e)) ∙ ap (found_in g b ys) (sym (add-one k))
-
-  pub as_passed : (k : ℕ) (ws : List Frame) (u : Step) → ws ≡ stores ys (passed_row g b ys) k → u ≡ g (found_in g b ys k) (get_or ws k zero_frame) → u.row ≡ passed_row g b ys k
-  unfolding passed_row
-  as_passed k ws u e h = ap (λ (z : Step). z.row) (h ∙ ap (g (found_in g b ys k)) (at_row k ws e))
-
-  pub carried-end : (n k : ℕ) (ws : List Frame) → ws ≡ stores ys (passed_row g b ys) k → k ≡ end_of n (length ys) → (found_in g b ys k ≡ found_after g n b ys) × (ws ≡ rows_after g n b ys)
-  unfolding found_after rows_after
-  carried-end n k ws e h = (ap (found_in g b ys) h, e ∙ ap (stores ys (passed_row g b ys)) h)
+or-last : (a b c : Bool) → (a || (b || c)) ≡ (c || (a || b))
+or-last true b true = refl
+or-last true b false = refl
+or-last false true true = refl
+or-last false true false = refl
+or-last false false true = refl
+or-last false false false = refl
 
 -- ---- the scan for rule 25
 
@@ -50,6 +48,27 @@ module _ (g : Bool → Frame → Step) (b : Bool) (ys : List Frame) where
 pub looked-rows : (n : ℕ) (b : Bool) (ys : List Frame) → rows_after looked_row n b ys ≡ ys
 unfolding rows_after passed_row looked_row
 looked-rows n b ys = sym (stores-idle ys (passed_row looked_row b ys) (end_of n (length ys)) zero_frame (λ k _. refl))
+
+-- whether the start of a row lies before its release
+abbrev pub early : Frame → Bool
+early row = ltb row.start.0 row.release.0
+
+-- what it finds is whether one of the rows is early
+looked-found : (b : Bool) (ys : List Frame) (n : ℕ) → n ≤ length ys → (b || list_any early (take n ys)) ≡ found_in looked_row b ys n
+unfolding found_in looked_row
+looked-found b ys zero h = or-false b
+looked-found b ys (suc n) h =
+    let last = list_any_more early ys n zero_frame h in
+    rw (← add-one n, last, ← looked-found b ys n (omega arith)) (or-last b (list_any early (take n ys)) (early (get_or ys n zero_frame)))
+
+module _ (n k : ℕ) {b : Bool} (ys : List Frame) (e : k ≡ end_of n (length ys)) (h : k ≤ length ys) where
+  pub looked-before : b ≡ true → b ≡ found_after looked_row n b ys
+  unfolding found_after
+  looked-before q = rw (q, ← e) (looked-found true ys k h)
+
+  pub looked-now : {r : Bool} → b ≡ false → r ≡ list_any early (take k ys) → r ≡ found_after looked_row n b ys
+  unfolding found_after
+  looked-now q w = rw (q, w, ← e) (looked-found false ys k h)
 
 -- where it finds nothing, no row that it has seen is early
 none_found : (ys : List Frame) (n : ℕ) → found_in looked_row false ys n ≡ false → (k : ℕ) → k < n → (get_or ys k zero_frame).release.0 ≤ (get_or ys k zero_frame).start.0
@@ -95,6 +114,39 @@ cleared-found b ys (suc n) = cleared-found b ys n
 cleared-row : (b : Bool) (ys : List Frame) (k : ℕ) → passed_row cleared_row b ys k ≡ cond b zero_frame (get_or ys k zero_frame)
 unfolding passed_row cleared_row
 cleared-row b ys k = rw (cleared-found b ys k)
+
+pub cleared_found : (n : ℕ) (b : Bool) (ys : List Frame) → b ≡ found_after cleared_row n b ys
+unfolding found_after
+cleared_found n b ys = sym (cleared-found b ys (end_of n (length ys)))
+
+-- zero rows up to a place are what clearing leaves
+zero_rows : (n k : ℕ) (ys : List Frame) → k ≡ end_of n (length ys) → k ≤ length ys
+    → replicate k zero_frame ++ drop k ys ≡ rows_after cleared_row n true ys
+unfolding rows_after
+zero_rows n k ys e h =
+    ext_get_or zero_frame (replicate k zero_frame ++ drop k ys) (stores ys (passed_row cleared_row true ys) (end_of n (length ys))) long at_each
+  where
+    long : length (replicate k zero_frame ++ drop k ys) ≡ length (stores ys (passed_row cleared_row true ys) (end_of n (length ys)))
+    long = rw (length-append, length-replicate, length-drop, length-stores) (omega arith)
+
+    at_each : (i : ℕ) → i < length (replicate k zero_frame ++ drop k ys)
+        → get_or (replicate k zero_frame ++ drop k ys) i zero_frame ≡ get_or (stores ys (passed_row cleared_row true ys) (end_of n (length ys))) i zero_frame
+    at_each i w = rw (sym e) (by_place (le-or-lt k i))
+      where
+        by_place : (k ≤ i) ⊎ (i < k) → get_or (replicate k zero_frame ++ drop k ys) i zero_frame ≡ get_or (stores ys (passed_row cleared_row true ys) k) i zero_frame
+        by_place (inl l) =
+            let q : k + (i - k) ≡ i = omega arith in
+            get_or-append_right (replicate k zero_frame) (drop k ys) k i zero_frame (length-replicate k zero_frame) l
+            ∙ get_or-drop k ys (i - k) zero_frame ∙ ap (λ (j : ℕ). get_or ys j zero_frame) q
+            ∙ sym (stores_beyond ys (passed_row cleared_row true ys) k i zero_frame l)
+        by_place (inr l) =
+            get_or_append_left (replicate k zero_frame) (drop k ys) zero_frame i (rw (length-replicate) l)
+            ∙ get_or-replicate k i zero_frame zero_frame l
+            ∙ sym (stores_at ys (passed_row cleared_row true ys) k i zero_frame l h ∙ cleared-row true ys i)
+
+pub cleared_rows : (n k : ℕ) (b : Bool) (ys us : List Frame) (z : Frame) → k ≡ end_of n (length ys) → k ≤ length ys → b ≡ true → z ≡ zero_frame
+    → us ≡ replicate (length (take k ys)) z → us ++ drop k ys ≡ rows_after cleared_row n b ys
+cleared_rows n k b ys us z e h c q f = rw (f, q, c, length-take-le k ys h) (zero_rows n k ys e h)
 
 -- where nothing is refused the rows stay
 pub cleared-not : (n : ℕ) (ys : List Frame) → rows_after cleared_row n false ys ≡ ys

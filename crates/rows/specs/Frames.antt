@@ -39,11 +39,7 @@ frame_at r k = frame_of (get_or r.tasks k 0) (get_or r.releases k 0) (get_or r.d
 unfoldable pub frame_in : Rows → ℕ → Frame
 frame_in r k = cond (ltb k (within_places r.frames)) (frame_at r k) zero_frame
 
--- how many of the lent rows are written
-unfoldable pub end_in : ℕ → ℕ
-end_in lent = cond (ltb lent most_frames) 0 lent
-
--- and how many of them have a frame
+-- how many of the lent rows have a frame: none where too few are lent
 unfoldable pub end_of : ℕ → ℕ → ℕ
 end_of frames lent = cond (ltb lent most_frames) 0 (within_places frames)
 

@@ -2,8 +2,12 @@
 use Rattle.std.specs.Prelude.{Bool, cond, ◌||◌, List, ltb, length, get_or, ℕ, zero, suc}
 use Rattle.laws.specs.Loops.{stores}
 use Rattle.units.specs.declared.Frame.{Frame}
-use Rattle.rows.specs.declared.passes.Step.{Step}
 use Rattle.rows.specs.Frames.{zero_frame, end_of}
+
+-- What a step leaves of a row: whether something was found so far, and the row.
+pub record Step : Type 0 where
+  pub found : Bool
+  pub row : Frame
 
 -- what a pass that carries a Bool over the rows of so many frames has found after n rows; row k after it, and all rows
 unfoldable pub found_in : (Bool → Frame → Step) → Bool → List Frame → ℕ → Bool

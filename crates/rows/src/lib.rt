@@ -16,12 +16,6 @@ fn frame(number: u32) -> FrameNo
     FrameNo(number as usize)
 }
 
-fn long(x: u32) -> u64
-    ensures { (result ≡ x) × (result < 4294967296) }
-{
-    x as u64
-}
-
 // Stores the starts by frame number, from the placed frames by start. A number that stands twice would keep its first start.
 pub fn starts_by_number<'a>(
     numbers: &'a [u32; Frame::MOST],
@@ -33,9 +27,7 @@ pub fn starts_by_number<'a>(
     requires by_len { length by.old ≡ most_frames }
     ensures { by.new ≡ scattered numbers.now starts.now count by.old }
 {
-    let mut j = count;
-    while 0 < j {
-        j -= 1;
+    for j in (0..count).rev() {
         let k = frame(numbers[j]).0;
         if k < Frame::MOST {
             by[k] = starts[j];
@@ -47,22 +39,14 @@ fn task_of(tasks: &[u8; Frame::MOST], number: FrameNo) -> TaskNo
     requires { length tasks.now ≡ most_frames }
     ensures { result.0 ≡ get_or tasks.now number.0 0 }
 {
-    let k = number.0;
-    if k < Frame::MOST {
-        return TaskNo(tasks[k]);
-    }
-    TaskNo(0)
+    TaskNo(tasks.get(number.0).copied().unwrap_or(0))
 }
 
 fn deadline_of(deadlines: &[u32; Frame::MOST], number: FrameNo) -> Ticks
     requires { length deadlines.now ≡ most_frames }
     ensures { result.0 ≡ get_or deadlines.now number.0 0 }
 {
-    let k = number.0;
-    if k < Frame::MOST {
-        return Ticks(deadlines[k]);
-    }
-    Ticks(0)
+    Ticks(deadlines.get(number.0).copied().unwrap_or(0))
 }
 
 // The stop of a frame of this task that starts here. A start within the cycle and a time within it add up without a carry.
@@ -70,15 +54,12 @@ fn stop_of(times: &[u32; TaskNo::MOST], task: TaskNo, start: Ticks) -> Ticks
     requires { length times.now ≡ most_tasks }
     ensures { result.0 ≡ (start.0 + get_or times.now task.0 0) % 4294967296 }
 {
-    let t = task.0 as usize;
-    if t < TaskNo::MOST {
-        let stop = long(start.0) + long(times[t]);
-        return Ticks((stop % 4294967296) as u32);
-    }
-    start
+    let time = times.get(usize::from(task.0)).copied().unwrap_or(0);
+    Ticks(start.0.wrapping_add(time))
 }
 
 // Stores what stands in the table's data rows besides the starts, by row; zeros behind them.
+#[tactic(auto, unfolding(crate::specs::Rows::task_at, crate::specs::Rows::stop_at, crate::specs::Rows::table_rows))]
 pub fn table_rows<'a>(
     tasks: &'a [u8; Frame::MOST],
     deadlines: &'a [u32; Frame::MOST],
@@ -95,13 +76,11 @@ pub fn table_rows<'a>(
     requires row_tasks_value { (row_tasks.old ≡ replicate most_frames 0) × (row_deadlines.old ≡ replicate most_frames 0) × (row_stops.old ≡ replicate most_frames 0) }
     ensures { rows_in row_tasks.new row_deadlines.new row_stops.new ≡ table_rows tasks.now deadlines.now times.now numbers.now starts.now count }
 {
-    let mut j = 0;
-    while j < count {
+    for j in 0..count {
         let f = frame(numbers[j]);
         let t = task_of(tasks, f);
         row_tasks[j] = t.0;
         row_deadlines[j] = deadline_of(deadlines, f).0;
         row_stops[j] = stop_of(times, t, Ticks(starts[j])).0;
-        j += 1;
     }
 }

@@ -1,8 +1,8 @@
-// The lent list of frame rows: a slice of frame structs. Each pass is thin: it hands every row to a step and stores what the step gives, and
-// every choice is a function of its own.
-ghost use Rattle.std.specs.Prelude.{◌≡◌, cond, replicate, ◌≤◌};
+// The lent list of frame rows, a slice of frame structs: filled, looked through for rule 25, and cleared.
+ghost use Rattle.std.specs.Prelude.{◌≡◌, ltb, replicate, ◌≤◌};
+ghost use Rattle.std.specs.List.{list_any};
 ghost use Rattle.rules.specs.Limits.{most_frames};
-ghost use Rattle.rows.specs.Frames.{frame_of, within_places, rows_with, frame_in, end_in, end_of, filled};
+ghost use Rattle.rows.specs.Frames.{frame_of, within_places, rows_with, frame_in, end_of, filled};
 ghost use Rattle.rows.specs.Passes.{looked_row, cleared_row, found_after, rows_after};
 
 use units::{Frame, TaskNo, TaskWord, Ticks};
@@ -24,7 +24,7 @@ fn framed(task: TaskNo, release: Ticks, deadline: Ticks, start: Ticks) -> Frame
     ensures { result ≡ frame_of task.0 release.0 deadline.0 start.0 }
 {
     Frame {
-        task: TaskWord(task.0 as u32),
+        task: TaskWord(u32::from(task.0)),
         release,
         deadline,
         start,
@@ -32,36 +32,29 @@ fn framed(task: TaskNo, release: Ticks, deadline: Ticks, start: Ticks) -> Frame
 }
 
 // The frames that have places.
+#[tactic(auto, unfolding(crate::specs::Frames::within_places))]
 fn within(k: usize) -> usize
-    ensures { (result ≡ within_places k) × (result ≤ most_frames) }
+    ensures value { result ≡ within_places k }
+    ensures room { result ≤ most_frames }
 {
-    if k < Frame::MOST {
-        return k;
-    }
-    Frame::MOST
-}
-
-// How many of the lent rows are written: none where too few are lent (refusal 19), else all.
-fn end_in(lent: usize) -> usize
-    ensures { (result ≡ end_in lent) × (result ≤ lent) }
-{
-    if lent < Frame::MOST {
-        return 0;
-    }
-    lent
+    k.min(Frame::MOST)
 }
 
 // How many of the lent rows have a frame: none where too few are lent.
+#[tactic(auto, unfolding(crate::specs::Frames::end_of))]
 fn end_of(frames: usize, lent: usize) -> usize
-    ensures { (result ≡ end_of frames lent) × (result ≤ lent) }
+    ensures value { result ≡ end_of frames lent }
+    ensures room { result ≤ lent }
 {
     if lent < Frame::MOST {
-        return 0;
+        0
+    } else {
+        within(frames)
     }
-    within(frames)
 }
 
 // Row k: the frames by number, each with its start, and zero rows behind them.
+#[tactic(auto, unfolding(crate::specs::Frames::frame_in, crate::specs::Frames::frame_at))]
 fn row_at<'a>(
     k: usize,
     frames: usize,
@@ -94,94 +87,36 @@ pub fn fill<'a>(
 )
     ensures { rows.new ≡ filled (rows_with frames tasks.now releases.now deadlines.now starts.now) rows.old }
 {
-    let end = end_in(rows.len());
-    let mut k = 0;
-    while k < end {
-        rows[k] = Frame::zero();
-        k += 1;
+    if rows.len() < Frame::MOST {
+        return;
     }
-    let last = end_of(frames, rows.len());
-    let mut j = 0;
-    while j < last {
-        rows[j] = row_at(j, frames, tasks, releases, deadlines, starts);
-        j += 1;
+    for (k, row) in rows.iter_mut().enumerate() {
+        *row = row_at(k, frames, tasks, releases, deadlines, starts);
     }
 }
 
-// What a step leaves of a row: whether something was found so far, and the row.
-#[derive(Clone, Copy)]
-struct Step {
-    found: bool,
-    row: Frame,
-}
-
-// Rule 25 on one row: whether it, or one before it, starts before its release.
-fn looked(found: bool, row: Frame) -> Step
-    ensures { result ≡ looked_row found row }
+fn one_early(rows: &[Frame]) -> bool
+    ensures { result ≡ list_any (λ row. ltb row.start.0 row.release.0) rows.now }
 {
-    if row.start.0 < row.release.0 {
-        return Step { found: true, row };
-    }
-    Step { found, row }
+    rows.iter().any(|row| row.start < row.release)
 }
 
 // Rule 25 on the rows of so many frames: whether one starts before its release, or `found` holds already.
-pub fn some_early(rows: &mut [Frame], frames: usize, found: bool) -> bool
-    ensures { (result ≡ found_after looked_row frames found rows.old) × (rows.new ≡ rows_after looked_row frames found rows.old) }
+pub fn some_early(rows: &[Frame], frames: usize, found: bool) -> bool
+    ensures { result ≡ found_after looked_row frames found rows.now }
 {
     let end = end_of(frames, rows.len());
-    let mut so_far = found;
-    let mut k = 0;
-    while k < end {
-        let step = looked(so_far, rows[k]);
-        rows[k] = step.row;
-        so_far = step.found;
-        k += 1;
-    }
-    so_far
-}
-
-// A number of a row that is cleared or not.
-fn unless(refused: bool, x: u32) -> u32
-    ensures { result ≡ cond refused 0 x }
-{
-    if refused {
-        return 0;
-    }
-    x
-}
-
-// Number by number: where a row as a whole is chosen it goes through memory, 10 ns for each.
-fn cleared(refused: bool, row: Frame) -> Step
-    ensures { result ≡ cleared_row refused row }
-{
-    let task = unless(refused, row.task.0);
-    let release = unless(refused, row.release.0);
-    let deadline = unless(refused, row.deadline.0);
-    let start = unless(refused, row.start.0);
-    Step {
-        found: refused,
-        row: Frame {
-            task: TaskWord(task),
-            release: Ticks(release),
-            deadline: Ticks(deadline),
-            start: Ticks(start),
-        },
-    }
+    found || one_early(&rows[..end])
 }
 
 // Zero rows for the frames where a check refuses; too few rows stay as they were.
 pub fn clear(rows: &mut [Frame], frames: usize, refused: bool) -> bool
-    ensures { (result ≡ found_after cleared_row frames refused rows.old) × (rows.new ≡ rows_after cleared_row frames refused rows.old) }
+    ensures found { result ≡ found_after cleared_row frames refused rows.old }
+    ensures rows_value { rows.new ≡ rows_after cleared_row frames refused rows.old }
 {
-    let end = end_of(frames, rows.len());
-    let mut so_far = refused;
-    let mut k = 0;
-    while k < end {
-        let step = cleared(so_far, rows[k]);
-        rows[k] = step.row;
-        so_far = step.found;
-        k += 1;
+    if refused {
+        let end = end_of(frames, rows.len());
+        rows[..end].fill(Frame::zero());
     }
-    so_far
+    refused
 }

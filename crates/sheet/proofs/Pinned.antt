@@ -22,8 +22,7 @@ use Rattle.rules.specs.Checker.{table_of, row_of, is_for_consumers}
 use Rattle.rules.proofs.Heads.{head-of, edition-of}
 use Rattle.rules.proofs.TableBytes.{ControlFits, DataFits, RowsFit, rows_records, rows-table-reads, rows-table-read}
 use Rattle.text.specs.Lines.{lines_of, uncommented, words, whole_number}
-use Rattle.text.specs.declared.lines.Whole.{Whole}
-use Rattle.text.specs.declared.lines.Whole.TheVariants as whole
+use Rattle.std.specs.Prelude as code
 use Rattle.sheet.specs.declared.Kind.{Kind}
 use Rattle.sheet.specs.declared.Kind.TheVariants.{Refused, Cycle, Control, Data, Other}
 use Rattle.sheet.specs.declared.Form.{Form}
@@ -56,9 +55,9 @@ use Rattle.sheet.specs.Back.{
 
 -- ---- the numbers of a line
 
-up-to-most : (most n : ℕ) (w : Whole) → up_to_most most w ≡ some n → n ≤ most
-up-to-most most n whole.None e = none-some e
-up-to-most most n (whole.Value m) e = go (leb m most) refl e
+up-to-most : (most n : ℕ) (w : code.Option ℕ) → up_to_most most w ≡ some n → n ≤ most
+up-to-most most n code.None e = none-some e
+up-to-most most n (code.Some m) e = go (leb m most) refl e
   where
     go : (t : Bool) → leb m most ≡ t → cond t (some m) none ≡ some n → n ≤ most
     go true q e = subst (λ (k : ℕ). k ≤ most) (some_injective e) (leb-true m most q)

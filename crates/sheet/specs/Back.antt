@@ -1,5 +1,6 @@
 -- docs/RULES.md, section 18: a sheet read back. Any text is read: to a table's rows, or to the first line that is none of a sheet's.
 use Rattle.std.specs.Prelude.{Bool, true, false, cond, ◌&&◌, List, [], ◌∷◌, ◌++◌, eqb, leb, ltb, length, drop, ℕ, suc}
+use Rattle.std.specs.Prelude as code
 use Rattle.std.proofs.Math.Option.{Option, none, some}
 use Rattle.rules.specs.Limits.{most_nodes, most_frames}
 use Rattle.rules.specs.Records.{head_kind}
@@ -7,8 +8,6 @@ use Rattle.rules.specs.Plan.{nth}
 use Rattle.rules.specs.Frames.{ControlRow}
 use Rattle.rules.specs.Table.{DataRow, table_of_rows}
 use Rattle.text.specs.Lines.{is_word, lines_of, starts_with, uncommented, whole_number, words}
-use Rattle.text.specs.declared.lines.Whole.{Whole}
-use Rattle.text.specs.declared.lines.Whole.TheVariants as whole
 use Rattle.sheet.specs.declared.Kind.{Kind}
 use Rattle.sheet.specs.declared.Kind.TheVariants.{Refused, Cycle, Control, Data, Other}
 use Rattle.sheet.specs.declared.Form.{Form}
@@ -54,9 +53,9 @@ forms_of Data =
 forms_of Other = []
 
 -- the number that a word says, if it has the form; a word that says none counts as 0, `consumers` as 1
-abbrev pub up_to_most : ℕ → Whole → Option ℕ
-up_to_most most whole.None = none
-up_to_most most (whole.Value n) = cond (leb n most) (some n) none
+abbrev pub up_to_most : ℕ → code.Option ℕ → Option ℕ
+up_to_most most code.None = none
+up_to_most most (code.Some n) = cond (leb n most) (some n) none
 
 unfoldable pub number_in : Form → List ℕ → Option ℕ
 number_in form.Dash w = cond (is_word dash w) (some 0) none

@@ -1,21 +1,15 @@
 -- Cells and lines put piece by piece.
-use mathlib.Core.Path.{◌≡◌, refl}
+use mathlib.Core.Path.{◌≡◌}
 use mathlib.Core.Bool.{Bool}
 use mathlib.Core.List.{List, [], ◌∷◌, ◌++◌, append_assoc}
 use native.Mathlib.Omega.{arith}
-use borrow.Author.Tests.{leb-true}
-use lib.Dec.{leb}
-use lib.ListN.{length, get_or}
+use lib.ListN.{length}
 use Prim.Native.Nat.{ℕ, suc, ◌+◌, ◌-◌, ◌≤◌, ◌<◌}
-use Rattle.laws.proofs.Table.{below}
 use Rattle.text.specs.Text.{ended, line_feed, marked, pad_left, pad_right, spaces, texts}
 use Rattle.text.proofs.Padded.{decimal-few}
 use Rattle.text.proofs.Putting.{Put, both_put}
 use Rattle.sheet.specs.declared.Cell.{Cell}
-use Rattle.sheet.specs.Sheet.{column, column_of, column_widths, comment_sign, cycle_comment, cycle_line, cycle_word, edition_text, row_line, sheet_line, word_at}
-
-pub widths-few : (k : ℕ) → k < 10 → get_or column_widths k 0 ≤ 12
-widths-few k h = leb-true (get_or column_widths k 0) 12 (below (λ j. leb (get_or column_widths j 0) 12) 10 refl k h)
+use Rattle.sheet.specs.Sheet.{column, column_of, comment_sign, cycle_comment, cycle_line, cycle_word, edition_text, row_line, sheet_line, word_at}
 
 module _ (b b₁ b₂ : List ℕ) (at k₁ k₂ : ℕ) where
   pub column-put : (width n : ℕ) (word : List ℕ) → n ≡ width - length word → Put b at (spaces (2 + n)) b₁ k₁ → Put b₁ k₁ word b₂ k₂

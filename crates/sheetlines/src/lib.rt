@@ -2,11 +2,11 @@
 // end is not stored.
 #![tactic(auto)]
 
-ghost use Rattle.std.specs.Prelude.{◌≡◌, ◌+◌, ◌-◌, ◌≤◌, ◌<◌, length, get_or};
+ghost use Rattle.std.specs.Prelude.{◌≡◌, ◌+◌, ◌-◌, ◌≤◌, ◌<◌, length};
 ghost use Rattle.std.proofs.lemmas.List.Edits.{sets};
 ghost use Rattle.text.specs.Text.{ended, pad_right, texts};
 ghost use Rattle.sheet.specs.Sheet as sheet;
-ghost use Rattle.sheet.specs.Sheet.{cell_text, column_of, column_widths, cycle_line, edition_text, head_line, row_line, word_at};
+ghost use Rattle.sheet.specs.Sheet.{cell_text, column_of, cycle_line, edition_text, head_line, row_line, word_at};
 
 use sheet::Cell;
 use text::{decimal_length, put_bytes, put_decimal, put_marked, put_spaces};
@@ -18,13 +18,14 @@ pub const COLUMNS: usize = 10;
 const KIND: usize = 7;
 
 // a minus b, as a cell.
+#[tactic(auto, unfolding(sheet::specs::Sheet::difference))]
 pub fn difference(a: u32, b: u32) -> Cell
     ensures { result ≡ sheet.difference a b }
 {
     if b <= a {
-        Cell::Count((a - b) as u64)
+        Cell::Count(u64::from(a - b))
     } else {
-        Cell::Below((b - a) as u64)
+        Cell::Below(u64::from(b - a))
     }
 }
 
@@ -49,27 +50,16 @@ fn put_cell(buf: &mut [u8], at: usize, cell: Cell) -> usize
     }
 }
 
-fn width(k: usize) -> usize
-    ensures { (result ≡ get_or column_widths k 0) × (result ≤ 12) }
-{
-    let widths: [usize; COLUMNS] = [4, 4, 7, 8, 10, 10, 4, 7, 12, 11];
-    if k < COLUMNS { widths[k] } else { 0 }
-}
-
-// How many spaces fill up a word of this length; one that is longer is not cut.
-fn filling(width: usize, length: usize) -> usize
-    ensures { (result ≡ width - length) × (result ≤ width) }
-{
-    if length < width { width - length } else { 0 }
-}
+// How wide the columns behind the kind are.
+const WIDTHS: [usize; COLUMNS] = [4, 4, 7, 8, 10, 10, 4, 7, 12, 11];
 
 // Two spaces, and the cell at the right end of its column.
-fn put_column(buf: &mut [u8], at: usize, k: usize, cell: Cell) -> usize
-    requires { at + 35 ≤ 18446744073709551615 }
-    ensures buf_after { (buf.new ≡ sets buf.old at (sheet.column (get_or column_widths k 0) (cell_text cell))) × (result ≡ at + length (sheet.column (get_or column_widths k 0) (cell_text cell))) }
+fn put_column(buf: &mut [u8], at: usize, width: usize, cell: Cell) -> usize
+    requires { (at + 35 ≤ 18446744073709551615) × (width ≤ 12) }
+    ensures buf_after { (buf.new ≡ sets buf.old at (sheet.column width (cell_text cell))) × (result ≡ at + length (sheet.column width (cell_text cell))) }
     ensures few { result ≤ at + 23 }
 {
-    let spaces = 2 + filling(width(k), cell_length(cell));
+    let spaces = 2 + width.saturating_sub(cell_length(cell));
     let cell_at = put_spaces(&mut *buf, at, spaces);
     put_cell(buf, cell_at, cell)
 }
@@ -80,11 +70,8 @@ fn put_columns(buf: &mut [u8], at: usize, cells: [Cell; COLUMNS]) -> usize
     ensures few { result ≤ at + 230 }
 {
     let mut next = at;
-    let mut k = 0;
-    while k < COLUMNS {
-        let cell = cells[k];
-        next = put_column(&mut *buf, next, k, cell);
-        k += 1;
+    for (k, width) in WIDTHS.iter().enumerate() {
+        next = put_column(&mut *buf, next, *width, cells[k]);
     }
     next
 }
@@ -96,7 +83,7 @@ fn put_kind(buf: &mut [u8], at: usize, kind: &[u8]) -> usize
     ensures few { result ≤ at + 7 }
 {
     let end = put_bytes(&mut *buf, at, kind);
-    put_spaces(buf, end, filling(KIND, kind.len()))
+    put_spaces(buf, end, KIND.saturating_sub(kind.len()))
 }
 
 // A row's line, with its record's number as a comment.
@@ -119,9 +106,10 @@ fn put_edition(buf: &mut [u8], at: usize, consumers: bool) -> usize
     ensures few { result ≤ at + 10 }
 {
     if consumers {
-        return put_bytes(buf, at, b" consumers");
+        put_bytes(buf, at, b" consumers")
+    } else {
+        at
     }
-    at
 }
 
 // The first line: the cycle, and the edition.
@@ -130,7 +118,7 @@ pub fn put_cycle(buf: &mut [u8], at: usize, consumers: bool, period: u32) -> usi
     ensures buf_after { (buf.new ≡ sets buf.old at (ended (cycle_line consumers period))) × (result ≡ at + length (ended (cycle_line consumers period))) }
     ensures few { result ≤ at + 70 }
 {
-    let edition_at = put_marked(&mut *buf, at, b"cycle ", period as u64);
+    let edition_at = put_marked(&mut *buf, at, b"cycle ", u64::from(period));
     let comment_at = put_edition(&mut *buf, edition_at, consumers);
     put_bytes(buf, comment_at, b"  # ticks of one microsecond\n")
 }

@@ -23,9 +23,9 @@ use Rattle.sheet.proofs.Pinned.{read_fits}
 use Rattle.sheet.specs.Back as back
 use Rattle.sheet.specs.Back.{SoFar, read_back, read_sheet, table, table_from, table_read, unreadable_line}
 use Rattle.sheetreader.specs.declared.Held.{Held}
-use Rattle.sheetreader.specs.declared.Reading.{Reading}
-use Rattle.sheetreader.specs.declared.Reading.TheVariants as reading
-use Rattle.sheetreader.specs.declared.Back.TheVariants as result
+use Rattle.std.specs.Prelude.{Result, Ok, Err}
+use Rattle.sheetreader.specs.declared.NoTable.{NoTable}
+use Rattle.sheetreader.specs.declared.NoTable.TheVariants.{Needs, Unreadable}
 use Rattle.sheetreader.specs.Memory.{Few, Laid, laid, back_for, bytes_in, deadline_of, lay_out, left_by, start_of, stop_of, task_of}
 use Rattle.table.specs.Memory.{control_node_of, control_start_of, control_stop_of}
 use Rattle.sheetreader.proofs.Gathering.{GatheredIn, few-laid}
@@ -66,7 +66,7 @@ module _ (m : Laid) {needed : ℕ} (e : needed ≡ table_length m.held.controls 
     too_long : leb (length (bytes_in m)) (length lent) ≡ false
     too_long = rw long (lt-leb needed (length lent) h)
 
-    pub short-result : result.Needs needed ≡ back_for (table (bytes_in m)) lent
+    pub short-result : Err (Needs needed) ≡ back_for (table (bytes_in m)) lent
     short-result = rw (too_long, long)
 
     pub short-left : lent ≡ left_by (table (bytes_in m)) lent
@@ -76,7 +76,7 @@ module _ (m : Laid) {needed : ℕ} (e : needed ≡ table_length m.held.controls 
     enough : leb (length (bytes_in m)) (length lent) ≡ true
     enough = rw long (le-leb needed (length lent) h)
 
-    pub room-result : result.Table needed ≡ back_for (table (bytes_in m)) lent
+    pub room-result : Ok needed ≡ back_for (table (bytes_in m)) lent
     room-result = rw (enough, long)
 
     pub room-left : {after : List ℕ} → after ≡ sets lent 0 (bytes_in m) → after ≡ left_by (table (bytes_in m)) lent
@@ -122,15 +122,15 @@ module _ (s : SoFar) where
   unfolding bytes_in lay_out
   bytes_read h = rw (control-again h.controls, rows-again h.rows) table-in
 
-module _ (m : Laid) (text : List ℕ) {r : Reading} (g : GatheredIn r m (read_sheet text)) where
-  module _ (e : r ≡ reading.Sheet m.held) where
+module _ (m : Laid) (text : List ℕ) {r : Result Held NoTable} (g : GatheredIn r m (read_sheet text)) where
+  module _ (e : r ≡ Ok m.held) where
     -- what is held is what was read
     by_sheet : (C : back.Back → Type 0) → ((s : SoFar) → m ≡ lay_out s → Few (lay_out s).held → C (back.sheet s)) → C (read_sheet text)
     by_sheet C told = go (read_sheet text) refl g
       where
         go : (b : back.Back) → read_sheet text ≡ b → GatheredIn r m b → C b
         go (back.sheet s) read q =
-            let p : r ≡ reading.Sheet (lay_out s).held = q.0 in
+            let p : r ≡ Ok (lay_out s).held = q.0 in
             let held : m.held ≡ (lay_out s).held = cc in
             told s
             (ap (λ (h : Held). laid h m.nodes m.control_starts m.control_stops m.tasks m.deadlines m.starts m.stops) held ∙ q.1)
@@ -144,13 +144,13 @@ module _ (m : Laid) (text : List ℕ) {r : Reading} (g : GatheredIn r m (read_sh
     unfolding read_back
     sheet_back = by_sheet (λ b. table (bytes_in m) ≡ table_from b) (λ s same few. ap table (rw same (bytes_read s few)))
 
-  pub unreadable_back : {n : ℕ} → r ≡ reading.Unreadable n → unreadable_line n ≡ read_back text
+  pub refused_back : {why : NoTable} → r ≡ Err why → (lent : List ℕ) → (Err why ≡ back_for (read_back text) lent) × (lent ≡ left_by (read_back text) lent)
   unfolding read_back
-  unreadable_back {n} e = go (read_sheet text) g
+  refused_back {why} e lent = go (read_sheet text) g
     where
-      go : (b : back.Back) → GatheredIn r m b → unreadable_line n ≡ table_from b
-      go (back.sheet s) q = let p : r ≡ reading.Sheet (lay_out s).held = q.0 in let z : ◌≡◌ {A = ℕ} 0 1 = cc in absurd (omega arith)
-      go (back.unreadable k) q = let same : n ≡ k = cc in ap unreadable_line same
+      go : (b : back.Back) → GatheredIn r m b → (Err why ≡ back_for (table_from b) lent) × (lent ≡ left_by (table_from b) lent)
+      go (back.sheet s) q = let p : r ≡ Ok (lay_out s).held = q.0 in let z : ◌≡◌ {A = ℕ} 0 1 = cc in absurd (omega arith)
+      go (back.unreadable k) q = let same : why ≡ Unreadable k = cc in (ap Err same, refl)
 
 -- ---- no table that is read is longer than the longest
 

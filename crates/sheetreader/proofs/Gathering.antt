@@ -17,13 +17,26 @@ use Rattle.sheet.specs.Back as back
 use Rattle.sheet.specs.Back.{SoFar, goes_on, nothing_yet, read_lines, read_sheet, with_line}
 use Rattle.sheetreader.specs.declared.Said.{Said}
 use Rattle.sheetreader.specs.declared.Held.{Held}
-use Rattle.sheetreader.specs.declared.Reading.{Reading}
-use Rattle.sheetreader.specs.declared.Reading.TheVariants as reading
-use Rattle.sheetreader.specs.Memory.{Few, Gathered, Laid, is_unreadable, laid, lay_out, line_said, with_said}
+use Rattle.std.specs.Prelude as code
+use Rattle.std.specs.Prelude.{None, Some, Result, Ok, Err}
+use Rattle.sheetreader.specs.declared.NoTable.{NoTable}
+use Rattle.sheetreader.specs.declared.NoTable.TheVariants.{Unreadable}
+use Rattle.sheetreader.specs.Memory.{Few, Gathered, Laid, laid, lay_out, line_said, with_said}
 use Rattle.sheetreader.proofs.Sayings.{laid_more, line-said, more, read_as, said_in}
 
+-- nothing is held where each part is its zero
+pub held_zero : (h : Held)
+    → (h.stage ≡ 0) × ((h.consumers ≡ false) × ((h.period.0 ≡ 0) × ((h.controls ≡ 0) × (h.rows ≡ 0))))
+    → h ≡ record { stage = 0; consumers = false; period = record { 0 = 0 }; controls = 0; rows = 0 }
+held_zero h e = go h.stage h.consumers h.period.0 h.controls h.rows e.0 e.1.0 e.1.1.0 e.1.1.1.0 e.1.1.1.1
+  where
+    go : (stage : ℕ) (consumers : Bool) (period controls rows : ℕ) → stage ≡ 0 → consumers ≡ false → period ≡ 0 → controls ≡ 0 → rows ≡ 0
+        → ◌≡◌ {A = Held} (record { stage = stage; consumers = consumers; period = record { 0 = period }; controls = controls; rows = rows })
+        (record { stage = 0; consumers = false; period = record { 0 = 0 }; controls = 0; rows = 0 })
+    go stage consumers period controls rows a b c d e = rw (a, b, c, d, e)
+
 -- what gathering comes to, in the arrays of a memory
-abbrev pub GatheredIn : Reading → Laid → back.Back → Type 0
+abbrev pub GatheredIn : Result Held NoTable → Laid → back.Back → Type 0
 GatheredIn r m b = Gathered r m.nodes m.control_starts m.control_stops m.tasks m.deadlines m.starts m.stops b
 
 -- What is held at a place behind some lines is what the definition has read so far, and from there it comes to what the whole text comes to.
@@ -62,7 +75,7 @@ line_less text w h e = let l = behind-later text w h e in omega arith
 
 module _ {text : List ℕ} {at line : ℕ} {m : Laid} (g : Gathering text at line m) where
   -- the line that stands here
-  module _ {end : ℕ} {said : Said} (w : at < length text) (ended : end ≡ line_end text at)
+  module _ {end : ℕ} {said : code.Option Said} (w : at < length text) (ended : end ≡ line_end text at)
       (told : said ≡ line_said m.held.stage m.held.controls m.held.rows (take (end - at) (drop at text))) where
     -- it is the definition's line, said of what the definition has read
     said_here : said ≡ said_in g.so_far (one_line (drop at text))
@@ -72,30 +85,30 @@ module _ {text : List ℕ} {at line : ℕ} {m : Laid} (g : Gathering text at lin
         ∙ ap (λ (h : Held). line_said h.stage h.controls h.rows (take (end - at) (drop at text))) (ap (λ (m : Laid). m.held) g.laid_out)
         ∙ ap (said_in g.so_far) (rw ended (line_part text at))
 
-    line_read : (b : Bool) → is_unreadable said ≡ b → with_line g.so_far (one_line (drop at text)) ≡ read_as b (more said g.so_far)
-    line_read b e = line-said g.so_far (one_line (drop at text)) ∙ rw (← said_here, e)
+    line_read : (x : code.Option Said) → said ≡ x → with_line g.so_far (one_line (drop at text)) ≡ read_as x g.so_far
+    line_read x e = line-said g.so_far (one_line (drop at text)) ∙ rw (← said_here, e)
 
-    onward : (b : Bool) → is_unreadable said ≡ b
-        → goes_on (suc line) (read_as b (more said g.so_far)) (read_lines (suc (suc line)) (lines_of (drop (behind_end text (line_end text at)) text)))
+    onward : (x : code.Option Said) → said ≡ x
+        → goes_on (suc line) (read_as x g.so_far) (read_lines (suc (suc line)) (lines_of (drop (behind_end text (line_end text at)) text)))
         ≡ read_sheet text
     unfolding read_lines
-    onward b e =
+    onward x e =
         let whole = g.run in
-        rw (lines-here text at w, line_read b e) at whole
+        rw (lines-here text at w, line_read x e) at whole
 
-    pub gathering_unreadable : {t : Bool} → t ≡ is_unreadable said → t ≡ true → GatheredIn (reading.Unreadable (line + 1)) m (read_sheet text)
-    gathering_unreadable tested t = rw (← onward true (sym tested ∙ t), add-one line)
+    pub gathering_unreadable : said ≡ None → GatheredIn (Err (Unreadable (line + 1))) m (read_sheet text)
+    gathering_unreadable e = rw (← onward None e, add-one line)
 
-    pub gathering_turn : {t : Bool} {next : ℕ} {m' : Laid} → t ≡ is_unreadable said → t ≡ false → (at ≤ length text → end ≤ length text) × (at ≤ end)
-        → next ≡ behind_end text end → m' ≡ with_said said m → Gathering text next (line + 1) m'
-    gathering_turn {t} {next} {m'} tested t-is inside q r =
+    pub gathering_turn : {x : Said} {next : ℕ} {m' : Laid} → said ≡ Some x → (at ≤ length text → end ≤ length text) × (at ≤ end)
+        → next ≡ behind_end text end → m' ≡ with_said x m → Gathering text next (line + 1) m'
+    gathering_turn {x} {next} {m'} e inside q r =
         record {
-          so_far = more said g.so_far;
-          laid_out = r ∙ ap (with_said said) g.laid_out ∙ laid_more said g.so_far;
-          fits = line-fits g.so_far (one_line (drop at text)) g.fits (line_read false (sym tested ∙ t-is));
+          so_far = more x g.so_far;
+          laid_out = r ∙ ap (with_said x) g.laid_out ∙ laid_more x g.so_far;
+          fits = line-fits g.so_far (one_line (drop at text)) g.fits (line_read (Some x) e);
           counted = let l : at < next = behind-later text w inside.1 q in omega (arith, g.counted);
           within = rw q (inside_too (ltb end (length text)) refl);
-          run = rw (add-one line, q, ended) (onward false (sym tested ∙ t-is));
+          run = rw (add-one line, q, ended) (onward (Some x) e);
         }
       where
         inside_too : (b : Bool) → ltb end (length text) ≡ b → cond b (suc end) (length text) ≤ length text
@@ -114,17 +127,17 @@ module _ {text : List ℕ} {at line : ℕ} {m : Laid} (g : Gathering text at lin
         ap (λ (m : Laid). cond (eqb m.held.stage 2) (back.sheet g.so_far) (back.unreadable (suc line))) g.laid_out
         ∙ (rw (drop_all at text w) at whole)
 
-    pub gathering_sheet : m.held.stage ≡ 2 → GatheredIn (reading.Sheet m.held) m (read_sheet text)
+    pub gathering_sheet : m.held.stage ≡ 2 → GatheredIn (Ok m.held) m (read_sheet text)
     gathering_sheet e =
         let test : eqb m.held.stage 2 ≡ true = eq-eqb m.held.stage 2 e in
         let whole : back.sheet g.so_far ≡ read_sheet text = rw test at at-end in
         let held : m.held ≡ (lay_out g.so_far).held = ap (λ (m : Laid). m.held) g.laid_out in
         rw (← whole) (
-          ap reading.Sheet held,
+          ap Ok held,
           ap (λ (h : Held). laid h m.nodes m.control_starts m.control_stops m.tasks m.deadlines m.starts m.stops) (sym held) ∙ g.laid_out,
         )
 
-    pub gathering_short : (m.held.stage ≡ 2 → ⊥) → GatheredIn (reading.Unreadable (line + 1)) m (read_sheet text)
+    pub gathering_short : (m.held.stage ≡ 2 → ⊥) → GatheredIn (Err (Unreadable (line + 1))) m (read_sheet text)
     gathering_short f =
         let test : eqb m.held.stage 2 ≡ false = ne_eqb m.held.stage 2 f in
         let whole : back.unreadable (suc line) ≡ read_sheet text = rw test at at-end in

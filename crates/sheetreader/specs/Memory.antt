@@ -1,5 +1,7 @@
 -- What a line and a text come to, in the code's values.
 use Rattle.std.specs.Prelude.{◌≡◌, Bool, true, false, cond, List, [], ◌∷◌, map, eqb, leb, length, take, drop, replicate, ℕ, ◌+◌, ◌-◌, ◌≤◌}
+use Rattle.std.specs.Prelude as code
+use Rattle.std.specs.Prelude.{None, Some, Result, Ok, Err}
 use Rattle.std.proofs.Math.Option.{Option, none, some}
 use Rattle.std.proofs.lemmas.List.Edits.{sets}
 use Rattle.laws.specs.Lists.{tab}
@@ -14,60 +16,48 @@ use Rattle.units.specs.declared.NodeNo.{NodeNo}
 use Rattle.units.specs.declared.TaskNo.{TaskNo}
 use Rattle.units.specs.declared.Ticks.{Ticks}
 use Rattle.text.specs.Lines.{next_word, uncommented, words}
-use Rattle.text.specs.declared.lines.Whole.{Whole}
-use Rattle.text.specs.declared.lines.Whole.TheVariants as whole
 use Rattle.text.specs.declared.lines.Word.{Word}
-use Rattle.text.specs.declared.lines.Word.TheVariants as word
 use Rattle.sheet.specs.declared.Kind.{Kind}
 use Rattle.sheet.specs.declared.Kind.TheVariants as kind
 use Rattle.sheet.specs.declared.Form.{Form}
-use Rattle.sheet.specs.declared.Form.TheVariants as form
 use Rattle.sheet.specs.Back as back
 use Rattle.sheet.specs.Back.{SoFar, TableBack, forms_of, kind_of, may_stand, most8, most32, number_in, number_missing, numbers_in, table, unreadable_line}
 use Rattle.sheetreader.specs.declared.Taken.{Taken}
-use Rattle.sheetreader.specs.declared.Taken.TheVariants.{Number, Wrong}
-use Rattle.sheetreader.specs.declared.Numbers.{Numbers}
 use Rattle.sheetreader.specs.declared.Said.{Said}
-use Rattle.sheetreader.specs.declared.Said.TheVariants.{Unreadable, Blank, Refusal, Cycle, Control, Data}
+use Rattle.sheetreader.specs.declared.Said.TheVariants.{Blank, Refusal, Cycle, Control, Data}
 use Rattle.sheetreader.specs.declared.Held.{Held}
-use Rattle.sheetreader.specs.declared.Reading.{Reading}
-use Rattle.sheetreader.specs.declared.Reading.TheVariants as reading
-use Rattle.sheetreader.specs.declared.Back.{Back}
-use Rattle.sheetreader.specs.declared.Back.TheVariants as result
+use Rattle.sheetreader.specs.declared.NoTable.{NoTable}
+use Rattle.sheetreader.specs.declared.NoTable.TheVariants.{Needs, Unreadable}
 
 -- ---- the words of a line
 
--- a number that may be there
-abbrev pub as_option : Whole → Option ℕ
-as_option whole.None = none
-as_option (whole.Value n) = some n
-
--- the forms of a kind, filled up to ten
-abbrev pub forms_laid : Kind → List Form
-forms_laid kind = pad_to 10 form.End (forms_of kind)
+-- a number that may be there, as the definitions have it
+abbrev pub as_option : code.Option ℕ → Option ℕ
+as_option None = none
+as_option (Some n) = some n
 
 -- the number that a word says, and the place behind it; of a word that is missing the place stays
-abbrev pub taken_with : Option ℕ → ℕ → Taken
-taken_with none next = Wrong
-taken_with (some n) next = Number n next
+abbrev pub taken_with : Option ℕ → ℕ → code.Option Taken
+taken_with none next = None
+taken_with (some n) next = Some (record { value = n; next = next })
 
-abbrev pub taken_from : List ℕ → ℕ → Form → Word → Taken
-taken_from s at form word.None = taken_with (number_missing form) at
-taken_from s at form (word.Stands from to) = taken_with (number_in form (take (to - from) (drop from s))) to
+abbrev pub taken_from : List ℕ → ℕ → Form → code.Option Word → code.Option Taken
+taken_from s at form None = taken_with (number_missing form) at
+taken_from s at form (Some w) = taken_with (number_in form (take (w.to - w.from) (drop w.from s))) w.to
 
 -- what the first word from a place on says, if it has the form
-unfoldable pub taken_at : List ℕ → ℕ → Form → Taken
+unfoldable pub taken_at : List ℕ → ℕ → Form → code.Option Taken
 taken_at s at form = taken_from s at form (next_word s at)
 
 -- numbers filled up with zeros; none where the words have not their forms
-abbrev pub numbers_laid : Option (List ℕ) → Numbers
-numbers_laid none = record { fine = false; values = replicate 10 0 }
-numbers_laid (some ns) = record { fine = true; values = pad_to 10 0 ns }
+abbrev pub numbers_laid : Option (List ℕ) → code.Option (List ℕ)
+numbers_laid none = None
+numbers_laid (some ns) = Some (pad_to 10 0 ns)
 
 -- the numbers, where no word is left
-abbrev pub ended_with : List (List ℕ) → List ℕ → Numbers
-ended_with [] values = record { fine = true; values = values }
-ended_with (w ∷ ws) values = numbers_laid none
+abbrev pub ended_with : List (List ℕ) → List ℕ → code.Option (List ℕ)
+ended_with [] values = Some values
+ended_with (w ∷ ws) values = None
 
 -- ---- a line
 
@@ -79,32 +69,24 @@ Narrow kind.Control ns = (nth ns 0 ≤ most8) × ((nth ns 4 ≤ most32) × (nth 
 Narrow kind.Data ns = (nth ns 1 ≤ most8) × ((nth ns 3 ≤ most32) × ((nth ns 4 ≤ most32) × (nth ns 5 ≤ most32)))
 Narrow kind.Other ns = Unit
 
--- what a line of a kind says by its numbers
-abbrev pub said_of : Kind → Option (List ℕ) → Said
-said_of k none = Unreadable
-said_of kind.Refused (some ns) = Refusal
-said_of kind.Cycle (some ns) = Cycle (eqb (nth ns 1) 1) (record { 0 = nth ns 0 })
-said_of kind.Control (some ns) = Control (record { 0 = nth ns 0 }) (record { 0 = nth ns 4 }) (record { 0 = nth ns 5 })
+-- what a line of a kind says by its numbers, if it can be read
+abbrev pub said_of : Kind → Option (List ℕ) → code.Option Said
+said_of k none = None
+said_of kind.Refused (some ns) = Some Refusal
+said_of kind.Cycle (some ns) = Some (Cycle (eqb (nth ns 1) 1) (record { 0 = nth ns 0 }))
+said_of kind.Control (some ns) = Some (Control (record { 0 = nth ns 0 }) (record { 0 = nth ns 4 }) (record { 0 = nth ns 5 }))
 said_of kind.Data (some ns) =
-    Data (record { 0 = nth ns 1 }) (record { 0 = nth ns 3 }) (record { 0 = nth ns 4 }) (record { 0 = nth ns 5 })
-said_of kind.Other (some ns) = Unreadable
+    Some (Data (record { 0 = nth ns 1 }) (record { 0 = nth ns 3 }) (record { 0 = nth ns 4 }) (record { 0 = nth ns 5 }))
+said_of kind.Other (some ns) = None
 
-abbrev pub words_said : ℕ → ℕ → ℕ → List (List ℕ) → Said
-words_said stage controls rows [] = Blank
+abbrev pub words_said : ℕ → ℕ → ℕ → List (List ℕ) → code.Option Said
+words_said stage controls rows [] = Some Blank
 words_said stage controls rows (w ∷ ws) =
-    cond (may_stand (kind_of w) stage controls rows) (said_of (kind_of w) (numbers_in (forms_of (kind_of w)) ws)) Unreadable
+    cond (may_stand (kind_of w) stage controls rows) (said_of (kind_of w) (numbers_in (forms_of (kind_of w)) ws)) None
 
 -- what a line says behind so many rows
-unfoldable pub line_said : ℕ → ℕ → ℕ → List ℕ → Said
+unfoldable pub line_said : ℕ → ℕ → ℕ → List ℕ → code.Option Said
 line_said stage controls rows line = words_said stage controls rows (words (uncommented line))
-
-abbrev pub is_unreadable : Said → Bool
-is_unreadable Unreadable = true
-is_unreadable Blank = false
-is_unreadable Refusal = false
-is_unreadable (Cycle consumers period) = false
-is_unreadable (Control node start stop) = false
-is_unreadable (Data task deadline start stop) = false
 
 -- ---- the whole text
 
@@ -200,7 +182,6 @@ with_data m task deadline start stop =
     (placed most_frames m.stops m.held.rows stop.0)
 
 abbrev pub with_said : Said → Laid → Laid
-with_said Unreadable m = m
 with_said Blank m = m
 with_said Refusal m = with_held m (with_stage m.held 1 m.held.consumers m.held.period)
 with_said (Cycle consumers period) m = with_held m (with_stage m.held 2 consumers period)
@@ -208,10 +189,10 @@ with_said (Control node start stop) m = with_control m node start stop
 with_said (Data task deadline start stop) m = with_data m task deadline start stop
 
 -- What gathering a text comes to: what was read is laid out; where a line cannot be read, only its number counts.
-abbrev pub Gathered : Reading → List ℕ → List ℕ → List ℕ → List ℕ → List ℕ → List ℕ → List ℕ → back.Back → Type 0
+abbrev pub Gathered : Result Held NoTable → List ℕ → List ℕ → List ℕ → List ℕ → List ℕ → List ℕ → List ℕ → back.Back → Type 0
 Gathered r nodes control_starts control_stops tasks deadlines starts stops (back.sheet s) =
-    (r ≡ reading.Sheet (lay_out s).held) × (laid (lay_out s).held nodes control_starts control_stops tasks deadlines starts stops ≡ lay_out s)
-Gathered r nodes control_starts control_stops tasks deadlines starts stops (back.unreadable n) = r ≡ reading.Unreadable n
+    (r ≡ Ok (lay_out s).held) × (laid (lay_out s).held nodes control_starts control_stops tasks deadlines starts stops ≡ lay_out s)
+Gathered r nodes control_starts control_stops tasks deadlines starts stops (back.unreadable n) = r ≡ Err (Unreadable n)
 
 -- the bytes of the table that is held
 unfoldable pub bytes_in : Laid → List ℕ
@@ -220,9 +201,9 @@ bytes_in m =
     (tab (data_in m.tasks m.deadlines m.starts m.stops) 0 m.held.rows) m.held.controls m.held.rows
 
 -- What reading a text back gives, and what it leaves in the bytes that are lent: the table stands there only if all of it does.
-abbrev pub back_for : TableBack → List ℕ → Back
-back_for (table bytes) lent = cond (leb (length bytes) (length lent)) (result.Table (length bytes)) (result.Needs (length bytes))
-back_for (unreadable_line n) lent = result.Unreadable n
+abbrev pub back_for : TableBack → List ℕ → Result ℕ NoTable
+back_for (table bytes) lent = cond (leb (length bytes) (length lent)) (Ok (length bytes)) (Err (Needs (length bytes)))
+back_for (unreadable_line n) lent = Err (Unreadable n)
 
 abbrev pub left_by : TableBack → List ℕ → List ℕ
 left_by (table bytes) lent = cond (leb (length bytes) (length lent)) (sets lent 0 bytes) lent

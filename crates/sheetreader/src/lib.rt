@@ -9,15 +9,12 @@ ghost use Rattle.text.specs.Lines.{is_word, starts_with, whole_number, words};
 ghost use Rattle.sheet.specs.Sheet.{dash};
 ghost use Rattle.sheet.specs.Back as back;
 ghost use Rattle.sheet.specs.Back.{forms_of, kind_of, may_stand, number_in, number_missing, numbers_in, read_back, read_sheet, up_to_most};
-ghost use Rattle.sheetreader.specs.Memory.{Few, Gathered, Narrow, as_option, back_for, bytes_in, ended_with, forms_laid, is_unreadable, laid, left_by, line_said, numbers_laid, said_of, taken_at, taken_with, with_said, words_said};
+ghost use Rattle.sheetreader.specs.Memory.{Few, Gathered, Narrow, as_option, back_for, bytes_in, ended_with, laid, left_by, line_said, numbers_laid, said_of, taken_at, taken_with, with_said, words_said};
 
-use figures::both;
 use records::kinds::head_kind;
 use sheet::{Form, Kind};
 use table::write::{table_length, write_table};
-use text::lines::{
-    End, Whole, Word, behind, behind_end, comment_start, is_word, line_end, next_word, whole_number,
-};
+use text::lines::{behind, behind_end, comment_start, is_word, line_end, next_word, whole_number};
 use units::{Frame, NodeNo, TaskNo, Ticks};
 
 // The most words that a line may have behind its first.
@@ -38,15 +35,19 @@ const START: usize = 4;
 
 const STOP: usize = 5;
 
-const MOST_8: u64 = 255;
+// The forms of the numbers that are taken: of a node, of a task and of a time.
+const NODE_NUMBER: Form = Form::Most(255);
 
-const MOST_32: u64 = 4294967295;
+const TASK_NUMBER: Form = Form::Most(255);
 
-const MOST_64: u64 = 18446744073709551615;
+const TIME: Form = Form::Most(4294967295);
+
+// A number that only tells.
+const TOLD: Form = Form::Most(u64::MAX);
 
 // What was read so far, but for the numbers of the rows, which stand in arrays: how far the sheet has come (0: nothing; 1: a refusal; 2: the
 // cycle), the edition, the cycle, and how many rows there are.
-#[derive(Clone, Copy)]
+#[derive(Clone, Copy, Default)]
 struct Held {
     stage: u8,
     consumers: bool,
@@ -57,6 +58,7 @@ struct Held {
 
 // ---- words
 
+#[tactic(auto, unfolding(sheet::specs::Back::kind_of))]
 fn kind_of(word: &[u8]) -> Kind
     ensures { result ≡ kind_of word.now }
 {
@@ -75,199 +77,152 @@ fn kind_of(word: &[u8]) -> Kind
     Kind::Other
 }
 
-// The forms of the words behind the first, filled up with `End`.
-fn forms_of(kind: Kind) -> [Form; WORDS]
-    ensures { result ≡ forms_laid kind }
+// The forms of the words behind the first.
+fn forms_of(kind: Kind) -> &'static [Form]
+    ensures { result.now ≡ forms_of kind }
 {
-    let node = Form::Most(MOST_8);
-    let task = Form::Most(MOST_8);
-    let time = Form::Most(MOST_32);
-    // A number that only tells.
-    let told = Form::Most(MOST_64);
-    let sign = Form::Signed;
-    let dash = Form::Dash;
-    let word = Form::At;
-    let edition = Form::Consumers;
-    let none = Form::End;
     match kind {
-        Kind::Refused => [told, word, told, none, none, none, none, none, none, none],
-        Kind::Cycle => [
-            time, edition, none, none, none, none, none, none, none, none,
+        Kind::Refused => &[TOLD, Form::At, TOLD],
+        Kind::Cycle => &[TIME, Form::Consumers],
+        Kind::Control => &[
+            NODE_NUMBER,
+            Form::Dash,
+            Form::Dash,
+            Form::Dash,
+            TIME,
+            TIME,
+            TOLD,
+            TOLD,
+            Form::Dash,
+            Form::Dash,
         ],
-        Kind::Control => [node, dash, dash, dash, time, time, told, told, dash, dash],
-        Kind::Data => [told, task, told, time, time, time, told, told, sign, sign],
-        Kind::Other => [none; WORDS],
+        Kind::Data => &[
+            TOLD,
+            TASK_NUMBER,
+            TOLD,
+            TIME,
+            TIME,
+            TIME,
+            TOLD,
+            TOLD,
+            Form::Signed,
+            Form::Signed,
+        ],
+        Kind::Other => &[],
     }
 }
 
-// How many words a line of a kind has behind its first, at most.
-fn form_count(kind: Kind) -> usize
-    ensures { (result ≡ length (forms_of kind)) × (result ≤ 10) }
-{
-    match kind {
-        Kind::Refused => 3,
-        Kind::Cycle => 2,
-        Kind::Control => 10,
-        Kind::Data => 10,
-        Kind::Other => 0,
-    }
-}
-
-// What a word counts as, if it is the one that is wanted.
-fn literal(word: &[u8], wanted: &[u8], counts: u64) -> Whole
+fn literal(word: &[u8], wanted: &[u8], counts: u64) -> Option<u64>
     ensures { as_option result ≡ cond (is_word wanted.now word.now) (some counts) none }
 {
-    if is_word(word, wanted) {
-        Whole::Value(counts)
-    } else {
-        Whole::None
-    }
+    is_word(word, wanted).then_some(counts)
 }
 
-fn up_to(most: u64, number: Whole) -> Whole
+fn up_to(most: u64, number: Option<u64>) -> Option<u64>
     ensures { as_option result ≡ up_to_most most number }
 {
-    match number {
-        Whole::None => Whole::None,
-        Whole::Value(n) => {
-            if n <= most {
-                Whole::Value(n)
-            } else {
-                Whole::None
-            }
-        }
-    }
+    number.filter(|n| *n <= most)
 }
 
 // A number with or without `-` in front.
-fn unsigned(word: &[u8]) -> Whole
+fn unsigned(word: &[u8]) -> Option<u64>
     ensures { result ≡ whole_number (cond (starts_with dash word.now) (drop 1 word.now) word.now) }
 {
     match behind(word, 0, b"-") {
-        End::Wrong => whole_number(word),
-        End::At(_) => whole_number(&word[1..]),
+        Some(_) => whole_number(&word[1..]),
+        None => whole_number(word),
     }
 }
 
 // The number that a word says, if it has the form; where the form says none, 0, and 1 for the word of the edition.
-fn number_in(form: Form, word: &[u8]) -> Whole
+#[tactic(auto, unfolding(sheet::specs::Back::number_in))]
+fn number_in(form: Form, word: &[u8]) -> Option<u64>
     ensures { as_option result ≡ number_in form word.now }
 {
     match form {
         Form::Dash => literal(word, b"-", 0),
         Form::At => literal(word, b"at", 0),
         Form::Most(most) => up_to(most, whole_number(word)),
-        Form::Signed => up_to(MOST_64, unsigned(word)),
+        Form::Signed => up_to(u64::MAX, unsigned(word)),
         Form::Consumers => literal(word, b"consumers", 1),
-        Form::End => Whole::None,
+        Form::End => None,
     }
 }
 
 // ---- lines
 
-// What the word from a place on says: its number and the place behind it, if it has the form.
+// A number that a word said, and the place behind the word.
 #[derive(Clone, Copy)]
-enum Taken {
-    Number { value: u64, next: usize },
-    Wrong,
+struct Taken {
+    value: u64,
+    next: usize,
 }
 
 // Where no word is left: only that of the edition may be missing.
-fn missing(form: Form, at: usize) -> Taken
+fn missing(form: Form, at: usize) -> Option<Taken>
     ensures { result ≡ taken_with (number_missing form) at }
 {
     match form {
-        Form::Dash => Taken::Wrong,
-        Form::At => Taken::Wrong,
-        Form::Most(_) => Taken::Wrong,
-        Form::Signed => Taken::Wrong,
-        Form::Consumers => Taken::Number { value: 0, next: at },
-        Form::End => Taken::Wrong,
+        Form::Consumers => Some(Taken { value: 0, next: at }),
+        Form::Dash | Form::At | Form::Most(_) | Form::Signed | Form::End => None,
     }
 }
 
-fn number_at(s: &[u8], at: usize, form: Form) -> Taken
+// What the word from a place on says, if it has the form.
+fn number_at(s: &[u8], at: usize, form: Form) -> Option<Taken>
     ensures { result ≡ taken_at s.now at form }
 {
-    match next_word(s, at) {
-        Word::None => missing(form, at),
-        Word::Stands { from, to } => match number_in(form, &s[from..to]) {
-            Whole::None => Taken::Wrong,
-            Whole::Value(value) => Taken::Number { value, next: to },
-        },
-    }
-}
-
-// The numbers of a line's words behind the first, zeros behind them; none where the words have not their forms.
-#[derive(Clone, Copy)]
-struct Numbers {
-    fine: bool,
-    values: [u64; WORDS],
-}
-
-fn no_numbers() -> Numbers
-    ensures { result ≡ numbers_laid none }
-{
-    Numbers {
-        fine: false,
-        values: [0; WORDS],
-    }
+    let Some(word) = next_word(s, at) else {
+        return missing(form, at);
+    };
+    let value = number_in(form, &s[word.from..word.to])?;
+    Some(Taken {
+        value,
+        next: word.to,
+    })
 }
 
 // The numbers, where no word stands behind them.
-fn ended(s: &[u8], at: usize, values: [u64; WORDS]) -> Numbers
+fn ended(s: &[u8], at: usize, values: [u64; WORDS]) -> Option<[u64; WORDS]>
     ensures { result ≡ ended_with (words (drop at s.now)) values }
 {
     match next_word(s, at) {
-        Word::None => Numbers { fine: true, values },
-        Word::Stands { from: _, to: _ } => no_numbers(),
+        None => Some(values),
+        Some(_) => None,
     }
 }
 
-fn numbers_from(s: &[u8], at: usize, kind: Kind) -> Numbers
+// The numbers of a line's words behind the first, zeros behind them, if the words have their forms.
+fn numbers_from(s: &[u8], at: usize, kind: Kind) -> Option<[u64; WORDS]>
     ensures { result ≡ numbers_laid (numbers_in (forms_of kind) (words (drop at s.now))) }
 {
     let forms = forms_of(kind);
-    let count = form_count(kind);
     let mut values: [u64; WORDS] = [0; WORDS];
     let mut next = at;
-    let mut k = 0;
-    while k < count {
-        let form = forms[k];
-        match number_at(s, next, form) {
-            Taken::Wrong => return no_numbers(),
-            Taken::Number {
-                value,
-                next: behind,
-            } => {
-                values[k] = value;
-                next = behind;
-                k += 1;
-            }
-        }
+    for (k, form) in forms.iter().enumerate() {
+        let taken = number_at(s, next, *form)?;
+        values[k] = taken.value;
+        next = taken.next;
     }
     ended(s, next, values)
 }
 
+#[tactic(auto, unfolding(sheet::specs::Back::may_stand))]
 fn may_stand(kind: Kind, held: Held) -> bool
     ensures { result ≡ may_stand kind held.stage held.controls held.rows }
 {
     match kind {
         Kind::Refused => held.stage == 0,
         Kind::Cycle => held.stage < 2,
-        Kind::Control => both(
-            held.stage == 2,
-            both(held.rows == 0, held.controls < NodeNo::MOST),
-        ),
-        Kind::Data => both(held.stage == 2, held.rows < Frame::MOST),
+        Kind::Control => held.stage == 2 && (held.rows == 0 && held.controls < NodeNo::MOST),
+        Kind::Data => held.stage == 2 && held.rows < Frame::MOST,
         Kind::Other => false,
     }
 }
 
-// What a line says, where it may stand.
+// What a line says that can be read, where it may stand.
 #[derive(Clone, Copy)]
 enum Said {
-    Unreadable,
     Blank,
     Refusal,
     Cycle {
@@ -287,37 +242,12 @@ enum Said {
     },
 }
 
-fn is_unreadable(said: Said) -> bool
-    ensures { result ≡ is_unreadable said }
-{
-    match said {
-        Said::Unreadable => true,
-        Said::Blank => false,
-        Said::Refusal => false,
-        Said::Cycle {
-            consumers: _,
-            period: _,
-        } => false,
-        Said::Control {
-            node: _,
-            start: _,
-            stop: _,
-        } => false,
-        Said::Data {
-            task: _,
-            deadline: _,
-            start: _,
-            stop: _,
-        } => false,
-    }
-}
-
 // A line of a kind whose numbers were read. Those that are taken are as small as their forms ask, so that no cast cuts anything off.
-fn said_by(kind: Kind, values: [u64; WORDS]) -> Said
+fn said_by(kind: Kind, values: [u64; WORDS]) -> Option<Said>
     requires { Narrow kind values }
     ensures { result ≡ said_of kind (some values) }
 {
-    match kind {
+    let said = match kind {
         Kind::Refused => Said::Refusal,
         Kind::Cycle => Said::Cycle {
             consumers: values[EDITION] == 1,
@@ -334,39 +264,35 @@ fn said_by(kind: Kind, values: [u64; WORDS]) -> Said
             start: Ticks(values[START] as u32),
             stop: Ticks(values[STOP] as u32),
         },
-        Kind::Other => Said::Unreadable,
-    }
+        Kind::Other => return None,
+    };
+    Some(said)
 }
 
 // What a line of a kind says that has its other words from a place on.
-fn kind_said(kind: Kind, s: &[u8], at: usize) -> Said
+fn kind_said(kind: Kind, s: &[u8], at: usize) -> Option<Said>
     ensures { result ≡ said_of kind (numbers_in (forms_of kind) (words (drop at s.now))) }
 {
-    let read = numbers_from(s, at, kind);
-    if read.fine {
-        let values = read.values;
-        return said_by(kind, values);
-    }
-    Said::Unreadable
+    let values = numbers_from(s, at, kind)?;
+    said_by(kind, values)
 }
 
-fn words_said(s: &[u8], held: Held) -> Said
+fn words_said(s: &[u8], held: Held) -> Option<Said>
     ensures { result ≡ words_said held.stage held.controls held.rows (words s.now) }
 {
-    match next_word(s, 0) {
-        Word::None => Said::Blank,
-        Word::Stands { from, to } => {
-            let kind = kind_of(&s[from..to]);
-            if may_stand(kind, held) {
-                return kind_said(kind, s, to);
-            }
-            Said::Unreadable
-        }
+    let Some(word) = next_word(s, 0) else {
+        return Some(Said::Blank);
+    };
+    let kind = kind_of(&s[word.from..word.to]);
+    if may_stand(kind, held) {
+        kind_said(kind, s, word.to)
+    } else {
+        None
     }
 }
 
 // What a line says behind what was read so far: its comment is left out.
-fn line_said(line: &[u8], held: Held) -> Said
+fn line_said(line: &[u8], held: Held) -> Option<Said>
     ensures { result ≡ line_said held.stage held.controls held.rows line.now }
 {
     let end = comment_start(line);
@@ -436,7 +362,6 @@ fn take(
         ≡ with_said said (laid held control_nodes.old control_starts.old control_stops.old tasks.old deadlines.old starts.old stops.old) }
 {
     match said {
-        Said::Unreadable => {}
         Said::Blank => {}
         Said::Refusal => {
             held.stage = 1;
@@ -473,11 +398,11 @@ fn take(
     held
 }
 
-// What a text comes to: what was read, but for the rows' numbers; or the first line that cannot be read.
+// Why there is no table: the first line that cannot be read, or how many bytes the table needs, where fewer are lent.
 #[derive(Clone, Copy)]
-enum Reading {
-    Sheet(Held),
+pub enum NoTable {
     Unreadable(u64),
+    Needs(usize),
 }
 
 // Line by line; the numbers of the rows go to the lent arrays, which are zeros before.
@@ -490,7 +415,7 @@ fn gather(
     deadlines: &mut [u32; Frame::MOST],
     starts: &mut [u32; Frame::MOST],
     stops: &mut [u32; Frame::MOST],
-) -> Reading
+) -> Result<Held, NoTable>
     requires control_nodes_value { control_nodes.old ≡ replicate most_nodes 0 }
     requires control_starts_value { control_starts.old ≡ replicate most_nodes 0 }
     requires control_stops_value { control_stops.old ≡ replicate most_nodes 0 }
@@ -500,22 +425,15 @@ fn gather(
     requires stops_value { stops.old ≡ replicate most_frames 0 }
     ensures { Gathered result control_nodes.new control_starts.new control_stops.new tasks.new deadlines.new starts.new stops.new (read_sheet text.now) }
 {
-    let mut held = Held {
-        stage: 0,
-        consumers: false,
-        period: Ticks(0),
-        controls: 0,
-        rows: 0,
-    };
+    let mut held = Held::default();
     let mut at = 0;
     let mut line: u64 = 0;
     while at < text.len() {
         let end = line_end(text, at);
         line += 1;
-        let said = line_said(&text[at..end], held);
-        if is_unreadable(said) {
-            return Reading::Unreadable(line);
-        }
+        let Some(said) = line_said(&text[at..end], held) else {
+            return Err(NoTable::Unreadable(line));
+        };
         held = take(
             said,
             held,
@@ -530,19 +448,10 @@ fn gather(
         at = behind_end(text, end);
     }
     if held.stage == 2 {
-        return Reading::Sheet(held);
+        return Ok(held);
     }
     // The cycle is missing behind the last line.
-    Reading::Unreadable(line + 1)
-}
-
-// What reading a sheet back comes to: the length of the table that stands at the front of the lent bytes; the first line that cannot be read;
-// or how many bytes the table needs, where fewer are lent. In the last two cases the lent bytes are as they were.
-#[derive(Clone, Copy)]
-pub enum Back {
-    Table(usize),
-    Unreadable(u64),
-    Needs(usize),
+    Err(NoTable::Unreadable(line + 1))
 }
 
 // The table of what was read, if there is room for it.
@@ -556,14 +465,14 @@ fn written<'a>(
     deadlines: &'a [u32; Frame::MOST],
     starts: &'a [u32; Frame::MOST],
     stops: &'a [u32; Frame::MOST],
-) -> Back
+) -> Result<usize, NoTable>
     requires { Few held }
     ensures value { result ≡ back_for (back.table (bytes_in (laid held control_nodes.now control_starts.now control_stops.now tasks.now deadlines.now starts.now stops.now))) table.old }
     ensures table_after { table.new ≡ left_by (back.table (bytes_in (laid held control_nodes.now control_starts.now control_stops.now tasks.now deadlines.now starts.now stops.now))) table.old }
 {
     let needed = table_length(held.controls, held.rows);
     if table.len() < needed {
-        return Back::Needs(needed);
+        return Err(NoTable::Needs(needed));
     }
     write_table(
         table,
@@ -579,10 +488,11 @@ fn written<'a>(
         stops,
         held.rows,
     );
-    Back::Table(needed)
+    Ok(needed)
 }
 
-pub fn read_back(text: &[u8], table: &mut [u8]) -> Back
+// The length of the table that stands at the front of the lent bytes; where there is none, they are as they were.
+pub fn read_back(text: &[u8], table: &mut [u8]) -> Result<usize, NoTable>
     ensures value { result ≡ back_for (read_back text.now) table.old }
     ensures table_after { table.new ≡ left_by (read_back text.now) table.old }
 {
@@ -593,7 +503,7 @@ pub fn read_back(text: &[u8], table: &mut [u8]) -> Back
     let mut deadlines: [u32; Frame::MOST] = [0; Frame::MOST];
     let mut starts: [u32; Frame::MOST] = [0; Frame::MOST];
     let mut stops: [u32; Frame::MOST] = [0; Frame::MOST];
-    let read = gather(
+    let held = gather(
         text,
         &mut control_nodes,
         &mut control_starts,
@@ -602,19 +512,16 @@ pub fn read_back(text: &[u8], table: &mut [u8]) -> Back
         &mut deadlines,
         &mut starts,
         &mut stops,
-    );
-    match read {
-        Reading::Unreadable(line) => Back::Unreadable(line),
-        Reading::Sheet(held) => written(
-            table,
-            held,
-            &control_nodes,
-            &control_starts,
-            &control_stops,
-            &tasks,
-            &deadlines,
-            &starts,
-            &stops,
-        ),
-    }
+    )?;
+    written(
+        table,
+        held,
+        &control_nodes,
+        &control_starts,
+        &control_stops,
+        &tasks,
+        &deadlines,
+        &starts,
+        &stops,
+    )
 }

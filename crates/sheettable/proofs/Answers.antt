@@ -17,8 +17,9 @@ use Rattle.text.specs.Text as text
 use Rattle.text.specs.Text.{is_short, too_long_line}
 use Rattle.text.proofs.Fronts.{Front, front-counts}
 use Rattle.sheet.specs.Back.{TableBack, read_back, table, unreadable_line}
-use Rattle.sheetreader.specs.declared.Back.{Back}
-use Rattle.sheetreader.specs.declared.Back.TheVariants.{Needs, Table, Unreadable}
+use Rattle.std.specs.Prelude.{Result, Ok, Err}
+use Rattle.sheetreader.specs.declared.NoTable.{NoTable}
+use Rattle.sheetreader.specs.declared.NoTable.TheVariants.{Needs, Unreadable}
 use Rattle.sheetreader.specs.Memory.{back_for, left_by}
 use Rattle.sheetreader.proofs.Bytes.{read_short}
 use Rattle.sheettable.specs.Answer.{answer_for, status_for, status_of, written}
@@ -38,7 +39,7 @@ module _ (sheet old : List ℕ) (room : longest_table ≤ length old) where
       rw (says.0, says.1)
       (rw (lt-leb (length sheet) longest_sheet h) (a, (refl, front-counts too_long_line old out n a (omega (arith, longest_is)))))
 
-  module _ (short : length sheet ≤ longest_sheet) (back : Back) (mid : List ℕ) (is : back ≡ back_for (read_back sheet) old) (left : mid ≡ left_by (read_back sheet) old) where
+  module _ (short : length sheet ≤ longest_sheet) (back : Result ℕ NoTable) (mid : List ℕ) (is : back ≡ back_for (read_back sheet) old) (left : mid ≡ left_by (read_back sheet) old) where
     answer-is : (b : TableBack) → read_back sheet ≡ b → answer_for sheet ≡ written b
     unfolding answer_for is_short
     answer-is b e = rw (le-leb (length sheet) longest_sheet short, e)
@@ -51,32 +52,32 @@ module _ (sheet old : List ℕ) (room : longest_table ≤ length old) where
     fits : (bytes : List ℕ) → read_back sheet ≡ table bytes → length bytes ≤ length old
     fits bytes e = omega (arith, read_short sheet bytes e, room)
 
-    pub table_response : {n l t : ℕ} → back ≡ Table n → Says l t n 0 → Responds sheet old mid l t
+    pub table_response : {n l t : ℕ} → back ≡ Ok n → Says l t n 0 → Responds sheet old mid l t
     table_response {n} {l} {t} q says = rw (says.0, says.1) (go (read_back sheet) refl)
       where
         go : (b : TableBack) → read_back sheet ≡ b → Responds sheet old mid n 0
         go (table bytes) e =
             let yes : leb (length bytes) (length old) ≡ true = le-leb (length bytes) (length old) (fits bytes e) in
-            let same : Table n ≡ Table (length bytes) = sym q ∙ is ∙ rw (e, yes) in
+            let same : ◌≡◌ {A = Result ℕ NoTable} (Ok n) (Ok (length bytes)) = sym q ∙ is ∙ rw (e, yes) in
             let long : n ≡ length bytes = cc in
             let stored : mid ≡ sets old 0 bytes = left ∙ rw (e, yes) in
             let a : Front bytes old mid n = (stored, long) in
             (rw (answer-is (table bytes) e) a, (sym (status_is (table bytes) e), front-counts bytes old mid n a (fits bytes e)))
         go (unreadable_line k) e =
-            let same : Table n ≡ Unreadable k = sym q ∙ is ∙ rw e in
+            let same : ◌≡◌ {A = Result ℕ NoTable} (Ok n) (Err (Unreadable k)) = sym q ∙ is ∙ rw e in
             let z : ◌≡◌ {A = ℕ} 0 1 = cc in absurd (omega arith)
 
-    pub line_response : {line n l t : ℕ} {out : List ℕ} → back ≡ Unreadable line → Front (text.unreadable_line line) mid out n → n ≤ 41 → Says l t n 1
+    pub line_response : {line n l t : ℕ} {out : List ℕ} → back ≡ Err (Unreadable line) → Front (text.unreadable_line line) mid out n → n ≤ 41 → Says l t n 1
         → Responds sheet old out l t
     line_response {line} {n} {l} {t} {out} q a few says = rw (says.0, says.1) (go (read_back sheet) refl)
       where
         go : (b : TableBack) → read_back sheet ≡ b → Responds sheet old out n 1
         go (table bytes) e =
             let yes : leb (length bytes) (length old) ≡ true = le-leb (length bytes) (length old) (fits bytes e) in
-            let same : Unreadable line ≡ Table (length bytes) = sym q ∙ is ∙ rw (e, yes) in
+            let same : ◌≡◌ {A = Result ℕ NoTable} (Err (Unreadable line)) (Ok (length bytes)) = sym q ∙ is ∙ rw (e, yes) in
             let z : ◌≡◌ {A = ℕ} 0 1 = cc in absurd (omega arith)
         go (unreadable_line k) e =
-            let same : Unreadable line ≡ Unreadable k = sym q ∙ is ∙ rw e in
+            let same : ◌≡◌ {A = Result ℕ NoTable} (Err (Unreadable line)) (Err (Unreadable k)) = sym q ∙ is ∙ rw e in
             let which : line ≡ k = cc in
             let old-is : mid ≡ old = left ∙ rw e in
             let b : Front (text.unreadable_line k) old out n = rw (old-is, which) at a in
@@ -85,14 +86,14 @@ module _ (sheet old : List ℕ) (room : longest_table ≤ length old) where
               (sym (status_is (unreadable_line k) e), front-counts (text.unreadable_line k) old out n b (omega (arith, longest_is))),
             )
 
-    pub never_needs : {C : Type 0} {bytes : ℕ} → back ≡ Needs bytes → C
+    pub never_needs : {C : Type 0} {bytes : ℕ} → back ≡ Err (Needs bytes) → C
     never_needs {C} {bytes} q = go (read_back sheet) refl
       where
         go : (b : TableBack) → read_back sheet ≡ b → C
         go (table l) e =
             let yes : leb (length l) (length old) ≡ true = le-leb (length l) (length old) (fits l e) in
-            let same : Needs bytes ≡ Table (length l) = sym q ∙ is ∙ rw (e, yes) in
+            let same : ◌≡◌ {A = Result ℕ NoTable} (Err (Needs bytes)) (Ok (length l)) = sym q ∙ is ∙ rw (e, yes) in
             let z : ◌≡◌ {A = ℕ} 0 1 = cc in absurd (omega arith)
         go (unreadable_line k) e =
-            let same : Needs bytes ≡ Unreadable k = sym q ∙ is ∙ rw e in
+            let same : ◌≡◌ {A = Result ℕ NoTable} (Err (Needs bytes)) (Err (Unreadable k)) = sym q ∙ is ∙ rw e in
             let z : ◌≡◌ {A = ℕ} 0 1 = cc in absurd (omega arith)

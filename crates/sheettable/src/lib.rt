@@ -4,42 +4,38 @@
 ghost use Rattle.std.specs.Prelude.{◌≡◌, ◌≤◌, length};
 ghost use Rattle.std.proofs.lemmas.List.Edits.{sets};
 ghost use Rattle.io.specs.Counts.{IsPrefixLen};
+ghost use Rattle.manners.specs.Status.{number_of};
 ghost use Rattle.rules.specs.Table.{longest_table};
 ghost use Rattle.sheettable.specs.Answer.{answer_for, status_for};
 
-use input::Input;
-use manners::{FAILED, Response, Start, put_lines};
-use sheetreader::Back;
+use manners::{Failed, Response, Status, put_lines};
+use sheetreader::NoTable;
 use units::ByteCount;
 
 // The answer at the front of `out`, which has room for the longest table, and how the program ends.
 fn respond(sheet: &[u8], out: &mut [u8]) -> Response
     requires { longest_table ≤ length out.old }
     ensures out_after { (out.new ≡ sets out.old 0 (answer_for sheet.now)) × (result.length ≡ length (answer_for sheet.now)) }
-    ensures status_value { result.status ≡ status_for sheet.now }
+    ensures status_value { number_of result.status ≡ status_for sheet.now }
     ensures prefix_len { IsPrefixLen result.length out.new }
 {
     if sheet.len() > ByteCount::LONGEST_SHEET {
         return Response::refused(text::put_too_long(&mut *out));
     }
     match sheetreader::read_back(sheet, &mut *out) {
-        Back::Table(length) => Response::done(length),
-        Back::Unreadable(line) => Response::refused(text::put_unreadable(&mut *out, line)),
+        Ok(length) => Response::done(length),
+        Err(NoTable::Unreadable(line)) => Response::refused(text::put_unreadable(&mut *out, line)),
         // No table that is read is longer than what is lent.
-        Back::Needs(bytes) => Response::refused(bytes),
+        Err(NoTable::Needs(bytes)) => Response::refused(bytes),
     }
 }
 
-fn read(rt: HostRuntime) -> i32 {
+fn read(rt: HostRuntime) -> Result<Status, Failed> {
     let mut sheet = input::text_room();
-    let Input::Bytes(n) = input::read_open(rt, &mut rt.stdin(), b"standard input", &mut sheet)
-    else {
-        return FAILED;
-    };
+    let n = input::read_open(rt, &mut rt.stdin(), b"standard input", &mut sheet)?;
     let mut out = [0u8; ByteCount::LONGEST_TABLE];
     let answer = respond(&sheet[..n], &mut out);
-    let length = answer.length;
-    manners::write_out(rt, &out[..length], answer.status as i32)
+    manners::write_out(rt, &out[..answer.length], answer.status)
 }
 
 // What `--help` says behind the usage.
@@ -58,11 +54,11 @@ fn put_help(out: &mut [u8]) -> usize
     )
 }
 
-// The program; the number that it ends with.
-pub fn run(rt: HostRuntime) -> i32 {
+// The program, and how it ends.
+pub fn run(rt: HostRuntime) -> Result<Status, Failed> {
     let mut help = io::buffer();
     let end = put_help(&mut help);
-    let start = manners::opening(
+    let opened = manners::opening(
         rt,
         b"sheettable",
         b"sheettable < SHEET > TABLE",
@@ -70,8 +66,8 @@ pub fn run(rt: HostRuntime) -> i32 {
         1,
         0,
     );
-    match start {
-        Start::Works => read(rt),
-        Start::Ends(status) => status,
+    match opened {
+        Some(ended) => ended,
+        None => read(rt),
     }
 }

@@ -23,21 +23,19 @@ use Rattle.rules.proofs.RefusalNumbers.{shaped-gives, timed-gives}
 use Rattle.answers.specs.declared.Refusal.{Refusal}
 use Rattle.answers.specs.declared.Refusal.TheVariants.{BadTableRecords}
 use Rattle.units.specs.declared.Offset.{Offset}
-use Rattle.answers.specs.Refusals.{number_of, place_of, said, heard}
-use Rattle.answers.specs.declared.Verdict.{Verdict}
-use Rattle.answers.specs.declared.Verdict.TheVariants.{Fine, Refused}
+use Rattle.answers.specs.Refusals.{number_of, place_of, said}
 use Rattle.plan.specs.Memory as planned
 use Rattle.plan.specs.Memory.{seen}
-use Rattle.planrules.specs.declared.Reading as planread
-use Rattle.planrules.specs.Reading.{Reads}
+use Rattle.planrules.specs.Reading.{Reads, heard_reading}
 use Rattle.plan.specs.declared.Plan.{Plan}
-use Rattle.line.specs.declared.Laid.{Laid}
+use Rattle.answers.specs.Answered as answered
+use Rattle.std.specs.Prelude.{Result, Ok, Err}
 use Rattle.line.specs.declared.Line.{Line}
 use Rattle.line.specs.Line.{Drawing, drawing, line_of}
 use Rattle.line.proofs.Drawn.{Drawn, drawn}
 use Rattle.naming.specs.Places.{Numbered, number_at}
 use Rattle.judging.specs.Judged.{Right, frames_on, judgement, line_judged}
-use Rattle.line.specs.Laying.{Lays, file_laid, laid}
+use Rattle.line.specs.Laying.{Lays, file_laid, heard_line, laid}
 use Rattle.line.proofs.Reading.{read_in_seen, sound-laid}
 use Rattle.table.specs.declared.read.Outcome.TheVariants.{Broken, Whole}
 use Rattle.table.specs.Memory as tabled
@@ -74,16 +72,16 @@ sheet-put p t releases frames b b₁ b₂ b₃ b₄ at k₁ k₂ k₃ k₄ c r q
 -- ---- printed by a judgement
 
 module _ (old left : List ℕ) (r : Written) where
-  pub printed-fine : (sheet : List ℕ) {n : ℕ} → Put old 0 sheet left n → r ≡ record { answer = Fine; length = n } → Prints r old left (ok tt) sheet
+  pub printed-fine : (sheet : List ℕ) {n : ℕ} → Put old 0 sheet left n → r ≡ record { answer = Ok tt; length = n } → Prints r old left (ok tt) sheet
   printed-fine sheet {n} p e = let q = at_front old sheet left n p in rw e (record { answered = refl; put = q.0; long = q.1 })
 
   -- the line alone
   pub printed-line : (why : Refusal) {n : ℕ} → (left ≡ sets old 0 (refused_line (number_of why) (place_of why))) × (n ≡ length (refused_line (number_of why) (place_of why)))
-      → r ≡ record { answer = Refused why; length = n } → Prints r old left (said why) (refused_line (number_of why) (place_of why))
+      → r ≡ record { answer = Err why; length = n } → Prints r old left (said why) (refused_line (number_of why) (place_of why))
   printed-line why q e = rw e (record { answered = refl; put = q.0; long = q.1 })
 
   pub line-alone : (why : Refusal) {number place n : ℕ} → number ≡ number_of why → place ≡ place_of why → number < 18446744073709551616 → place < 18446744073709551616
-      → (left ≡ sets old 0 (refused_line number place)) × (n ≡ length (refused_line number place)) → r ≡ record { answer = Refused why; length = n }
+      → (left ≡ sets old 0 (refused_line number place)) × (n ≡ length (refused_line number place)) → r ≡ record { answer = Err why; length = n }
       → Prints r old left (said why) (refused_line (number_of why) (place_of why)) × (r.length ≤ 53)
   line-alone why {number} {place} a b h k q e =
       let few : length (refused_line number place) ≤ 53 = refused-line-most number place h k in
@@ -92,14 +90,14 @@ module _ (old left : List ℕ) (r : Written) where
 
   module _ (why : Refusal) (sheet : List ℕ) where
     pub printed-early : number_of why < 25 → {n : ℕ} → (left ≡ sets old 0 (refused_line (number_of why) (place_of why))) × (n ≡ length (refused_line (number_of why) (place_of why)))
-        → r ≡ record { answer = Refused why; length = n } → Prints r old left (said why) (printed_text (said why) sheet)
+        → r ≡ record { answer = Err why; length = n } → Prints r old left (said why) (printed_text (said why) sheet)
     printed-early h q e =
         rw (lt-leb 25 (number_of why) h, append-nil (refused_line (number_of why) (place_of why))) (printed-line why q e)
 
     -- the same, with the numbers as they were found
     pub early-printed : {number place again n : ℕ} → number ≡ number_of why → place ≡ place_of why → number < 18446744073709551616 → place < 18446744073709551616
         → again ≡ number_of why → again < 25 → (left ≡ sets old 0 (refused_line number place)) × (n ≡ length (refused_line number place))
-        → r ≡ record { answer = Refused why; length = n } → Prints r old left (said why) (printed_text (said why) sheet) × (r.length ≤ 262144)
+        → r ≡ record { answer = Err why; length = n } → Prints r old left (said why) (printed_text (said why) sheet) × (r.length ≤ 262144)
     early-printed {number} {place} a b h k c w q e =
         let few : length (refused_line number place) ≤ 53 = refused-line-most number place h k in
         let long = q.1 in
@@ -107,7 +105,7 @@ module _ (old left : List ℕ) (r : Written) where
 
     pub printed-late : 25 ≤ number_of why → (mid : List ℕ) {k n : ℕ}
         → (mid ≡ sets old 0 (refused_line (number_of why) (place_of why))) × (k ≡ length (refused_line (number_of why) (place_of why))) → Put mid k sheet left n
-        → r ≡ record { answer = Refused why; length = n } → Prints r old left (said why) (printed_text (said why) sheet)
+        → r ≡ record { answer = Err why; length = n } → Prints r old left (said why) (printed_text (said why) sheet)
     printed-late h mid {k} {n} top rest e =
         let line = refused_line (number_of why) (place_of why) in
         let q = at_front old (line ++ sheet) left n (both_put old mid left line sheet 0 k n (top.0, top.1 ∙ sym (zero-add (length line))) rest) in
@@ -116,7 +114,7 @@ module _ (old left : List ℕ) (r : Written) where
 module _ (old left : List ℕ) (r : Written) (why : Refusal) (sheet : List ℕ) where
   pub late-printed : {number place again k n : ℕ} (mid : List ℕ) → number ≡ number_of why → place ≡ place_of why → number < 18446744073709551616 → place < 18446744073709551616
       → again ≡ number_of why → 25 ≤ again → (mid ≡ sets old 0 (refused_line number place)) × (k ≡ length (refused_line number place)) → Put mid k sheet left n
-      → n ≤ k + 254062 → r ≡ record { answer = Refused why; length = n } → Prints r old left (said why) (printed_text (said why) sheet) × (r.length ≤ 262144)
+      → n ≤ k + 254062 → r ≡ record { answer = Err why; length = n } → Prints r old left (said why) (printed_text (said why) sheet) × (r.length ≤ 262144)
   late-printed {number} {place} mid a b h k c w q rest end e =
       let few : length (refused_line number place) ≤ 53 = refused-line-most number place h k in
       let long = q.1 in
@@ -149,8 +147,8 @@ module _ (p : rules.Plan) (table : List ℕ) (from : FromFile (is_for_consumers 
   passing (refuse n q) = refl
 
   -- 21 to 28
-  pub by_rows : {r : Written} {old left : List ℕ} (v : Verdict) → heard v ≡ judged (layout_of p) (table_of rs)
-      → Prints r old left (heard v) (printed_text (heard v) sheet) → Prints r old left (verdict (table_passed p table)) (text_for (table_located p table))
+  pub by_rows : {r : Written} {old left : List ℕ} (v : Result (Unit {0}) Refusal) → answered.judged v ≡ judged (layout_of p) (table_of rs)
+      → Prints r old left (answered.judged v) (printed_text (answered.judged v) sheet) → Prints r old left (verdict (table_passed p table)) (text_for (table_located p table))
   unfolding table_passed table_located judged
   by_rows v e h =
       rw (are_rows, passing (judged (layout_of p) (table_of rs)), ← printed-is (shaped (layout_of p) (table_of rs)) refl) (rw e at h)
@@ -183,17 +181,17 @@ module _ (p : Plan) (line : Line) (tasks releases deadlines table : List ℕ)
     on_broken at q h =
         reading-broken (records table_follows 20 table) reading at is q λ n broken. (by_broken (seen p) table n at broken h.0, omega (arith, h.1))
 
-    pub on_rows : reading.outcome ≡ Whole → (v : Verdict) {starts frames : List ℕ} {rows : ℕ}
+    pub on_rows : reading.outcome ≡ Whole → (v : Result (Unit {0}) Refusal) {starts frames : List ℕ} {rows : ℕ}
         → Right true releases line.frames (line_judged (drawing line tasks releases deadlines) (tabled.seen reading.table))
         (frames_on (drawing line tasks releases deadlines)) (tabled.seen reading.table) (judgement v starts)
         → rows ≡ min reading.table.rows most_frames
         → frames ≡ stores (replicate most_frames 0) (number_at tasks deadlines line.frames reading.table.tasks reading.table.deadlines) rows
-        → Prints r old left (heard v) (printed_text (heard v) (sheet_in (seen p) reading.table releases frames)) × (r.length ≤ 262144) → Promised
+        → Prints r old left (answered.judged v) (printed_text (answered.judged v) (sheet_in (seen p) reading.table releases frames)) × (r.length ≤ 262144) → Promised
     unfolding lay_out
     on_rows whole v right n e h =
         reading-whole (records table_follows 20 table) reading is whole λ rs are_rows held.
         let says = right_by (seen p) is_drawn rs ready.1 (rw held at right) in
-        let judged-is : heard v ≡ judged (layout_of (seen p)) (table_of rs) = says.verdict (inl refl) in
+        let judged-is : answered.judged v ≡ judged (layout_of (seen p)) (table_of rs) = says.verdict (inl refl) in
         let same = ready.1 in
         let printed = rw (e, n, held, ap (λ (d : Drawing). d.tasks) same, ap (λ (d : Drawing). d.deadlines) same, ap (λ (d : Drawing). d.releases) same, ap (λ (d : Drawing). d.frames) same) at h.0 in
         (by_rows (seen p) table ready.2 rs are_rows v judged-is printed, h.1)
@@ -212,38 +210,38 @@ refused_writes : (plan table : List ℕ) (why : Refusal) → check_files plan ta
 unfolding sheet_text
 refused_writes plan table why e q h = rw (e, q) h
 
-module _ (plan table : List ℕ) (reading : planread.Reading) (reads : Reads reading (read_in (is_for_consumers table) plan)) where
-  pub way_unread : {r : Written} {old left : List ℕ} (why : Refusal) → reading.answer ≡ Refused why → Prints r old left (said why) (refused_line (number_of why) (place_of why))
+module _ (plan table : List ℕ) (reading : Result Plan Refusal) (reads : Reads reading (read_in (is_for_consumers table) plan)) where
+  pub way_unread : {r : Written} {old left : List ℕ} (why : Refusal) → reading ≡ Err why → Prints r old left (said why) (refused_line (number_of why) (place_of why))
       → Writes r old left plan table
   unfolding check_files located
   way_unread why q h =
-      let n : read_in (is_for_consumers table) plan ≡ said why = read-refused (number_of why) (place_of why) (read_in (is_for_consumers table) plan) (sym reads.answered ∙ ap heard q) in
+      let n : read_in (is_for_consumers table) plan ≡ said why = read-refused (number_of why) (place_of why) (read_in (is_for_consumers table) plan) (sym reads.answered ∙ ap heard_reading q) in
       refused_writes plan table why (rw n) (rw n) h
 
-  module _ (sound : reading.answer ≡ Fine) (x : Laid) {tasks releases deadlines : List ℕ} (lays : Lays x tasks releases deadlines (laid (seen reading.plan))) where
+  module _ {p : Plan} (sound : reading ≡ Ok p) (x : Result Line Refusal) {tasks releases deadlines : List ℕ} (lays : Lays x tasks releases deadlines (laid (seen p))) where
     lays_file : Lays x tasks releases deadlines (file_laid (is_for_consumers table) plan)
     lays_file = sound-laid (is_for_consumers table) plan reading reads x sound lays
 
-    pub way_unlaid : {r : Written} {old left : List ℕ} (why : Refusal) → x.answer ≡ Refused why → Prints r old left (said why) (refused_line (number_of why) (place_of why))
+    pub way_unlaid : {r : Written} {old left : List ℕ} (why : Refusal) → x ≡ Err why → Prints r old left (said why) (refused_line (number_of why) (place_of why))
         → Writes r old left plan table
     way_unlaid why q h =
-        let n : file_laid (is_for_consumers table) plan ≡ said why = laid-refused (number_of why) (place_of why) (file_laid (is_for_consumers table) plan) (sym lays_file.answered ∙ ap heard q) in
+        let n : file_laid (is_for_consumers table) plan ≡ said why = laid-refused (number_of why) (place_of why) (file_laid (is_for_consumers table) plan) (sym lays_file.answered ∙ ap heard_line q) in
         refused_writes plan table why (plan-refused plan table (number_of why) (place_of why) n) (located-refused plan table (number_of why) (place_of why) n) h
 
-    module _ (fine : x.answer ≡ Fine) where
+    module _ {l : Line} (fine : x ≡ Ok l) where
       -- the plan that was read is the one that is laid out
-      read_is : {C : Type 0} → ((q : rules.Plan) → drawing x.line tasks releases deadlines ≡ line_of q → reading.plan ≡ planned.lay_out q → seen reading.plan ≡ q
+      read_is : {C : Type 0} → ((q : rules.Plan) → drawing l tasks releases deadlines ≡ line_of q → p ≡ planned.lay_out q → seen p ≡ q
           → read_in (is_for_consumers table) plan ≡ ok q → layout q ≡ ok (layout_of q) → C) → C
       read_is go =
           laid-sound (file_laid (is_for_consumers table) plan) x lays_file fine λ q is_laid same.
           file-laid (is_for_consumers table) plan q is_laid λ is_read drawn.
-          let held : reading.plan ≡ planned.lay_out q = rw is_read at reads.left in
+          let held : p ≡ planned.lay_out q = rw (sound, is_read) at reads.left in
           go q same held (rw held (read_in_seen (is_for_consumers table) plan q is_read)) is_read drawn
 
-      pub way_ready : (reading.plan ≡ planned.lay_out (seen reading.plan)) × (drawing x.line tasks releases deadlines ≡ line_of (seen reading.plan)) × FromFile (is_for_consumers table) (seen reading.plan)
+      pub way_ready : (p ≡ planned.lay_out (seen p)) × (drawing l tasks releases deadlines ≡ line_of (seen p)) × FromFile (is_for_consumers table) (seen p)
       way_ready = read_is λ q same held is is_read drawn. rw is (held, same, record { file = plan; is_read = is_read; is_laid = drawn })
 
-      pub way_on : {r : Written} {old left : List ℕ} → Prints r old left (verdict (table_passed (seen reading.plan) table)) (text_for (table_located (seen reading.plan) table))
+      pub way_on : {r : Written} {old left : List ℕ} → Prints r old left (verdict (table_passed (seen p) table)) (text_for (table_located (seen p) table))
           → Writes r old left plan table
       unfolding check_files located table_passed table_located sheet_text
       way_on h = read_is λ q same held is is_read drawn. rw (is_read, drawn) (rw is at h)

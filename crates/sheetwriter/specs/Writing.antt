@@ -7,14 +7,14 @@ use Rattle.rules.specs.Plan as rules
 use Rattle.rules.specs.Traffic.{read_in, traffic}
 use Rattle.rules.specs.Frames.{layout, layout_of}
 use Rattle.rules.specs.Checker.{Passed, check_files, shaped, table_of}
-use Rattle.answers.specs.Refusals.{heard}
+use Rattle.answers.specs.Answered.{judged}
 use Rattle.checked.specs.Checking.{verdict}
 use Rattle.sheet.specs.Sheet.{sheet_text}
 use Rattle.sheetwriter.specs.declared.Written.{Written}
 
 -- an answer, and a text that stands at the front of what was lent, with its length
 pub record Prints (r : Written) (old left : List ℕ) (answer : Res (Unit {0})) (text : List ℕ) : Type 0 where
-  pub answered : heard r.answer ≡ answer
+  pub answered : judged r.answer ≡ answer
   pub put : left ≡ sets old 0 text
   pub long : r.length ≡ length text
 

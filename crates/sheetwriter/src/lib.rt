@@ -6,7 +6,8 @@ ghost use Rattle.std.proofs.lemmas.List.Edits.{sets};
 ghost use Rattle.rules.specs.Limits.{longest_sheet, most_nodes, most_frames};
 ghost use Rattle.rules.specs.Traffic.{control_payload};
 ghost use Rattle.rules.specs.Checker.{is_for_consumers};
-ghost use Rattle.answers.specs.Refusals.{heard, number_of, place_of, said};
+ghost use Rattle.answers.specs.Answered.{judged};
+ghost use Rattle.answers.specs.Refusals.{number_of, place_of, said};
 ghost use Rattle.plan.specs.Memory.{lay_out, seen};
 ghost use Rattle.bus.specs.Senders.{by_number};
 ghost use Rattle.line.specs.Line.{drawing, line_of};
@@ -18,11 +19,10 @@ ghost use Rattle.sheet.specs.Sheet as sheet;
 ghost use Rattle.sheetwriter.specs.Memory.{control_text_in, data_cells_in, data_text_in, printed_text, sheet_in};
 ghost use Rattle.sheetwriter.specs.Writing.{FromFile, Prints, Writes, table_located};
 
-use answers::{Refusal, Verdict};
+use answers::Refusal;
 use bus::BYTES;
 use bus::senders::Senders;
 use datarows::release_of;
-use figures::{lower, place, wide};
 use judging::judge;
 use line::{Line, of_plan, read_in};
 use naming::numbers;
@@ -39,7 +39,7 @@ use units::{ByteCount, Frame, FrameNo, NodeNo, TaskNo, Ticks};
 // What check says of plan and table, and how long the text is.
 #[derive(Clone, Copy)]
 pub struct Written {
-    pub answer: Verdict,
+    pub answer: Result<(), Refusal>,
     pub length: usize,
 }
 
@@ -54,14 +54,14 @@ fn control_cells(
     ensures { result ≡ sheet.control_cells (seen p) (record { node = node.0; start = start.0; stop = stop.0 }) }
 {
     let bus = p.bus;
-    let sent = on_bus(bus, ByteCount(wide(payloads[place(node.0)])));
+    let sent = on_bus(bus, ByteCount(u32::from(payloads[usize::from(node.0)])));
     [
-        Cell::Count(node.0 as u64),
+        Cell::Count(u64::from(node.0)),
         Cell::Dash,
         Cell::Dash,
         Cell::Dash,
-        Cell::Count(start.0 as u64),
-        Cell::Count(stop.0 as u64),
+        Cell::Count(u64::from(start.0)),
+        Cell::Count(u64::from(stop.0)),
         Cell::Count(sent.bits.0),
         Cell::Count(sent.ticks.0),
         Cell::Dash,
@@ -84,12 +84,12 @@ fn data_cells(
     let bus = p.bus;
     let sent = on_bus(bus, sender.size);
     [
-        Cell::Count(home.node.0 as u64),
-        Cell::Count(task.0 as u64),
-        Cell::Count(release.0 as u64),
-        Cell::Count(deadline.0 as u64),
-        Cell::Count(start.0 as u64),
-        Cell::Count(stop.0 as u64),
+        Cell::Count(u64::from(home.node.0)),
+        Cell::Count(u64::from(task.0)),
+        Cell::Count(u64::from(release.0)),
+        Cell::Count(u64::from(deadline.0)),
+        Cell::Count(u64::from(start.0)),
+        Cell::Count(u64::from(stop.0)),
         Cell::Count(sent.bits.0),
         Cell::Count(sent.ticks.0),
         difference(start.0, release.0),
@@ -113,8 +113,7 @@ fn put_controls<'a>(
     ensures few { result ≤ at + 1968 }
 {
     let mut next = at;
-    let mut k = 0;
-    while k < controls {
+    for k in 0..controls {
         let cells = control_cells(
             p,
             payloads,
@@ -123,7 +122,6 @@ fn put_controls<'a>(
             Ticks(stops[k]),
         );
         next = put_row(&mut *buf, next, b"control", cells, 1 + k as u64);
-        k += 1;
     }
     next
 }
@@ -147,8 +145,7 @@ fn put_datas<'a>(
     ensures few { result ≤ at + 251904 }
 {
     let mut next = at;
-    let mut k = 0;
-    while k < rows {
+    for k in 0..rows {
         let release = release_of(releases, FrameNo(frames[k]));
         let cells = data_cells(
             p,
@@ -159,7 +156,6 @@ fn put_datas<'a>(
             Ticks(stops[k]),
         );
         next = put_row(&mut *buf, next, b"data", cells, (first + k) as u64);
-        k += 1;
     }
     next
 }
@@ -183,8 +179,8 @@ fn put_sheet<'a>(
 {
     let senders = Senders::of(p);
     let payloads = senders.payloads;
-    let controls = lower(heading.controls, NodeNo::MOST);
-    let rows = lower(heading.rows, Frame::MOST);
+    let controls = heading.controls.min(NodeNo::MOST);
+    let rows = heading.rows.min(Frame::MOST);
     let head = heading.header;
     let head_at = put_cycle(&mut *buf, at, p.consumers, head.period.0);
     let controls_at = put_head(&mut *buf, head_at);
@@ -220,7 +216,7 @@ fn refused(why: Refusal, out: &mut [u8]) -> Written
 {
     let length = put_refused(out, why.number(), why.place());
     Written {
-        answer: Verdict::Refused(why),
+        answer: Err(why),
         length,
     }
 }
@@ -228,7 +224,7 @@ fn refused(why: Refusal, out: &mut [u8]) -> Written
 // What is printed of a table that was judged: a refusal before 25 alone, else the sheet, below the refusal if there is one.
 fn printed<'a>(
     out: &mut [u8],
-    answer: Verdict,
+    answer: Result<(), Refusal>,
     p: Plan,
     heading: Heading,
     tasks: &'a [u8; Frame::MOST],
@@ -238,24 +234,24 @@ fn printed<'a>(
     releases: &'a [u32; Frame::MOST],
     frames: &'a [usize; Frame::MOST],
 ) -> Written
-    ensures prints { Prints result out.old out.new (heard answer) (printed_text (heard answer) (sheet_in (seen p) (table_with heading tasks.now deadlines.now starts.now stops.now) releases.now frames.now)) }
+    ensures prints { Prints result out.old out.new (judged answer) (printed_text (judged answer) (sheet_in (seen p) (table_with heading tasks.now deadlines.now starts.now stops.now) releases.now frames.now)) }
     ensures few { result.length ≤ longest_sheet }
 {
     match answer {
-        Verdict::Fine => {
+        Ok(()) => {
             let length = put_sheet(
                 out, 0, p, heading, tasks, deadlines, starts, stops, releases, frames,
             );
             Written {
-                answer: Verdict::Fine,
+                answer: Ok(()),
                 length,
             }
         }
-        Verdict::Refused(why) => {
+        Err(why) => {
             let top = put_refused(&mut *out, why.number(), why.place());
             if why.number() < 25 {
                 return Written {
-                    answer: Verdict::Refused(why),
+                    answer: Err(why),
                     length: top,
                 };
             }
@@ -263,7 +259,7 @@ fn printed<'a>(
                 out, top, p, heading, tasks, deadlines, starts, stops, releases, frames,
             );
             Written {
-                answer: Verdict::Refused(why),
+                answer: Err(why),
                 length,
             }
         }
@@ -321,7 +317,7 @@ fn by_plan<'a>(
         line.frames,
         &row_tasks,
         &row_deadlines,
-        lower(heading.rows, Frame::MOST),
+        heading.rows.min(Frame::MOST),
         &mut frames,
     );
     printed(
@@ -343,26 +339,16 @@ pub fn write(plan: &[u8], table: &[u8], out: &mut [u8]) -> Written
     ensures writes { Writes result out.old out.new plan.now table.now }
     ensures few { result.length ≤ longest_sheet }
 {
-    let reading = read_in(plan, is_for_consumers(table));
-    let answer = reading.answer;
-    if let Verdict::Refused(why) = answer {
-        return refused(why, out);
-    }
+    let p = match read_in(plan, is_for_consumers(table)) {
+        Ok(p) => p,
+        Err(why) => return refused(why, out),
+    };
     let mut tasks: [u8; Frame::MOST] = [0; Frame::MOST];
     let mut releases: [u32; Frame::MOST] = [0; Frame::MOST];
     let mut deadlines: [u32; Frame::MOST] = [0; Frame::MOST];
-    let laid = of_plan(reading.plan, &mut tasks, &mut releases, &mut deadlines);
-    let placed = laid.answer;
-    if let Verdict::Refused(why) = placed {
-        return refused(why, out);
-    }
-    by_plan(
-        reading.plan,
-        laid.line,
-        table,
-        &tasks,
-        &releases,
-        &deadlines,
-        out,
-    )
+    let line = match of_plan(p, &mut tasks, &mut releases, &mut deadlines) {
+        Ok(line) => line,
+        Err(why) => return refused(why, out),
+    };
+    by_plan(p, line, table, &tasks, &releases, &deadlines, out)
 }

@@ -1,5 +1,5 @@
 -- Refusal 40 of a beginning, on the station's arrays, and the station in its starting modes.
-use Rattle.std.specs.Prelude.{Bool, not, ◌&&◌, List, eqb, ltb, get_or, ℕ}
+use Rattle.std.specs.Prelude.{Bool, Ok, Err, not, ◌&&◌, List, eqb, ltb, get_or, ℕ}
 use Rattle.std.proofs.Math.Option.{Option, none, some}
 use Rattle.laws.specs.Lists.{first_bad, up_to}
 use Rattle.laws.specs.Loops.{stores}
@@ -11,7 +11,6 @@ use Rattle.stationsteps.specs.Steps.{mode_rule}
 use Rattle.station.specs.Memory.{not_begun}
 use Rattle.stationrefusals.specs.declared.Play.{Play}
 use Rattle.station.specs.declared.Station.{Station}
-use Rattle.answers.specs.declared.Verdict.TheVariants.{Fine, Refused}
 use Rattle.starting.specs.declared.Begun.{Begun}
 
 -- Rule 8.40: a module's place holds a mode of its own, a place behind the modules nothing.
@@ -62,8 +61,8 @@ started_by kept starting =
 
 -- what a station that keeps a passed plan and table begins as
 abbrev pub begun_at : Station → Starting → Option ℕ → Begun
-begun_at kept starting none = record { answer = Fine; station = started_by kept starting }
-begun_at kept starting (some m) = record { answer = Refused (NotBegun (record { 0 = m })); station = not_begun }
+begun_at kept starting none = record { answer = Ok tt; station = started_by kept starting }
+begun_at kept starting (some m) = record { answer = Err (NotBegun (record { 0 = m })); station = not_begun }
 
 unfoldable pub begun_by : Station → Starting → Begun
 begun_by kept starting = begun_at kept starting (wrong_start kept starting)

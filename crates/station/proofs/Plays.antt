@@ -1,6 +1,7 @@
 -- Stations one after the other, by the contract of `tick` alone: what is seen of them follows the rules' play.
 use mathlib.Core.Path.{◌≡◌, refl, sym, ap, ◌∙◌, subst}
 use mathlib.Core.Bool.{true, false}
+use Rattle.std.specs.Prelude.{Ok, Err}
 use mathlib.Core.List.{List, [], ◌∷◌, ◌++◌}
 use Prim.Native.Nat.{ℕ}
 use Rattle.laws.specs.Res.{Res, ok, refuse}
@@ -13,9 +14,7 @@ use Rattle.rules.proofs.StationPlaces.{Follows, begun, next}
 use Rattle.stationruns.specs.Inputs.{input_of}
 use Rattle.stationruns.specs.declared.Input as given
 use Rattle.station.specs.Memory.{kept_of, state_of, laid, ruled}
-use Rattle.station.specs.Answers.{Answers, outcome, is_refused, row_said, station_after}
-use Rattle.stationmoves.specs.declared.Said.{Said}
-use Rattle.stationmoves.specs.declared.Said.TheVariants.{Control, Data, Quiet, Refused}
+use Rattle.station.specs.Answers.{Answers, Said, outcome, is_refused, row_said, station_after}
 use Rattle.station.specs.declared.Station.{Station}
 use Rattle.station.specs.declared.Ticked.{Ticked}
 use Rattle.station.proofs.Sized.{Sized, sized-laid, laid_agrees}
@@ -24,16 +23,12 @@ use Rattle.station.proofs.Sized.{Sized, sized-laid, laid_agrees}
 
 module _ (st : Station) (r : Ticked) where
   taken : (x : Ticked) (w : Said) → outcome w r ≡ ok x → r ≡ x
-  taken x (Control w) e = ok_injective e
-  taken x (Data w) e = ok_injective e
-  taken x Quiet e = ok_injective e
-  taken x (Refused y) e = refuse≢ok e
+  taken x (Ok row) e = ok_injective e
+  taken x (Err y) e = refuse≢ok e
 
   pub refused-said : (n p : ℕ) (w : Said) → outcome w r ≡ refuse n p → is_refused w ≡ true
-  refused-said n p (Control w) e = refuse≢ok (sym e)
-  refused-said n p (Data w) e = refuse≢ok (sym e)
-  refused-said n p Quiet e = refuse≢ok (sym e)
-  refused-said n p (Refused x) e = refl
+  refused-said n p (Ok row) e = refuse≢ok (sym e)
+  refused-said n p (Err x) e = refl
 
   pub leaves : (rule : Res rules.Ticked) → Answers st rule r → r.station ≡ station_after st rule
   leaves (ok t) a = ap (λ (x : Ticked). x.station) (taken _ r.said a.says)

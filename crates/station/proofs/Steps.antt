@@ -43,7 +43,8 @@ use Rattle.stationbus.specs.Bus.{number_at, held_rule, mode_byte_rule, full_rule
 use Rattle.stationbus.proofs.Taken.{full-taken, load-taken}
 use Rattle.station.specs.Memory.{kept_of, state_of, held_laid, play_laid}
 use Rattle.stationmoves.specs.Moving.{said_by, play_after}
-use Rattle.station.specs.Answers.{row_said}
+use Rattle.std.specs.Prelude.{Ok}
+use Rattle.station.specs.Answers.{Said, row_said}
 use Rattle.station.specs.declared.Station.{Station}
 use Rattle.stationmoves.proofs.Ways.{play_made}
 use Rattle.station.proofs.Pairs.{some_at_lem, sent-at}
@@ -51,7 +52,7 @@ use Rattle.station.proofs.Pairs.{some_at_lem, sent-at}
 module _ (st : Station) where
   -- the row that starts
   pub said_same : (c d : Option ℕ)
-      → said_by st.fixed.controls st.pair_tasks st.pair_deadlines st.pair_starts st.pair_stops c d ≡ row_said (started_by (kept_of st) c d)
+      → ◌≡◌ {A = Said} (Ok (said_by st.fixed.controls st.pair_tasks st.pair_deadlines st.pair_starts st.pair_stops c d)) (row_said (started_by (kept_of st) c d))
   unfolding kept_of kept_control kept_data
   said_same (some r) d = refl
   said_same none (some q) = refl

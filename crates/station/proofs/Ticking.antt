@@ -2,6 +2,7 @@
 use mathlib.Core.Path.{◌≡◌, refl, sym, ap, ◌∙◌}
 use mathlib.Core.Bool.{Bool, true, false, cond, not}
 use mathlib.Core.List.{List}
+use Rattle.std.specs.Prelude.{Ok, Err}
 use native.Mathlib.Omega.{arith}
 use lib.ListN.{get_or, replicate, length-replicate}
 use borrow.Author.Tests.{not-true}
@@ -43,11 +44,9 @@ use Rattle.station.specs.Memory.{kept_of, state_of, ruled, play_laid, node_laid,
 use Rattle.station.specs.Parts.{Completes, Valued, due_by, left_alone, nodes_by, with_play_and_nodes}
 use Rattle.stationmoves.specs.Moving.{Reads, advanced_by}
 use Rattle.stationrefusals.specs.Refusing.{refused_by}
-use Rattle.station.specs.Answers.{Answers, outcome, is_refused, row_said}
+use Rattle.station.specs.Answers.{Answers, Said, outcome, is_refused, row_said}
 use Rattle.stationmoves.specs.declared.Advanced.{Advanced}
 use Rattle.stationrefusals.specs.declared.Play.{Play}
-use Rattle.stationmoves.specs.declared.Said.{Said}
-use Rattle.stationmoves.specs.declared.Said.TheVariants.{Refused}
 use Rattle.station.specs.declared.Station.{Station}
 use Rattle.station.specs.declared.Ticked.{Ticked}
 use Rattle.station.specs.declared.BeforeNodes.{BeforeNodes}
@@ -92,7 +91,7 @@ module _ (st : Station) (input : given.Input) (valued : Valued st.nodes) where
   -- ---- a refused tick
 
   module _ (x : Refusal) (refused : said x ≡ refusal) where
-    pub refused_way : Completes st input (Refused x) (left_alone st.play)
+    pub refused_way : Completes st input (Err x) (left_alone st.play)
     refused_way =
         record {
           idle = λ i. record { says = rw (ticked-same, ← refused); unchanged = λ q. refl };
@@ -155,9 +154,9 @@ module _ (st : Station) (input : given.Input) (valued : Valued st.nodes) where
       lands_at : (t : ℕ) → t < 32 → get_or lands t false ≡ lands_now st t
       lands_at t w = stores-within (replicate 32 false) (lands_now st) 32 false (length-replicate 32 false) landing t w
 
-      said-is : next.said ≡ row_said (started k s)
+      said-is : Ok next.row ≡ row_said (started k s)
       unfolding advanced_by started starting_control starting_pair kept_of state_of
-      said-is = ap (λ n. n.said) moving ∙ said_same st (starting_control k s) (starting_pair k s)
+      said-is = ap (λ (n : Advanced). Ok n.row) moving ∙ said_same st (starting_control k s) (starting_pair k s)
 
       play_is : next.play ≡ play_laid st.play (tick k s i)
       unfolding advanced_by starting_control starting_pair kept_of state_of
@@ -165,7 +164,7 @@ module _ (st : Station) (input : given.Input) (valued : Valued st.nodes) where
 
       -- nothing lands and no run ends: the nodes stay
       idle_way : all (is_idle_at lands ends) (up_to 32) ≡ true
-          → Answers st (ticked k s i) (record { said = next.said; station = with_play_and_nodes st next.play st.nodes })
+          → Answers st (ticked k s i) (record { said = Ok next.row; station = with_play_and_nodes st next.play st.nodes })
       idle_way idle =
           let both : (t : ℕ) → t < 32 → is_idle_at lands ends t ≡ true = λ t w. all-up_to-true (is_idle_at lands ends) 32 t idle w in
           accepted said-is play_is
@@ -181,10 +180,10 @@ module _ (st : Station) (input : given.Input) (valued : Valued st.nodes) where
 
         busy_way : due ≡ due-now
             → Answers st (ticked k s i)
-            (record { said = next.said; station = with_play_and_nodes st next.play (nodes_by st.fixed part st.nodes) })
+            (record { said = Ok next.row; station = with_play_and_nodes st next.play (nodes_by st.fixed part st.nodes) })
         busy_way sent = accepted said-is play_is (nodes-same st input next.play ends reads landing sent ends_at within held-there b)
 
-        pub accepted_way : b ≡ all (is_idle_at lands ends) (up_to 32) → due ≡ cond b (replicate 32 0) due-now → Completes st input next.said part
+        pub accepted_way : b ≡ all (is_idle_at lands ends) (up_to 32) → due ≡ cond b (replicate 32 0) due-now → Completes st input (Ok next.row) part
         accepted_way e sent =
             record {
               idle = λ t. idle_way (sym e ∙ t);

@@ -1,27 +1,24 @@
 -- No second answer of a tick says of a station what the rules say of it.
 use mathlib.Core.Path.{◌≡◌, refl, sym, ap, ◌∙◌}
 use mathlib.Core.Bool.{true}
+use Rattle.std.specs.Prelude.{Ok, Err}
 use Rattle.laws.specs.Res.{Res, ok}
 use Rattle.laws.proofs.Res.{refuse≢ok, ok_injective}
 use Rattle.answers.specs.declared.Refusal.{Refusal}
 use Rattle.answers.proofs.Said.{said-once}
 use Rattle.rules.specs.Station as rules
-use Rattle.station.specs.Answers.{Answers, outcome, is_refused}
-use Rattle.stationmoves.specs.declared.Said.{Said}
-use Rattle.stationmoves.specs.declared.Said.TheVariants.{Control, Data, Quiet, Refused}
+use Rattle.station.specs.Answers.{Answers, Said, outcome, is_refused}
 use Rattle.station.specs.declared.Station.{Station}
 use Rattle.station.specs.declared.Ticked.{Ticked}
 
 -- what was said is a row or none, or a refusal
 data Sorted : Said → Type 0 where
   accepted : {w : Said} → ((r : Ticked) → outcome w r ≡ ok r) → Sorted w
-  refused : {w : Said} (x : Refusal) → w ≡ Refused x → Sorted w
+  refused : {w : Said} (x : Refusal) → w ≡ Err x → Sorted w
 
 sort : (w : Said) → Sorted w
-sort (Control w) = accepted (λ r. refl)
-sort (Data w) = accepted (λ r. refl)
-sort Quiet = accepted (λ r. refl)
-sort (Refused x) = refused x refl
+sort (Ok row) = accepted (λ r. refl)
+sort (Err x) = refused x refl
 
 made : {v w : Said} {x y : Station} → v ≡ w → x ≡ y → ◌≡◌ {A = Ticked} (record { said = v; station = x }) (record { said = w; station = y })
 made e f = rw (e, f)
@@ -34,7 +31,7 @@ module _ (st : Station) (a b : Ticked) where
   by_sort (refused x f) (accepted g) e p q = refuse≢ok (sym (ap (λ w. outcome w a) f) ∙ e ∙ g b)
   by_sort (refused x f) (refused y g) e p q =
       let same : x ≡ y = said-once x y (sym (ap (λ w. outcome w a) f) ∙ e ∙ ap (λ w. outcome w b) g) in
-      made (f ∙ ap Refused same ∙ sym g) (p (ap is_refused f) ∙ sym (q (ap is_refused g)))
+      made (f ∙ ap Err same ∙ sym g) (p (ap is_refused f) ∙ sym (q (ap is_refused g)))
 
   pub answers-once : (rule : Res rules.Ticked) → Answers st rule a → Answers st rule b → a ≡ b
   answers-once rule p q = by_sort (sort a.said) (sort b.said) (p.says ∙ sym q.says) p.unchanged q.unchanged

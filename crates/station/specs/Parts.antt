@@ -10,11 +10,10 @@ use Rattle.stationnodes.specs.Nodes.{no_node, node_rule}
 use Rattle.stationnodes.specs.declared.Node.{Node}
 use Rattle.stationrefusals.specs.declared.Fixed.{Fixed}
 use Rattle.stationrefusals.specs.declared.Play.{Play}
-use Rattle.stationmoves.specs.declared.Said.{Said}
 use Rattle.station.specs.declared.Station.{Station}
 use Rattle.station.specs.declared.BeforeNodes.{BeforeNodes}
 use Rattle.station.specs.Memory.{ruled}
-use Rattle.station.specs.Answers.{Answers}
+use Rattle.station.specs.Answers.{Answers, Said}
 
 -- the first part of a tick that is refused
 abbrev pub left_alone : Play → BeforeNodes

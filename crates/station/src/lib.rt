@@ -10,9 +10,9 @@ ghost use Rattle.stationrefusals.specs.Refusing.{refused_by};
 ghost use Rattle.station.specs.Answers.{Answers};
 ghost use Rattle.station.specs.Parts.{Completes, Valued, due_by, left_alone, nodes_by, station_by};
 
-use answers::Verdict;
+use answers::Refusal;
 use stationbus::modes_at;
-use stationmoves::{Said, advance};
+use stationmoves::{StartedRow, advance};
 use stationnodes::{Node, is_idle, lands, nodes_after, shown_on};
 use stationrefusals::{Controls, Fixed, Modes, Modules, Play, Tasks, refused};
 use stationruns::Input;
@@ -36,9 +36,10 @@ pub struct Station {
     pub nodes: [Node; NodeNo::MOST],
 }
 
+// What a tick says, a refusal or the row that starts, and the station after it.
 #[derive(Clone, Copy)]
 pub struct Ticked {
-    pub said: Said,
+    pub said: Result<Option<StartedRow>, Refusal>,
     pub station: Station,
 }
 
@@ -57,7 +58,7 @@ pub struct BeforeNodes {
 // What a tick says, and its part before the nodes.
 #[derive(Clone, Copy)]
 pub struct TickBeforeNodes {
-    pub said: Said,
+    pub said: Result<Option<StartedRow>, Refusal>,
     pub part: BeforeNodes,
 }
 
@@ -121,7 +122,7 @@ fn accepted<'a>(
         pair_stops,
         pair_modes,
     );
-    let pairs = fixed.pairs as usize;
+    let pairs = usize::from(fixed.pairs);
     let landing = lands(pair_tasks, pair_stops, pairs, play.clock, &play.full);
     let idle = is_idle(&landing, &ends);
     let due = due_now(
@@ -132,10 +133,10 @@ fn accepted<'a>(
         pair_deadlines,
         pair_modes,
     );
-    let said = next.said;
+    let row = next.row;
     let after = next.play;
     TickBeforeNodes {
-        said,
+        said: Ok(row),
         part: BeforeNodes {
             play: after,
             idle,
@@ -171,11 +172,11 @@ pub fn tick_before_nodes<'a>(
         pair_starts,
         pair_stops,
     ) {
-        Verdict::Refused(x) => TickBeforeNodes {
-            said: Said::Refused(x),
+        Err(why) => TickBeforeNodes {
+            said: Err(why),
             part: left_alone(play),
         },
-        Verdict::Fine => accepted(
+        Ok(()) => accepted(
             input,
             fixed,
             play,
@@ -282,7 +283,7 @@ impl Station {
             &self.pair_modes,
         );
         let part = first.part;
-        if part.idle {} else {
+        if !part.idle {
             let nodes = self.nodes;
             let shown = nodes_after_tick(nodes, fixed, part);
             self.nodes = shown;

@@ -1,3 +1,4 @@
 pub mod Ways
 pub mod Pairs
 pub mod Taken
+pub mod Chains

@@ -10,7 +10,7 @@ use lib.ListN.{length, get_or, set, replicate, length-replicate, get_or-replicat
 use Prim.Native.Nat.{ℕ, ◌+◌, ◌^◌, ◌≤◌, ◌<◌}
 use Rattle.laws.specs.Lists.{all, up_to}
 use Rattle.laws.specs.Loops.{stores}
-use Rattle.laws.proofs.Lists.{true-false, both_left, both_right, any-up_to_more, any-up_to-none, all-up_to-true}
+use Rattle.laws.proofs.Lists.{true-false, and-true, or-false, both_left, both_right, any-up_to_more, any-up_to-none, all-up_to-true}
 use Rattle.laws.proofs.Stores.{stores_same, stores-idle, stores-within, stores-changed}
 use Rattle.places.specs.Bits.{bit_at, bits_of}
 use Rattle.places.proofs.Bits.{or-bits, bits_agree}
@@ -21,14 +21,6 @@ use Rattle.stationbus.specs.Bus.{number_at, truth_at, has_other, is_pair_at, som
 and-false : (b : Bool) → (b && false) ≡ false
 and-false true = refl
 and-false false = refl
-
-and-true : (b : Bool) → (b && true) ≡ b
-and-true true = refl
-and-true false = refl
-
-or-false : (b : Bool) → (b || false) ≡ b
-or-false true = refl
-or-false false = refl
 
 or_picked : (b c : Bool) → (b || c) ≡ cond c true b
 or_picked true true = refl

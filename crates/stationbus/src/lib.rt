@@ -2,55 +2,47 @@
 // Each step is on the array that it changes; what it reads is lent.
 #![tactic(auto)]
 
-ghost use Rattle.std.specs.Prelude.{◌≡◌, cond, false, ◌&&◌, leb, get_or, length, replicate, ℕ, ◌*◌, ◌^◌, ◌<◌};
-ghost use Rattle.std.specs.Int.Bits.{bit_or};
+ghost use Rattle.std.specs.Prelude.{◌≡◌, cond, false, ◌&&◌, leb, get_or, length, replicate, ℕ, ◌*◌, ◌<◌};
 ghost use Rattle.laws.specs.Lists.{all, up_to};
 ghost use Rattle.laws.specs.Loops.{stores};
 ghost use Rattle.rules.specs.Limits.{most_modules, most_nodes, most_tasks};
 ghost use Rattle.rules.specs.Station.{row_with};
 ghost use Rattle.places.specs.Flags.{flag_byte};
-ghost use Rattle.places.specs.Found.{place_in};
+ghost use Rattle.places.specs.Spot.{spot_in};
 ghost use Rattle.stationbus.specs.Bus.{byte_from_rule, full_by, full_from, full_rule, full_still, has_other, held_at, held_by, held_rule, is_byte_at, load_from, load_rule, mode_byte_rule, modes_at, number_at, some_pair_at, truth_at};
 
-use figures::both;
-use places::{Found, byte_at, flag_at, flag_byte, has_bit, is_set, number_at};
+use places::{entry_or, flag_at, flag_byte, has_bit, is_set};
 use units::{Frame, ModuleNo, NodeNo, TaskNo, Ticks};
 
 // Whether so many rows are there and none has this time. The scan does not end early, so that it is one straight pass.
 fn lacks<'a>(times: &'a [u32], count: usize, time: Ticks) -> bool
     ensures { result ≡ (leb count (length times.now) && all (has_other times.now time.0) (up_to count)) }
 {
-    if times.len() < count {
-        return false;
+    match times.get(..count) {
+        Some(rows) => rows
+            .iter()
+            .fold(true, |other, row| other & (*row != time.0)),
+        None => false,
     }
-    let mut other = true;
-    let mut row = 0;
-    while row < count {
-        other = both(other, times[row] != time.0);
-        row += 1;
-    }
-    other
 }
 
-fn first_with<'a>(times: &'a [u32], count: usize, time: Ticks) -> Found
-    ensures { place_in result ≡ row_with (number_at times.now) count time.0 }
+fn first_with<'a>(times: &'a [u32], count: usize, time: Ticks) -> Option<usize>
+    ensures { spot_in result ≡ row_with (number_at times.now) count time.0 }
 {
-    let mut row = 0;
-    while row < count {
-        if number_at(times, row) == time.0 {
-            return Found::At(row);
+    for row in 0..count {
+        if entry_or(times, row, 0) == time.0 {
+            return Some(row);
         }
-        row += 1;
     }
-    Found::Nothing
+    None
 }
 
 // The lowest of so many rows that has this time; at most ticks none has.
-pub fn row_with<'a>(times: &'a [u32], count: usize, time: Ticks) -> Found
-    ensures { place_in result ≡ row_with (number_at times.now) count time.0 }
+pub fn row_with<'a>(times: &'a [u32], count: usize, time: Ticks) -> Option<usize>
+    ensures { spot_in result ≡ row_with (number_at times.now) count time.0 }
 {
     if lacks(times, count, time) {
-        Found::Nothing
+        None
     } else {
         first_with(times, count, time)
     }
@@ -65,7 +57,7 @@ fn is_byte_of<'a>(
 ) -> bool
     ensures { result ≡ is_byte_at sends.now nodes.now sender m }
 {
-    both(flag_at(sends, m), byte_at(nodes, m) == sender)
+    flag_at(sends, m) && usize::from(entry_or(nodes, m, 0)) == sender
 }
 
 fn held_at<'a>(
@@ -79,10 +71,7 @@ fn held_at<'a>(
     ensures { result ≡ held_by sends.now nodes.now bytes.now sender place old }
 {
     let m = place % ModuleNo::MOST;
-    if both(
-        is_byte_of(sends, nodes, sender, m),
-        byte_at(nodes, m) != place / ModuleNo::MOST,
-    ) {
+    if is_byte_of(sends, nodes, sender, m) && usize::from(nodes[m]) != place / ModuleNo::MOST {
         bytes[m]
     } else {
         old
@@ -98,10 +87,8 @@ fn held_from<'a>(
 ) -> [u8; NodeNo::MOST * ModuleNo::MOST]
     ensures { result ≡ stores held (held_at sends.now nodes.now bytes.now sender held) (most_nodes * most_modules) }
 {
-    let mut place = 0;
-    while place < NodeNo::MOST * ModuleNo::MOST {
-        held[place] = held_at(held[place], place, sender, sends, nodes, bytes);
-        place += 1;
+    for (place, byte) in held.iter_mut().enumerate() {
+        *byte = held_at(*byte, place, sender, sends, nodes, bytes);
     }
     held
 }
@@ -109,18 +96,21 @@ fn held_from<'a>(
 // (b) A control frame that stops now: `row` is its row, `control_nodes` the rows' nodes.
 pub fn held_after<'a>(
     held: [u8; NodeNo::MOST * ModuleNo::MOST],
-    row: Found,
+    row: Option<usize>,
     control_nodes: &'a [u8; NodeNo::MOST],
     sends: &'a [u8; ModuleNo::MOST],
     nodes: &'a [u8; ModuleNo::MOST],
     bytes: &'a [u8; ModuleNo::MOST],
 ) -> [u8; NodeNo::MOST * ModuleNo::MOST]
-    ensures value { result ≡ stores held (held_rule sends.now nodes.now bytes.now control_nodes.now held (place_in row)) (most_nodes * most_modules) }
-    ensures reads { (j : ℕ) → j < most_nodes * most_modules → get_or result j 0 ≡ held_rule sends.now nodes.now bytes.now control_nodes.now held (place_in row) j }
+    ensures value { result ≡ stores held (held_rule sends.now nodes.now bytes.now control_nodes.now held (spot_in row)) (most_nodes * most_modules) }
+    ensures reads { (j : ℕ) → j < most_nodes * most_modules → get_or result j 0 ≡ held_rule sends.now nodes.now bytes.now control_nodes.now held (spot_in row) j }
 {
     match row {
-        Found::Nothing => held,
-        Found::At(r) => held_from(held, byte_at(control_nodes, r), sends, nodes, bytes),
+        None => held,
+        Some(r) => {
+            let sender = usize::from(entry_or(control_nodes, r, 0));
+            held_from(held, sender, sends, nodes, bytes)
+        }
     }
 }
 
@@ -150,10 +140,8 @@ fn bytes_from<'a>(
 ) -> [u8; ModuleNo::MOST]
     ensures { result ≡ stores bytes (byte_from_rule sends.now nodes.now (number_at modes.now) sender bytes) most_modules }
 {
-    let mut m = 0;
-    while m < ModuleNo::MOST {
-        bytes[m] = byte_from(bytes[m], m, sender, sends, nodes, modes[m]);
-        m += 1;
+    for (m, byte) in bytes.iter_mut().enumerate() {
+        *byte = byte_from(*byte, m, sender, sends, nodes, modes[m]);
     }
     bytes
 }
@@ -161,17 +149,20 @@ fn bytes_from<'a>(
 // (f) A control frame that starts now takes the mode bytes.
 pub fn bytes_after<'a>(
     bytes: [u8; ModuleNo::MOST],
-    row: Found,
+    row: Option<usize>,
     control_nodes: &'a [u8; NodeNo::MOST],
     sends: &'a [u8; ModuleNo::MOST],
     nodes: &'a [u8; ModuleNo::MOST],
     modes: &'a [u8; ModuleNo::MOST],
 ) -> [u8; ModuleNo::MOST]
-    ensures { result ≡ stores bytes (mode_byte_rule sends.now nodes.now (number_at modes.now) control_nodes.now bytes (place_in row)) most_modules }
+    ensures { result ≡ stores bytes (mode_byte_rule sends.now nodes.now (number_at modes.now) control_nodes.now bytes (spot_in row)) most_modules }
 {
     match row {
-        Found::Nothing => bytes,
-        Found::At(r) => bytes_from(bytes, byte_at(control_nodes, r), sends, nodes, modes),
+        None => bytes,
+        Some(r) => {
+            let sender = usize::from(entry_or(control_nodes, r, 0));
+            bytes_from(bytes, sender, sends, nodes, modes)
+        }
     }
 }
 
@@ -184,13 +175,11 @@ fn tasks_from<'a>(
     ensures { result ≡ stores (replicate most_tasks false) (some_pair_at pair_tasks.now times.now pairs time.0) most_tasks }
 {
     let mut some = [false; TaskNo::MOST];
-    let mut q = 0;
-    while q < pairs {
-        let task = byte_at(pair_tasks, q);
-        if both(number_at(times, q) == time.0, task < TaskNo::MOST) {
+    for q in 0..pairs {
+        let task = usize::from(entry_or(pair_tasks, q, 0));
+        if entry_or(times, q, 0) == time.0 && task < TaskNo::MOST {
             some[task] = true;
         }
-        q += 1;
     }
     some
 }
@@ -211,13 +200,6 @@ pub fn tasks_at<'a>(
     }
 }
 
-// The bits of either; a word has 32.
-fn joined(a: u32, b: u32) -> u32
-    ensures { (result ≡ bit_or a b) × (b < 2 ^ 32) }
-{
-    a | b
-}
-
 fn modes_from<'a>(
     pair_tasks: &'a [u8; Frame::MOST],
     times: &'a [u32; Frame::MOST],
@@ -228,13 +210,11 @@ fn modes_from<'a>(
     ensures { result ≡ stores (replicate most_tasks 0) (modes_at pair_tasks.now times.now pair_modes.now pairs time.0) most_tasks }
 {
     let mut modes = [0; TaskNo::MOST];
-    let mut q = 0;
-    while q < pairs {
-        let task = byte_at(pair_tasks, q);
-        if both(number_at(times, q) == time.0, task < TaskNo::MOST) {
-            modes[task] = joined(modes[task], number_at(pair_modes, q));
+    for q in 0..pairs {
+        let task = usize::from(entry_or(pair_tasks, q, 0));
+        if entry_or(times, q, 0) == time.0 && task < TaskNo::MOST {
+            modes[task] |= entry_or(pair_modes, q, 0);
         }
-        q += 1;
     }
     modes
 }
@@ -259,20 +239,18 @@ pub fn modes_at<'a>(
 fn full_at(full: u8, starts: bool, modes: u32, mode: usize) -> u8
     ensures { result ≡ flag_byte (full_by full starts modes mode) }
 {
-    if starts {
-        flag_byte(has_bit(modes, mode))
+    flag_byte(if starts {
+        has_bit(modes, mode)
     } else {
-        flag_byte(is_set(full))
-    }
+        is_set(full)
+    })
 }
 
 fn full_kept(mut full: [u8; TaskNo::MOST]) -> [u8; TaskNo::MOST]
     ensures { result ≡ stores full (full_still full) most_tasks }
 {
-    let mut t = 0;
-    while t < TaskNo::MOST {
-        full[t] = flag_byte(is_set(full[t]));
-        t += 1;
+    for flag in full.iter_mut() {
+        *flag = flag_byte(is_set(*flag));
     }
     full
 }
@@ -286,11 +264,10 @@ fn full_from<'a>(
 ) -> [u8; TaskNo::MOST]
     ensures { result ≡ stores full (full_from (truth_at starting.now) (number_at sent.now) homes.now (number_at modes.now) full) most_tasks }
 {
-    let mut t = 0;
-    while t < TaskNo::MOST {
-        let mode = byte_at(modes, byte_at(homes, t));
-        full[t] = full_at(full[t], starting[t], sent[t], mode);
-        t += 1;
+    for (t, flag) in full.iter_mut().enumerate() {
+        let home = usize::from(homes[t]);
+        let mode = usize::from(entry_or(modes, home, 0));
+        *flag = full_at(*flag, starting[t], sent[t], mode);
     }
     full
 }
@@ -299,7 +276,7 @@ fn full_from<'a>(
 // the lowest pair that starts now.
 pub fn full_after<'a>(
     full: [u8; TaskNo::MOST],
-    first: Found,
+    first: Option<usize>,
     pairs: usize,
     time: Ticks,
     pair_tasks: &'a [u8; Frame::MOST],
@@ -308,22 +285,16 @@ pub fn full_after<'a>(
     homes: &'a [u8; TaskNo::MOST],
     modes: &'a [u8; ModuleNo::MOST],
 ) -> [u8; TaskNo::MOST]
-    ensures { result ≡ stores full (full_rule pair_tasks.now pair_starts.now pair_modes.now pairs time.0 homes.now (number_at modes.now) full (place_in first)) most_tasks }
+    ensures { result ≡ stores full (full_rule pair_tasks.now pair_starts.now pair_modes.now pairs time.0 homes.now (number_at modes.now) full (spot_in first)) most_tasks }
 {
     match first {
-        Found::Nothing => full_kept(full),
-        Found::At(_) => {
+        None => full_kept(full),
+        Some(_) => {
             let starting = tasks_at(pair_tasks, pair_starts, pairs, time);
             let sent = modes_at(pair_tasks, pair_starts, pair_modes, pairs, time);
             full_from(full, &starting, &sent, homes, modes)
         }
     }
-}
-
-fn load_at(load: u64, starts: bool, out: u64) -> u64
-    ensures { result ≡ cond starts out load }
-{
-    if starts { out } else { load }
 }
 
 fn loads_from<'a>(
@@ -333,10 +304,10 @@ fn loads_from<'a>(
 ) -> [u64; TaskNo::MOST]
     ensures { result ≡ stores loads (load_from (truth_at starting.now) (number_at out.now) loads) most_tasks }
 {
-    let mut t = 0;
-    while t < TaskNo::MOST {
-        loads[t] = load_at(loads[t], starting[t], out[t]);
-        t += 1;
+    for (t, load) in loads.iter_mut().enumerate() {
+        if starting[t] {
+            *load = out[t];
+        }
     }
     loads
 }
@@ -344,18 +315,18 @@ fn loads_from<'a>(
 // (f): and it is the task's out-box.
 pub fn loads_after<'a>(
     loads: [u64; TaskNo::MOST],
-    first: Found,
+    first: Option<usize>,
     pairs: usize,
     time: Ticks,
     pair_tasks: &'a [u8; Frame::MOST],
     pair_starts: &'a [u32; Frame::MOST],
     out: &'a [u64; TaskNo::MOST],
 ) -> [u64; TaskNo::MOST]
-    ensures { result ≡ stores loads (load_rule pair_tasks.now pair_starts.now pairs time.0 (number_at out.now) loads (place_in first)) most_tasks }
+    ensures { result ≡ stores loads (load_rule pair_tasks.now pair_starts.now pairs time.0 (number_at out.now) loads (spot_in first)) most_tasks }
 {
     match first {
-        Found::Nothing => loads,
-        Found::At(_) => {
+        None => loads,
+        Some(_) => {
             let starting = tasks_at(pair_tasks, pair_starts, pairs, time);
             loads_from(loads, &starting, out)
         }

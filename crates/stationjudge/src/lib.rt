@@ -4,14 +4,13 @@
 ghost use Rattle.std.specs.Prelude.{◌≡◌, ◌<◌};
 ghost use Rattle.laws.specs.Lists.{first_bad, up_to};
 ghost use Rattle.rules.specs.Limits.{most_modules, most_tasks};
-ghost use Rattle.stationruns.specs.Inputs.{given_if};
-ghost use Rattle.places.specs.Found.{place_in};
+ghost use Rattle.places.specs.Spot.{spot_in};
 ghost use Rattle.stationjudge.specs.Judging.{allowed_test, allows, awaited_test, changes_judged, fits_test, in_time_test, results_judged};
-ghost use Rattle.answers.specs.Refusals.{heard};
+ghost use Rattle.answers.specs.Answered.{judged};
 
-use answers::{Refusal, Verdict};
-use figures::{both, divides, wide};
-use places::{Found, byte_at, is_set, number_at};
+use answers::Refusal;
+use figures::divides;
+use places::{entry_or, is_set};
 use stationruns::{fits, is_awaited, is_in_time, run_at};
 use units::{ByteCount, ModeNo, ModuleNo, TaskNo, Ticks};
 
@@ -25,24 +24,18 @@ pub fn not_awaited<'a>(
     homes: &'a [u8; TaskNo::MOST],
     had: &'a [u8; TaskNo::MOST],
     worsts: &'a [u32; TaskNo::MOST],
-) -> Found
-    ensures { place_in result ≡ first_bad (awaited_test given.now tasks runs.now modes.now ages.now homes.now had.now worsts.now) (up_to most_tasks) }
+) -> Option<usize>
+    ensures { spot_in result ≡ first_bad (awaited_test given.now tasks runs.now modes.now ages.now homes.now had.now worsts.now) (up_to most_tasks) }
 {
-    let mut t = 0;
-    while t < TaskNo::MOST {
-        if is_awaited(
-            is_set(given[t]),
-            run_at(runs, modes, ages, homes, TaskNo(t as u8)),
-            t < tasks as usize,
-            is_set(had[t]),
-            Ticks(worsts[t]),
-        ) {
-            t += 1;
-        } else {
-            return Found::At(t);
+    for t in 0..TaskNo::MOST {
+        let run = run_at(runs, modes, ages, homes, TaskNo(t as u8));
+        let in_plan = t < usize::from(tasks);
+        let worst = Ticks(worsts[t]);
+        if !is_awaited(is_set(given[t]), run, in_plan, is_set(had[t]), worst) {
+            return Some(t);
         }
     }
-    Found::Nothing
+    None
 }
 
 // 42: the first task place with a result that needs more bytes than the message has.
@@ -50,18 +43,16 @@ pub fn too_large<'a>(
     results: &'a [u64; TaskNo::MOST],
     given: &'a [u8; TaskNo::MOST],
     sizes: &'a [u8; TaskNo::MOST],
-) -> Found
-    ensures { place_in result ≡ first_bad (fits_test results.now given.now sizes.now) (up_to most_tasks) }
+) -> Option<usize>
+    ensures { spot_in result ≡ first_bad (fits_test results.now given.now sizes.now) (up_to most_tasks) }
 {
-    let mut t = 0;
-    while t < TaskNo::MOST {
-        if fits(is_set(given[t]), results[t], ByteCount(wide(sizes[t]))) {
-            t += 1;
-        } else {
-            return Found::At(t);
+    for t in 0..TaskNo::MOST {
+        let result = is_set(given[t]).then_some(results[t]);
+        if !fits(result, ByteCount(u32::from(sizes[t]))) {
+            return Some(t);
         }
     }
-    Found::Nothing
+    None
 }
 
 // 43: the first task place whose run has come to its worst time without a result.
@@ -74,29 +65,22 @@ pub fn overdue<'a>(
     homes: &'a [u8; TaskNo::MOST],
     had: &'a [u8; TaskNo::MOST],
     worsts: &'a [u32; TaskNo::MOST],
-) -> Found
-    ensures { place_in result ≡ first_bad (in_time_test given.now tasks runs.now modes.now ages.now homes.now had.now worsts.now) (up_to most_tasks) }
+) -> Option<usize>
+    ensures { spot_in result ≡ first_bad (in_time_test given.now tasks runs.now modes.now ages.now homes.now had.now worsts.now) (up_to most_tasks) }
 {
-    let mut t = 0;
-    while t < TaskNo::MOST {
-        if is_in_time(
-            is_set(given[t]),
-            run_at(runs, modes, ages, homes, TaskNo(t as u8)),
-            t < tasks as usize,
-            is_set(had[t]),
-            Ticks(worsts[t]),
-        ) {
-            t += 1;
-        } else {
-            return Found::At(t);
+    for t in 0..TaskNo::MOST {
+        let run = run_at(runs, modes, ages, homes, TaskNo(t as u8));
+        let in_plan = t < usize::from(tasks);
+        let worst = Ticks(worsts[t]);
+        if !is_in_time(is_set(given[t]), run, in_plan, is_set(had[t]), worst) {
+            return Some(t);
         }
     }
-    Found::Nothing
+    None
 }
 
 fn is_allowed<'a>(
-    changed: bool,
-    mode: ModeNo,
+    change: Option<u8>,
     m: ModuleNo,
     module_count: u8,
     mode_count: u8,
@@ -104,16 +88,16 @@ fn is_allowed<'a>(
     switch: Ticks,
     age: Ticks,
 ) -> bool
-    ensures { result ≡ allows module_count mode_count homes.now switch.0 age.0 m.0 (given_if changed mode.0) }
+    ensures { result ≡ allows module_count mode_count homes.now switch.0 age.0 m.0 (spot_in change) }
 {
-    if changed {
-        let own = both(
-            mode.0 < mode_count,
-            byte_at(homes, mode.place()) == m.place(),
-        );
-        both(both(m.0 < module_count, own), divides(switch.0, age.0))
-    } else {
-        true
+    match change {
+        Some(mode) => {
+            m.0 < module_count
+                && mode < mode_count
+                && entry_or(homes, ModeNo(mode).place(), 0) == m.0
+                && divides(switch.0, age.0)
+        }
+        None => true,
     }
 }
 
@@ -127,15 +111,13 @@ pub fn not_allowed<'a>(
     switches: &'a [u32; ModeNo::MOST],
     running: &'a [u8; ModuleNo::MOST],
     ages: &'a [u32; ModuleNo::MOST],
-) -> Found
-    ensures { place_in result ≡ first_bad (allowed_test modes.now changed.now module_count mode_count homes.now switches.now running.now ages.now) (up_to most_modules) }
+) -> Option<usize>
+    ensures { spot_in result ≡ first_bad (allowed_test modes.now changed.now module_count mode_count homes.now switches.now running.now ages.now) (up_to most_modules) }
 {
-    let mut m = 0;
-    while m < ModuleNo::MOST {
-        let switch = Ticks(number_at(switches, byte_at(running, m)));
-        if is_allowed(
-            is_set(changed[m]),
-            ModeNo(modes[m]),
+    for m in 0..ModuleNo::MOST {
+        let switch = Ticks(entry_or(switches, ModeNo(running[m]).place(), 0));
+        if !is_allowed(
+            is_set(changed[m]).then_some(modes[m]),
             ModuleNo(m as u8),
             module_count,
             mode_count,
@@ -143,12 +125,10 @@ pub fn not_allowed<'a>(
             switch,
             Ticks(ages[m]),
         ) {
-            m += 1;
-        } else {
-            return Found::At(m);
+            return Some(m);
         }
     }
-    Found::Nothing
+    None
 }
 
 // The first refusal of 41 to 43, all by the state before the tick.
@@ -163,24 +143,24 @@ pub fn judged_results<'a>(
     had: &'a [u8; TaskNo::MOST],
     sizes: &'a [u8; TaskNo::MOST],
     worsts: &'a [u32; TaskNo::MOST],
-) -> Verdict
-    ensures { heard result ≡ results_judged results.now given.now tasks runs.now modes.now ages.now homes.now had.now sizes.now worsts.now }
+) -> Result<(), Refusal>
+    ensures { judged result ≡ results_judged results.now given.now tasks runs.now modes.now ages.now homes.now had.now sizes.now worsts.now }
 {
-    match not_awaited(given, tasks, runs, modes, ages, homes, had, worsts) {
-        Found::At(t) => Verdict::Refused(Refusal::NotAwaited(TaskNo(t as u8))),
-        Found::Nothing => match too_large(results, given, sizes) {
-            Found::At(t) => Verdict::Refused(Refusal::ResultTooLarge(TaskNo(t as u8))),
-            Found::Nothing => match overdue(given, tasks, runs, modes, ages, homes, had, worsts) {
-                Found::At(t) => Verdict::Refused(Refusal::ResultOverdue(TaskNo(t as u8))),
-                Found::Nothing => Verdict::Fine,
-            },
-        },
+    if let Some(t) = not_awaited(given, tasks, runs, modes, ages, homes, had, worsts) {
+        return Err(Refusal::NotAwaited(TaskNo(t as u8)));
     }
+    if let Some(t) = too_large(results, given, sizes) {
+        return Err(Refusal::ResultTooLarge(TaskNo(t as u8)));
+    }
+    if let Some(t) = overdue(given, tasks, runs, modes, ages, homes, had, worsts) {
+        return Err(Refusal::ResultOverdue(TaskNo(t as u8)));
+    }
+    Ok(())
 }
 
 // 44, where nothing was refused before.
 pub fn judged_changes<'a>(
-    before: Verdict,
+    before: Result<(), Refusal>,
     modes: &'a [u8; ModuleNo::MOST],
     changed: &'a [u8; ModuleNo::MOST],
     module_count: u8,
@@ -189,23 +169,21 @@ pub fn judged_changes<'a>(
     switches: &'a [u32; ModeNo::MOST],
     running: &'a [u8; ModuleNo::MOST],
     ages: &'a [u32; ModuleNo::MOST],
-) -> Verdict
-    ensures { heard result ≡ changes_judged (heard before) modes.now changed.now module_count mode_count homes.now switches.now running.now ages.now }
+) -> Result<(), Refusal>
+    ensures { judged result ≡ changes_judged (judged before) modes.now changed.now module_count mode_count homes.now switches.now running.now ages.now }
 {
-    match before {
-        Verdict::Refused(x) => Verdict::Refused(x),
-        Verdict::Fine => match not_allowed(
-            modes,
-            changed,
-            module_count,
-            mode_count,
-            homes,
-            switches,
-            running,
-            ages,
-        ) {
-            Found::At(m) => Verdict::Refused(Refusal::ChangeNotAllowed(ModuleNo(m as u8))),
-            Found::Nothing => Verdict::Fine,
-        },
+    before?;
+    match not_allowed(
+        modes,
+        changed,
+        module_count,
+        mode_count,
+        homes,
+        switches,
+        running,
+        ages,
+    ) {
+        Some(m) => Err(Refusal::ChangeNotAllowed(ModuleNo(m as u8))),
+        None => Ok(()),
     }
 }

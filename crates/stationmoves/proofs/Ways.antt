@@ -2,6 +2,7 @@
 use mathlib.Core.Path.{◌≡◌, refl}
 use mathlib.Core.List.{List}
 use mathlib.Core.Option.{Option, none, some}
+use Rattle.std.specs.Prelude as code
 use lib.ListN.{get_or}
 use Prim.Native.Nat.{ℕ}
 use Rattle.laws.specs.Loops.{stores}
@@ -10,7 +11,7 @@ use Rattle.stationbus.specs.Bus.{mode_byte_rule, full_rule, load_rule}
 use Rattle.units.specs.declared.Ticks.{Ticks}
 use Rattle.stationrefusals.specs.declared.Play.{Play}
 use Rattle.stationmoves.specs.declared.Advanced.{Advanced}
-use Rattle.stationmoves.specs.declared.Said.{Said}
+use Rattle.stationmoves.specs.declared.StartedRow.{StartedRow}
 
 -- what a tick changes beside the nodes
 pub play_made : {t t' : Ticks} {run run' ages ages' bytes bytes' givens givens' out out' held held' full full' loads loads' : List ℕ}
@@ -58,7 +59,7 @@ module _ (f g : ℕ → ℕ) (same : (k : ℕ) → f k ≡ g k) where
         (λ t w. load_at loads o t)
 
 -- the rows that start decide both parts
-pub advanced_made : {n n' : ℕ} {a a' b b' : Option ℕ} {s : Said} {p : Play} (S : Option ℕ → Option ℕ → Said) (P : ℕ → Option ℕ → Option ℕ → Play)
+pub advanced_made : {n n' : ℕ} {a a' b b' : Option ℕ} {s : code.Option StartedRow} {p : Play} (S : Option ℕ → Option ℕ → code.Option StartedRow) (P : ℕ → Option ℕ → Option ℕ → Play)
     → n ≡ n' → a ≡ a' → b ≡ b' → s ≡ S a b → p ≡ P n a b
-    → ◌≡◌ {A = Advanced} (record { said = s; play = p }) (record { said = S a' b'; play = P n' a' b' })
+    → ◌≡◌ {A = Advanced} (record { row = s; play = p }) (record { row = S a' b'; play = P n' a' b' })
 advanced_made S P h0 h1 h2 h3 h4 = rw (h3, h4, h0, h1, h2)

@@ -1,5 +1,6 @@
 -- What a tick makes of a station but for its nodes, on its structs and arrays. That it is the rules' is a law of the crate `station`.
-use Rattle.std.specs.Prelude.{Bool, ◌≡◌, List, get_or, ℕ, ◌*◌, ◌%◌, ◌<◌}
+use Rattle.std.specs.Prelude.{Bool, ◌≡◌, List, get_or, ℕ, ◌*◌, ◌%◌, ◌<◌, None, Some}
+use Rattle.std.specs.Prelude as code
 use Rattle.std.proofs.Math.Option.{Option, none, some}
 use Rattle.laws.specs.Loops.{stores}
 use Rattle.rules.specs.Limits.{most_nodes, most_modules, most_tasks}
@@ -13,8 +14,8 @@ use Rattle.stationrefusals.specs.declared.Play.{Play}
 use Rattle.stationmoves.specs.declared.Advanced.{Advanced}
 use Rattle.stationmoves.specs.declared.ControlRow.{ControlRow}
 use Rattle.stationmoves.specs.declared.DataRow.{DataRow}
-use Rattle.stationmoves.specs.declared.Said.{Said}
-use Rattle.stationmoves.specs.declared.Said.TheVariants.{Control, Data, Quiet}
+use Rattle.stationmoves.specs.declared.StartedRow.{StartedRow}
+use Rattle.stationmoves.specs.declared.StartedRow.TheVariants.{Control, Data}
 
 -- the row that starts: of a data row, as the pair has it
 abbrev pub control_at : Controls → ℕ → ControlRow
@@ -34,10 +35,10 @@ data_at pair_tasks pair_deadlines pair_starts pair_stops q =
       stop = record { 0 = get_or pair_stops q 0 };
     }
 
-abbrev pub said_by : Controls → List ℕ → List ℕ → List ℕ → List ℕ → Option ℕ → Option ℕ → Said
-said_by controls pair_tasks pair_deadlines pair_starts pair_stops (some r) o = Control (control_at controls r)
-said_by controls pair_tasks pair_deadlines pair_starts pair_stops none (some q) = Data (data_at pair_tasks pair_deadlines pair_starts pair_stops q)
-said_by controls pair_tasks pair_deadlines pair_starts pair_stops none none = Quiet
+abbrev pub said_by : Controls → List ℕ → List ℕ → List ℕ → List ℕ → Option ℕ → Option ℕ → code.Option StartedRow
+said_by controls pair_tasks pair_deadlines pair_starts pair_stops (some r) o = Some (Control (control_at controls r))
+said_by controls pair_tasks pair_deadlines pair_starts pair_stops none (some q) = Some (Data (data_at pair_tasks pair_deadlines pair_starts pair_stops q))
+said_by controls pair_tasks pair_deadlines pair_starts pair_stops none none = None
 
 -- (b) of a control frame, at each place of the mode bytes held
 abbrev pub held_now : Fixed → Play → ℕ → ℕ
@@ -76,7 +77,7 @@ advanced_by input fixed play ends pair_tasks pair_deadlines pair_starts pair_sto
     let control = row_with (number_at fixed.controls.starts) fixed.controls.count time in
     let first = row_with (number_at pair_starts) fixed.pairs time in
     record {
-      said = said_by fixed.controls pair_tasks pair_deadlines pair_starts pair_stops control first;
+      row = said_by fixed.controls pair_tasks pair_deadlines pair_starts pair_stops control first;
       play = play_after input fixed play time control first ends pair_tasks pair_starts pair_modes;
     }
 

@@ -3,27 +3,26 @@
 
 ghost use Rattle.std.specs.Prelude.{◌≡◌, ℕ, ◌*◌, ◌<◌, get_or};
 ghost use Rattle.laws.specs.Loops.{stores};
-ghost use Rattle.places.specs.Found.{place_in};
+ghost use Rattle.places.specs.Spot.{spot_in};
 ghost use Rattle.rules.specs.Limits.{most_modules, most_nodes};
 ghost use Rattle.stationmoves.specs.Moving.{Reads, advanced_by, control_at, data_at, held_now, play_after, said_by};
 
-use answers::Refusal;
 use figures::rest;
-use places::{Found, byte_at, number_at};
+use places::entry_or;
 use stationbus::{bytes_after, full_after, held_after, loads_after, row_with};
 use stationrefusals::{Controls, Fixed, Play};
 use stationruns::Input;
 use stationsteps::{ages_after, had_after, modes_after, one_on, out_after};
 use units::{Frame, ModuleNo, NodeNo, TaskNo, Ticks};
 
-#[derive(Clone, Copy)]
+#[derive(Clone, Copy, PartialEq, Eq)]
 pub struct ControlRow {
     pub node: NodeNo,
     pub start: Ticks,
     pub stop: Ticks,
 }
 
-#[derive(Clone, Copy)]
+#[derive(Clone, Copy, PartialEq, Eq)]
 pub struct DataRow {
     pub task: TaskNo,
     pub deadline: Ticks,
@@ -31,18 +30,17 @@ pub struct DataRow {
     pub stop: Ticks,
 }
 
-#[derive(Clone, Copy)]
-pub enum Said {
+// The row that starts at a tick.
+#[derive(Clone, Copy, PartialEq, Eq)]
+pub enum StartedRow {
     Control(ControlRow),
     Data(DataRow),
-    Quiet,
-    Refused(Refusal),
 }
 
-// What a tick says and what it makes of the play.
+// The row that starts, if one does, and what a tick makes of the play.
 #[derive(Clone, Copy)]
 pub struct Advanced {
-    pub said: Said,
+    pub row: Option<StartedRow>,
     pub play: Play,
 }
 
@@ -50,9 +48,9 @@ fn control_row(controls: Controls, r: usize) -> ControlRow
     ensures { result ≡ control_at controls r }
 {
     ControlRow {
-        node: NodeNo(byte_at(&controls.nodes, r) as u8),
-        start: Ticks(number_at(&controls.starts, r)),
-        stop: Ticks(number_at(&controls.stops, r)),
+        node: NodeNo(entry_or(&controls.nodes, r, 0)),
+        start: Ticks(entry_or(&controls.starts, r, 0)),
+        stop: Ticks(entry_or(&controls.stops, r, 0)),
     }
 }
 
@@ -66,37 +64,35 @@ fn data_row<'a>(
     ensures { result ≡ data_at pair_tasks.now pair_deadlines.now pair_starts.now pair_stops.now q }
 {
     DataRow {
-        task: TaskNo(byte_at(pair_tasks, q) as u8),
-        deadline: Ticks(number_at(pair_deadlines, q)),
-        start: Ticks(number_at(pair_starts, q)),
-        stop: Ticks(number_at(pair_stops, q)),
+        task: TaskNo(entry_or(pair_tasks, q, 0)),
+        deadline: Ticks(entry_or(pair_deadlines, q, 0)),
+        start: Ticks(entry_or(pair_starts, q, 0)),
+        stop: Ticks(entry_or(pair_stops, q, 0)),
     }
 }
 
 // The row that starts now: a control row, or the row that the lowest pair that starts now rides in.
 fn started<'a>(
-    control: Found,
-    first: Found,
+    control: Option<usize>,
+    first: Option<usize>,
     controls: Controls,
     pair_tasks: &'a [u8; Frame::MOST],
     pair_deadlines: &'a [u32; Frame::MOST],
     pair_starts: &'a [u32; Frame::MOST],
     pair_stops: &'a [u32; Frame::MOST],
-) -> Said
-    ensures { result ≡ said_by controls pair_tasks.now pair_deadlines.now pair_starts.now pair_stops.now (place_in control) (place_in first) }
+) -> Option<StartedRow>
+    ensures { result ≡ said_by controls pair_tasks.now pair_deadlines.now pair_starts.now pair_stops.now (spot_in control) (spot_in first) }
 {
-    match control {
-        Found::At(r) => Said::Control(control_row(controls, r)),
-        Found::Nothing => match first {
-            Found::At(q) => Said::Data(data_row(
-                pair_tasks,
-                pair_deadlines,
-                pair_starts,
-                pair_stops,
-                q,
-            )),
-            Found::Nothing => Said::Quiet,
-        },
+    match (control, first) {
+        (Some(r), _) => Some(StartedRow::Control(control_row(controls, r))),
+        (None, Some(q)) => Some(StartedRow::Data(data_row(
+            pair_tasks,
+            pair_deadlines,
+            pair_starts,
+            pair_stops,
+            q,
+        ))),
+        (None, None) => None,
     }
 }
 
@@ -107,7 +103,7 @@ fn held_by(fixed: Fixed, play: Play) -> [u8; NodeNo::MOST * ModuleNo::MOST]
 {
     let ended = row_with(
         &fixed.controls.stops,
-        fixed.controls.count as usize,
+        usize::from(fixed.controls.count),
         play.clock,
     );
     let old = play.held;
@@ -127,17 +123,17 @@ fn play_after<'a>(
     fixed: Fixed,
     play: Play,
     time: Ticks,
-    control: Found,
-    first: Found,
+    control: Option<usize>,
+    first: Option<usize>,
     ends: &'a [bool; TaskNo::MOST],
     pair_tasks: &'a [u8; Frame::MOST],
     pair_starts: &'a [u32; Frame::MOST],
     pair_modes: &'a [u32; Frame::MOST],
 ) -> Play
-    ensures value { result ≡ play_after input fixed play time.0 (place_in control) (place_in first) ends.now pair_tasks.now pair_starts.now pair_modes.now }
+    ensures value { result ≡ play_after input fixed play time.0 (spot_in control) (spot_in first) ends.now pair_tasks.now pair_starts.now pair_modes.now }
     ensures reads { Reads input fixed play result }
 {
-    let pairs = fixed.pairs as usize;
+    let pairs = usize::from(fixed.pairs);
     let given = input.given;
     let old_out = play.out;
     let out = out_after(&input.results, given, old_out);
@@ -212,9 +208,13 @@ pub fn advance<'a>(
     ensures reads { Reads input fixed play result.play }
 {
     let time = Ticks(rest(play.clock.0, fixed.period.0));
-    let control = row_with(&fixed.controls.starts, fixed.controls.count as usize, time);
-    let first = row_with(pair_starts, fixed.pairs as usize, time);
-    let said = started(
+    let control = row_with(
+        &fixed.controls.starts,
+        usize::from(fixed.controls.count),
+        time,
+    );
+    let first = row_with(pair_starts, usize::from(fixed.pairs), time);
+    let row = started(
         control,
         first,
         fixed.controls,
@@ -235,5 +235,5 @@ pub fn advance<'a>(
         pair_starts,
         pair_modes,
     );
-    Advanced { said, play: next }
+    Advanced { row, play: next }
 }

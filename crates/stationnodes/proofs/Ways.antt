@@ -1,6 +1,6 @@
--- What a function returns on each of its ways, over plain variables: the tests e, o, m of the code are those of the definition.
+-- A node made anew, and what was just filled read back.
 use mathlib.Core.Path.{◌≡◌, ap, ◌∙◌}
-use mathlib.Core.Bool.{Bool, true, false, cond, not, ◌&&◌}
+use mathlib.Core.Bool.{Bool, false}
 use mathlib.Core.List.{List}
 use lib.ListN.{length, get_or, replicate, length-replicate}
 use Prim.Native.Nat.{ℕ}
@@ -11,31 +11,6 @@ use Rattle.laws.proofs.Stores.{stores_same, stores-within, stores_anew}
 use Rattle.stationbus.specs.Bus.{number_at, truth_at}
 use Rattle.stationnodes.specs.Nodes.{lands_from, shown_rule}
 use Rattle.stationnodes.specs.declared.Node.{Node}
-
--- what a node shows: its own out-box, what landed, or what it showed before
-module _ (e o m : Bool) (out landed old : ℕ) where
-  pub shows-own : {r : ℕ} → e ≡ true → o ≡ true → r ≡ out → r ≡ cond (e && o) out (cond (e && m) landed old)
-  shows-own p q h = rw (p, q) h
-
-  pub shows-landed : {r : ℕ} → e ≡ true → o ≡ false → m ≡ true → r ≡ landed → r ≡ cond (e && o) out (cond (e && m) landed old)
-  shows-landed p q s h = rw (p, q, s) h
-
-  pub shows_old : e ≡ true → o ≡ false → m ≡ false → old ≡ cond (e && o) out (cond (e && m) landed old)
-  shows_old p q s = rw (p, q, s)
-
-  pub shows-none : e ≡ false → old ≡ cond (e && o) out (cond (e && m) landed old)
-  shows-none p = rw p
-
--- what lands: on another node than the sender's
-module _ (l s : Bool) (load old : ℕ) where
-  pub lands_here : {r : ℕ} → l ≡ true → s ≡ false → r ≡ load → r ≡ cond (l && not s) load old
-  lands_here p q h = rw (p, q) h
-
-  pub lands_not : l ≡ true → s ≡ true → old ≡ cond (l && not s) load old
-  lands_not p q = rw (p, q)
-
-  pub lands_none : l ≡ false → old ≡ cond (l && not s) load old
-  lands_none p = rw p
 
 -- a node made anew: what it shows is made of what has landed
 pub made : {l x s y : List ℕ} → l ≡ x → s ≡ y → ◌≡◌ {A = Node} (record { landed = l; shown = s }) (record { landed = x; shown = y })

@@ -8,8 +8,7 @@ ghost use Rattle.rules.specs.Limits.{most_nodes, most_tasks};
 ghost use Rattle.stationbus.specs.Bus.{number_at, truth_at};
 ghost use Rattle.stationnodes.specs.Nodes.{is_idle_at, landed_at, landed_rule, lands_from, lands_rule, no_node, node_at, node_rule, shown_at, shown_rule, zero_node};
 
-use figures::both;
-use places::{byte_at, flag_at, has_bit, value_at};
+use places::{entry_or, flag_at, has_bit};
 use stationbus::tasks_at;
 use units::{Frame, ModuleNo, NodeNo, TaskNo, Ticks};
 
@@ -37,10 +36,8 @@ fn lands_from<'a>(
 ) -> [bool; TaskNo::MOST]
     ensures { result ≡ stores lands (lands_from (truth_at lands) full.now) most_tasks }
 {
-    let mut t = 0;
-    while t < TaskNo::MOST {
-        lands[t] = both(lands[t], flag_at(full, t));
-        t += 1;
+    for (t, landing) in lands.iter_mut().enumerate() {
+        *landing &= flag_at(full, t);
     }
     lands
 }
@@ -71,12 +68,12 @@ fn landed_at<'a>(
     requires { t < most_tasks }
     ensures { result ≡ landed_at lands.now loads.now homes.now nodes.now n t old }
 {
-    if lands[t] {
-        if byte_at(nodes, byte_at(homes, t)) != n {
-            return value_at(loads, t);
-        }
+    let home = usize::from(homes[t]);
+    if lands[t] && usize::from(entry_or(nodes, home, 0)) != n {
+        loads[t]
+    } else {
+        old
     }
-    old
 }
 
 fn landed_after<'a>(
@@ -89,10 +86,8 @@ fn landed_after<'a>(
 ) -> [u64; TaskNo::MOST]
     ensures { result ≡ stores landed (landed_rule lands.now loads.now homes.now nodes.now n landed) most_tasks }
 {
-    let mut t = 0;
-    while t < TaskNo::MOST {
-        landed[t] = landed_at(landed[t], t, n, lands, loads, homes, nodes);
-        t += 1;
+    for (t, value) in landed.iter_mut().enumerate() {
+        *value = landed_at(*value, t, n, lands, loads, homes, nodes);
     }
     landed
 }
@@ -112,17 +107,19 @@ fn shown_at<'a>(
     requires { (t < most_tasks) × (n < most_nodes) }
     ensures { result ≡ shown_at ends.now homes.now nodes.now out.now held.now due.now n (number_at landed.now) t old }
 {
-    if ends[t] {
-        let home = byte_at(homes, t);
-        if byte_at(nodes, home) == n {
-            return value_at(out, t);
-        }
-        let mode = byte_at(held, n * ModuleNo::MOST + home);
-        if has_bit(due[t], mode) {
-            return value_at(landed, t);
-        }
+    if !ends[t] {
+        return old;
     }
-    old
+    let home = usize::from(homes[t]);
+    if usize::from(entry_or(nodes, home, 0)) == n {
+        return out[t];
+    }
+    let mode = usize::from(entry_or(held, n * ModuleNo::MOST + home, 0));
+    if has_bit(due[t], mode) {
+        landed[t]
+    } else {
+        old
+    }
 }
 
 fn shown_after<'a>(
@@ -139,10 +136,8 @@ fn shown_after<'a>(
     requires { n < most_nodes }
     ensures { result ≡ stores shown (shown_rule ends.now homes.now nodes.now out.now held.now due.now n (number_at landed.now) shown) most_tasks }
 {
-    let mut t = 0;
-    while t < TaskNo::MOST {
-        shown[t] = shown_at(shown[t], t, n, ends, homes, nodes, out, landed, held, due);
-        t += 1;
+    for (t, value) in shown.iter_mut().enumerate() {
+        *value = shown_at(*value, t, n, ends, homes, nodes, out, landed, held, due);
     }
     shown
 }
@@ -162,10 +157,8 @@ fn node_after<'a>(
     requires { n < most_nodes }
     ensures { result ≡ node_at lands.now loads.now ends.now homes.now nodes.now out.now held.now due.now n node }
 {
-    let before = node.landed;
-    let landed = landed_after(before, n, lands, loads, homes, nodes);
-    let showed = node.shown;
-    let shown = shown_after(showed, n, ends, homes, nodes, out, &landed, held, due);
+    let landed = landed_after(node.landed, n, lands, loads, homes, nodes);
+    let shown = shown_after(node.shown, n, ends, homes, nodes, out, &landed, held, due);
     Node { landed, shown }
 }
 
@@ -183,11 +176,8 @@ pub fn nodes_after<'a>(
 ) -> [Node; NodeNo::MOST]
     ensures { result ≡ stores old (node_rule lands.now loads.now ends.now homes.now nodes.now out.now held.now due.now old) most_nodes }
 {
-    let mut n = 0;
-    while n < NodeNo::MOST {
-        let node = old[n];
-        old[n] = node_after(node, n, lands, loads, ends, homes, nodes, out, held, due);
-        n += 1;
+    for (n, node) in old.iter_mut().enumerate() {
+        *node = node_after(*node, n, lands, loads, ends, homes, nodes, out, held, due);
     }
     old
 }
@@ -197,10 +187,8 @@ pub fn is_idle<'a>(lands: &'a [bool; TaskNo::MOST], ends: &'a [bool; TaskNo::MOS
     ensures { result ≡ all (is_idle_at lands.now ends.now) (up_to most_tasks) }
 {
     let mut idle = true;
-    let mut t = 0;
-    while t < TaskNo::MOST {
-        idle = both(idle, both(!lands[t], !ends[t]));
-        t += 1;
+    for t in 0..TaskNo::MOST {
+        idle &= !lands[t] & !ends[t];
     }
     idle
 }
@@ -209,11 +197,8 @@ pub fn is_idle<'a>(lands: &'a [bool; TaskNo::MOST], ends: &'a [bool; TaskNo::MOS
 pub fn shown_on(nodes: [Node; NodeNo::MOST], node: NodeNo, task: TaskNo) -> u64
     ensures { result ≡ get_or (get_or nodes node.0 no_node).shown task.0 0 }
 {
-    let n = node.0 as usize;
-    if n < NodeNo::MOST {
-        let node = nodes[n];
-        value_at(&node.shown, task.place())
-    } else {
-        0
+    match nodes.get(node.place()) {
+        Some(node) => entry_or(&node.shown, task.place(), 0),
+        None => 0,
     }
 }

@@ -8,44 +8,33 @@ ghost use Rattle.rules.specs.Limits.{most_modes, most_modules, most_nodes, most_
 ghost use Rattle.rules.specs.StationRange.{is_between, is_value};
 ghost use Rattle.stationrange.specs.Ranges.{box_test, byte_test, control_test, counts_test, mode_test, module_test, pairs_test, play_test, run_test, runs_test, task_test, thing_test};
 
-use figures::{both, if_so, wide};
-use places::{byte_at, number_at};
+use places::entry_or;
 use plan::Task;
 use units::{Frame, ModeNo, ModuleNo, NodeNo, TaskNo, Ticks};
 
+#[tactic(auto, unfolding(rules::specs::StationRange::is_between))]
 fn is_between(low: usize, high: usize, x: usize) -> bool
     ensures { result ≡ is_between low high x }
 {
-    both(low <= x, x <= high)
+    low <= x && x <= high
 }
 
 pub fn counts(modules: u8, modes: u8, tasks: u8, period: Ticks, controls: u8) -> bool
     ensures { result ≡ counts_test modules modes tasks period.0 controls }
 {
-    let things = both(
-        is_between(1, ModuleNo::MOST, modules as usize),
-        both(
-            is_between(1, ModeNo::MOST, modes as usize),
-            is_between(1, TaskNo::MOST, tasks as usize),
-        ),
-    );
-    both(
-        things,
-        both(
-            is_between(1, Ticks::LONGEST as usize, period.0 as usize),
-            controls as usize <= NodeNo::MOST,
-        ),
-    )
+    is_between(1, ModuleNo::MOST, usize::from(modules))
+        && is_between(1, ModeNo::MOST, usize::from(modes))
+        && is_between(1, TaskNo::MOST, usize::from(tasks))
+        && is_between(1, Ticks::LONGEST as usize, period.0 as usize)
+        && usize::from(controls) <= NodeNo::MOST
 }
 
 pub fn modules<'a>(nodes: &'a [u8; ModuleNo::MOST]) -> bool
     ensures { result ≡ all (module_test nodes.now) (up_to most_modules) }
 {
     let mut good = true;
-    let mut m = 0;
-    while m < ModuleNo::MOST {
-        good = both(good, byte_at(nodes, m) < NodeNo::MOST);
-        m += 1;
+    for node in nodes {
+        good &= usize::from(*node) < NodeNo::MOST;
     }
     good
 }
@@ -54,13 +43,7 @@ pub fn modules<'a>(nodes: &'a [u8; ModuleNo::MOST]) -> bool
 fn thing(modules: u8, most: u32, there: bool, home: ModuleNo, a: u32, b: Ticks) -> bool
     ensures { result ≡ thing_test modules most there home.0 a b.0 }
 {
-    both(
-        home.0 < modules,
-        both(
-            both(a <= most, b.0 <= Ticks::LONGEST),
-            if_so(there, both(0 < a, 0 < b.0)),
-        ),
-    )
+    (home.0 < modules) & (a <= most) & (b.0 <= Ticks::LONGEST) & (!there | ((0 < a) & (0 < b.0)))
 }
 
 pub fn modes<'a>(
@@ -73,20 +56,15 @@ pub fn modes<'a>(
     ensures { result ≡ all (mode_test modules modes homes.now periods.now switches.now) (up_to most_modes) }
 {
     let mut good = true;
-    let mut mode = 0;
-    while mode < ModeNo::MOST {
-        good = both(
-            good,
-            thing(
-                modules,
-                Ticks::LONGEST,
-                mode < modes as usize,
-                ModuleNo(homes[mode]),
-                periods[mode],
-                Ticks(switches[mode]),
-            ),
+    for mode in 0..ModeNo::MOST {
+        good &= thing(
+            modules,
+            Ticks::LONGEST,
+            mode < usize::from(modes),
+            ModuleNo(homes[mode]),
+            periods[mode],
+            Ticks(switches[mode]),
         );
-        mode += 1;
     }
     good
 }
@@ -101,20 +79,15 @@ pub fn tasks<'a>(
     ensures { result ≡ all (task_test modules tasks homes.now sizes.now worsts.now) (up_to most_tasks) }
 {
     let mut good = true;
-    let mut t = 0;
-    while t < TaskNo::MOST {
-        good = both(
-            good,
-            thing(
-                modules,
-                Task::LARGEST,
-                t < tasks as usize,
-                ModuleNo(homes[t]),
-                wide(sizes[t]),
-                Ticks(worsts[t]),
-            ),
+    for t in 0..TaskNo::MOST {
+        good &= thing(
+            modules,
+            Task::LARGEST,
+            t < usize::from(tasks),
+            ModuleNo(homes[t]),
+            u32::from(sizes[t]),
+            Ticks(worsts[t]),
         );
-        t += 1;
     }
     good
 }
@@ -124,10 +97,8 @@ fn runs_of<'a>(runs: &'a [u32; ModeNo::MOST * TaskNo::MOST], mode: usize, period
     ensures { result ≡ all (run_test runs.now mode period.0) (up_to most_tasks) }
 {
     let mut good = true;
-    let mut t = 0;
-    while t < TaskNo::MOST {
-        good = both(good, runs[mode * TaskNo::MOST + t] <= period.0);
-        t += 1;
+    for t in 0..TaskNo::MOST {
+        good &= runs[mode * TaskNo::MOST + t] <= period.0;
     }
     good
 }
@@ -139,10 +110,8 @@ pub fn runs<'a>(
     ensures { result ≡ all (runs_test runs.now periods.now) (up_to most_modes) }
 {
     let mut good = true;
-    let mut mode = 0;
-    while mode < ModeNo::MOST {
-        good = both(good, runs_of(runs, mode, Ticks(periods[mode])));
-        mode += 1;
+    for (mode, period) in periods.iter().enumerate() {
+        good &= runs_of(runs, mode, Ticks(*period));
     }
     good
 }
@@ -150,10 +119,7 @@ pub fn runs<'a>(
 fn control_row(period: Ticks, node: NodeNo, start: Ticks, stop: Ticks) -> bool
     ensures { result ≡ (ltb node.0 most_nodes && (leb start.0 period.0 && leb stop.0 period.0)) }
 {
-    both(
-        (node.0 as usize) < NodeNo::MOST,
-        both(start.0 <= period.0, stop.0 <= period.0),
-    )
+    (node.place() < NodeNo::MOST) & (start <= period) & (stop <= period)
 }
 
 pub fn controls<'a>(
@@ -165,18 +131,13 @@ pub fn controls<'a>(
     ensures { result ≡ all (control_test period.0 nodes.now starts.now stops.now) (up_to most_nodes) }
 {
     let mut good = true;
-    let mut row = 0;
-    while row < NodeNo::MOST {
-        good = both(
-            good,
-            control_row(
-                period,
-                NodeNo(nodes[row]),
-                Ticks(starts[row]),
-                Ticks(stops[row]),
-            ),
+    for row in 0..NodeNo::MOST {
+        good &= control_row(
+            period,
+            NodeNo(nodes[row]),
+            Ticks(starts[row]),
+            Ticks(stops[row]),
         );
-        row += 1;
     }
     good
 }
@@ -184,10 +145,7 @@ pub fn controls<'a>(
 fn pair(tasks: u8, period: Ticks, task: TaskNo, deadline: Ticks, start: Ticks, stop: Ticks) -> bool
     ensures { result ≡ ((ltb task.0 tasks && leb deadline.0 period.0) && (leb start.0 period.0 && leb stop.0 period.0)) }
 {
-    both(
-        both(task.0 < tasks, deadline.0 <= period.0),
-        both(start.0 <= period.0, stop.0 <= period.0),
-    )
+    (task.0 < tasks) & (deadline <= period) & (start <= period) & (stop <= period)
 }
 
 // The places behind the pairs are not looked at: most stations have few pairs, and places for many.
@@ -202,25 +160,20 @@ pub fn pairs<'a>(
 ) -> bool
     ensures { result ≡ pairs_test pairs tasks period.0 pair_tasks.now pair_deadlines.now pair_starts.now pair_stops.now }
 {
-    let count = pairs as usize;
+    let count = usize::from(pairs);
     if Frame::MOST < count {
         return false;
     }
     let mut good = true;
-    let mut q = 0;
-    while q < count {
-        good = both(
-            good,
-            pair(
-                tasks,
-                period,
-                TaskNo(pair_tasks[q]),
-                Ticks(pair_deadlines[q]),
-                Ticks(pair_starts[q]),
-                Ticks(pair_stops[q]),
-            ),
+    for q in 0..count {
+        good &= pair(
+            tasks,
+            period,
+            TaskNo(pair_tasks[q]),
+            Ticks(pair_deadlines[q]),
+            Ticks(pair_starts[q]),
+            Ticks(pair_stops[q]),
         );
-        q += 1;
     }
     good
 }
@@ -229,10 +182,7 @@ pub fn pairs<'a>(
 fn play(own: bool, modes: u8, mode: ModeNo, age: Ticks, period: Ticks, byte: ModeNo) -> bool
     ensures { result ≡ ((ltb mode.0 modes && own) && (leb age.0 period.0 && ltb byte.0 modes)) }
 {
-    both(
-        both(mode.0 < modes, own),
-        both(age.0 <= period.0, byte.0 < modes),
-    )
+    (mode.0 < modes) & own & (age <= period) & (byte.0 < modes)
 }
 
 pub fn plays<'a>(
@@ -247,30 +197,22 @@ pub fn plays<'a>(
     ensures { result ≡ all (play_test modules modes homes.now periods.now running.now ages.now bytes.now) (up_to most_modules) }
 {
     let mut good = true;
-    let mut m = 0;
-    while m < ModuleNo::MOST {
-        let mode = byte_at(running, m);
-        let own = if_so(m < modules as usize, byte_at(homes, mode) == m);
-        good = both(
-            good,
-            play(
-                own,
-                modes,
-                ModeNo(running[m]),
-                Ticks(ages[m]),
-                Ticks(number_at(periods, mode)),
-                ModeNo(bytes[m]),
-            ),
-        );
-        m += 1;
+    for m in 0..ModuleNo::MOST {
+        let mode = ModeNo(running[m]);
+        let home = ModuleNo(entry_or(homes, mode.place(), 0));
+        let period = Ticks(entry_or(periods, mode.place(), 0));
+        let there = m < usize::from(modules);
+        let own = !there | (home.place() == m);
+        good &= play(own, modes, mode, Ticks(ages[m]), period, ModeNo(bytes[m]));
     }
     good
 }
 
+#[tactic(auto, unfolding(rules::specs::StationRange::is_value))]
 fn is_value(v: u64) -> bool
     ensures { result ≡ is_value v }
 {
-    v <= 18_446_744_073_709_551_615
+    v <= u64::MAX
 }
 
 // The out-boxes, and the values on the bus.
@@ -278,10 +220,8 @@ pub fn boxes<'a>(out: &'a [u64; TaskNo::MOST], loads: &'a [u64; TaskNo::MOST]) -
     ensures { result ≡ all (box_test out.now loads.now) (up_to most_tasks) }
 {
     let mut good = true;
-    let mut t = 0;
-    while t < TaskNo::MOST {
-        good = both(good, both(is_value(out[t]), is_value(loads[t])));
-        t += 1;
+    for t in 0..TaskNo::MOST {
+        good &= is_value(out[t]) & is_value(loads[t]);
     }
     good
 }
@@ -291,10 +231,8 @@ pub fn bytes<'a>(held: &'a [u8; NodeNo::MOST * ModuleNo::MOST], modes: u8, node:
     ensures { result ≡ all (byte_test held.now modes node) (up_to most_modules) }
 {
     let mut good = true;
-    let mut m = 0;
-    while m < ModuleNo::MOST {
-        good = both(good, held[node * ModuleNo::MOST + m] < modes);
-        m += 1;
+    for m in 0..ModuleNo::MOST {
+        good &= held[node * ModuleNo::MOST + m] < modes;
     }
     good
 }

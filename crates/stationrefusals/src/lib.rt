@@ -3,12 +3,11 @@
 
 ghost use Rattle.std.specs.Prelude.{◌≡◌, ◌<◌};
 ghost use Rattle.laws.specs.Lists.{all, up_to};
-ghost use Rattle.answers.specs.Refusals.{heard};
+ghost use Rattle.answers.specs.Answered.{judged};
 ghost use Rattle.rules.specs.Limits.{most_nodes};
 ghost use Rattle.stationrefusals.specs.Refusing.{judged_by, kept_test, held_test, refused_by, state_test};
 
-use answers::{Refusal, Verdict};
-use figures::both;
+use answers::Refusal;
 use stationjudge::{judged_changes, judged_results};
 use stationruns::Input;
 use units::{Frame, ModeNo, ModuleNo, NodeNo, TaskNo, Ticks};
@@ -82,6 +81,7 @@ pub struct Play {
     pub loads: [u64; TaskNo::MOST],
 }
 
+#[tactic(auto, unfolding(crate::specs::Refusing::kept_test))]
 fn kept_in_range<'a>(
     fixed: Fixed,
     runs: &'a [u32; ModeNo::MOST * TaskNo::MOST],
@@ -92,41 +92,35 @@ fn kept_in_range<'a>(
 ) -> bool
     ensures { result ≡ kept_test fixed runs.now pair_tasks.now pair_deadlines.now pair_starts.now pair_stops.now }
 {
-    let counted = stationrange::counts(
+    stationrange::counts(
         fixed.modules.count,
         fixed.modes.count,
         fixed.tasks.count,
         fixed.period,
         fixed.controls.count,
-    );
-    let moded = both(
-        stationrange::modules(&fixed.modules.sites),
-        stationrange::modes(
+    ) && stationrange::modules(&fixed.modules.sites)
+        && stationrange::modes(
             fixed.modules.count,
             fixed.modes.count,
             &fixed.modes.homes,
             &fixed.modes.periods,
             &fixed.modes.switches,
-        ),
-    );
-    let tasked = both(
-        stationrange::tasks(
+        )
+        && stationrange::tasks(
             fixed.modules.count,
             fixed.tasks.count,
             &fixed.tasks.homes,
             &fixed.tasks.sizes,
             &fixed.tasks.worsts,
-        ),
-        stationrange::runs(runs, &fixed.modes.periods),
-    );
-    let rowed = both(
-        stationrange::controls(
+        )
+        && stationrange::runs(runs, &fixed.modes.periods)
+        && stationrange::controls(
             fixed.period,
             &fixed.controls.nodes,
             &fixed.controls.starts,
             &fixed.controls.stops,
-        ),
-        stationrange::pairs(
+        )
+        && stationrange::pairs(
             fixed.pairs,
             fixed.tasks.count,
             fixed.period,
@@ -134,41 +128,37 @@ fn kept_in_range<'a>(
             pair_deadlines,
             pair_starts,
             pair_stops,
-        ),
-    );
-    both(both(counted, moded), both(tasked, rowed))
+        )
 }
 
 fn bytes_in_range<'a>(held: &'a [u8; NodeNo::MOST * ModuleNo::MOST], modes: u8) -> bool
     ensures { result ≡ all (held_test held.now modes) (up_to most_nodes) }
 {
-    let mut good = true;
-    let mut n = 0;
-    while n < NodeNo::MOST {
-        good = both(good, stationrange::bytes(held, modes, n));
-        n += 1;
+    for n in 0..NodeNo::MOST {
+        if !stationrange::bytes(held, modes, n) {
+            return false;
+        }
     }
-    good
+    true
 }
 
 // But for what the nodes hold landed and shown: each of those numbers is of its type's range.
+#[tactic(auto, unfolding(crate::specs::Refusing::state_test))]
 fn state_in_range(fixed: Fixed, play: Play) -> bool
     ensures { result ≡ state_test fixed play }
 {
-    let played = stationrange::plays(
-        fixed.modules.count,
-        fixed.modes.count,
-        &fixed.modes.homes,
-        &fixed.modes.periods,
-        &play.running,
-        &play.ages,
-        &play.bytes,
-    );
-    let placed = both(
-        stationrange::boxes(&play.out, &play.loads),
-        bytes_in_range(&play.held, fixed.modes.count),
-    );
-    both(play.clock.0 <= fixed.period.0, both(played, placed))
+    play.clock.0 <= fixed.period.0
+        && stationrange::plays(
+            fixed.modules.count,
+            fixed.modes.count,
+            &fixed.modes.homes,
+            &fixed.modes.periods,
+            &play.running,
+            &play.ages,
+            &play.bytes,
+        )
+        && stationrange::boxes(&play.out, &play.loads)
+        && bytes_in_range(&play.held, fixed.modes.count)
 }
 
 fn judged<'a>(
@@ -176,8 +166,8 @@ fn judged<'a>(
     fixed: Fixed,
     play: Play,
     runs: &'a [u32; ModeNo::MOST * TaskNo::MOST],
-) -> Verdict
-    ensures { heard result ≡ judged_by input fixed play runs.now }
+) -> Result<(), Refusal>
+    ensures { judged result ≡ judged_by input fixed play runs.now }
 {
     let before = judged_results(
         &input.results,
@@ -205,6 +195,7 @@ fn judged<'a>(
 }
 
 // Refusals 40 to 44.
+#[tactic(auto, unfolding(crate::specs::Refusing::refused_by))]
 pub fn refused<'a>(
     input: Input,
     fixed: Fixed,
@@ -214,8 +205,8 @@ pub fn refused<'a>(
     pair_deadlines: &'a [u32; Frame::MOST],
     pair_starts: &'a [u32; Frame::MOST],
     pair_stops: &'a [u32; Frame::MOST],
-) -> Verdict
-    ensures { heard result ≡ refused_by input fixed play runs.now pair_tasks.now pair_deadlines.now pair_starts.now pair_stops.now }
+) -> Result<(), Refusal>
+    ensures { judged result ≡ refused_by input fixed play runs.now pair_tasks.now pair_deadlines.now pair_starts.now pair_stops.now }
 {
     let kept = kept_in_range(
         fixed,
@@ -225,9 +216,9 @@ pub fn refused<'a>(
         pair_starts,
         pair_stops,
     );
-    if both(kept, state_in_range(fixed, play)) {
+    if kept && state_in_range(fixed, play) {
         judged(input, fixed, play, runs)
     } else {
-        Verdict::Refused(Refusal::NotBegun(ModuleNo(0)))
+        Err(Refusal::NotBegun(ModuleNo(0)))
     }
 }

@@ -1,12 +1,27 @@
--- What stands in an array that was just filled.
-use mathlib.Core.Path.{◌≡◌, ap, ◌∙◌}
+-- What stands in an array that was just filled, and the values that were taken as the rules say it.
+use mathlib.Core.Path.{◌≡◌, refl, ap, ◌∙◌}
+use mathlib.Core.Bool.{Bool, true, false, cond}
 use mathlib.Core.List.{List}
 use lib.ListN.{length, get_or, get_or-eq_default}
 use Prim.Native.Nat.{ℕ, ◌≤◌}
 use native.Mathlib.Omega.{arith}
 use Rattle.laws.specs.Loops.{stores}
-use Rattle.laws.proofs.Stores.{stores-read}
-use Rattle.stationsteps.specs.Steps.{out_rule, mode_rule}
+use Rattle.laws.proofs.Stores.{stores_same, stores-read}
+use Rattle.places.specs.Flags.{flag_at}
+use Rattle.std.proofs.Math.Option
+use Rattle.stationruns.specs.Inputs.{given_if}
+use Rattle.stationsteps.specs.Steps.{out_rule, mode_rule, taken_rule}
+
+taken : (flag : Bool) (value old : ℕ) → cond flag value old ≡ Option.get_or (given_if flag value) old
+taken true value old = refl
+taken false value old = refl
+
+pub all-taken : (values given old : List ℕ) (n : ℕ) {now : List ℕ} → length old ≡ n → now ≡ stores old (taken_rule values given old 0) (length old)
+    → now ≡ stores old (out_rule values given old) n
+all-taken values given old n size e =
+    rw size at e
+    ∙ stores_same old (taken_rule values given old 0) (out_rule values given old) n
+    (λ k w. taken (flag_at given k) (get_or values k 0) (get_or old k 0))
 
 -- An array that was just filled, read at any place: behind it nothing is given.
 pub mode-read : (modes changed running : List ℕ) {now : List ℕ} → length changed ≡ 16 → length running ≡ 16

@@ -7,6 +7,10 @@ use Rattle.rules.specs.Station.{one_on}
 use Rattle.stationruns.specs.Inputs.{given_at}
 use Rattle.stationruns.specs.Runs.{run_at, ends_run}
 
+-- the value that a place is given, else what it held; `outside` stands behind the lists
+abbrev pub taken_rule : {A : Type 0} → List A → List ℕ → List A → A → ℕ → A
+taken_rule values given places outside k = cond (flag_at given k) (get_or values k outside) (get_or places k outside)
+
 -- (a)
 abbrev pub out_rule : List ℕ → List ℕ → List ℕ → ℕ → ℕ
 out_rule results given out t = Option.get_or (given_at results given t) (get_or out t 0)

@@ -1,22 +1,26 @@
 // The steps (a), (c) and (d) of a tick, each on the array that it changes; what it reads is lent.
 #![tactic(auto)]
 
-ghost use Rattle.std.specs.Prelude.{◌≡◌, cond, false, not, ◌&&◌, ◌||◌, get_or, replicate, ℕ, ◌<◌};
-ghost use Rattle.std.proofs.Math.Option;
+ghost use Rattle.std.specs.Prelude.{◌≡◌, cond, false, not, ◌&&◌, ◌||◌, get_or, length, replicate, ℕ, ◌<◌};
 ghost use Rattle.laws.specs.Loops.{stores};
 ghost use Rattle.rules.specs.Limits.{most_modules, most_tasks};
 ghost use Rattle.rules.specs.Station.{one_on};
-ghost use Rattle.stationsteps.specs.Steps.{age_rule, ends_rule, had_rule, mode_rule, out_rule};
-ghost use Rattle.stationruns.specs.Inputs.{given_if};
+ghost use Rattle.stationsteps.specs.Steps.{age_rule, ends_rule, had_rule, mode_rule, out_rule, taken_rule};
 
-use places::{byte_at, flag_at, flag_byte, is_set, number_at};
+use places::{entry_or, flag_at, flag_byte, is_set};
 use stationruns::run_at;
 use units::{ModeNo, ModuleNo, TaskNo, Ticks};
 
-fn out_at(given: bool, res: u64, old: u64) -> u64
-    ensures { result ≡ Option.get_or (given_if given res) old }
+// Each place takes the value that it is given, where it is given one.
+fn take_given<T: Copy>(places: &mut [T], values: &[T], given: &[u8])
+    requires { (length values.now ≡ length places.old) × (length given.now ≡ length places.old) }
+    ensures { (outside : T) → places.new ≡ stores places.old (taken_rule values.now given.now places.old outside) (length places.old) }
 {
-    if given { res } else { old }
+    for (k, place) in places.iter_mut().enumerate() {
+        if is_set(given[k]) {
+            *place = values[k];
+        }
+    }
 }
 
 // (a) The flags go by value, for an array by value has its length: behind it nothing is given.
@@ -28,11 +32,7 @@ pub fn out_after<'a>(
     ensures value { result ≡ stores out (out_rule results.now given out) most_tasks }
     ensures reads { (t : ℕ) → get_or result t 0 ≡ out_rule results.now given out t }
 {
-    let mut t = 0;
-    while t < TaskNo::MOST {
-        out[t] = out_at(is_set(given[t]), results[t], out[t]);
-        t += 1;
-    }
+    take_given(&mut out, results, &given);
     out
 }
 
@@ -46,18 +46,10 @@ pub fn ends_now<'a>(
     ensures { result ≡ stores (replicate most_tasks false) (ends_rule runs.now modes.now ages.now homes.now) most_tasks }
 {
     let mut ends = [false; TaskNo::MOST];
-    let mut t = 0;
-    while t < TaskNo::MOST {
-        ends[t] = run_at(runs, modes, ages, homes, TaskNo(t as u8)).ends();
-        t += 1;
+    for (t, end) in ends.iter_mut().enumerate() {
+        *end = run_at(runs, modes, ages, homes, TaskNo(t as u8)).ends();
     }
     ends
-}
-
-fn mode_at(changed: bool, mode: u8, old: u8) -> u8
-    ensures { result ≡ Option.get_or (given_if changed mode) old }
-{
-    if changed { mode } else { old }
 }
 
 // (d) The flags go by value, as those of `out_after`.
@@ -69,26 +61,16 @@ pub fn modes_after<'a>(
     ensures value { result ≡ stores running (mode_rule modes.now changed running) most_modules }
     ensures reads { (m : ℕ) → get_or result m 0 ≡ mode_rule modes.now changed running m }
 {
-    let mut m = 0;
-    while m < ModuleNo::MOST {
-        running[m] = mode_at(is_set(changed[m]), modes[m], running[m]);
-        m += 1;
-    }
+    take_given(&mut running, modes, &changed);
     running
 }
 
-// The next number, from 1 to the last and again from 1.
-fn next(number: u32, last: u32) -> u32
-    ensures { result ≡ one_on number last }
-{
-    if number < last { number + 1 } else { 1 }
-}
-
 // One tick on, from 1 to a period and again from 1.
+#[tactic(auto, unfolding(rules::specs::Station::one_on))]
 pub fn one_on(time: Ticks, period: Ticks) -> Ticks
     ensures { result ≡ record { 0 = one_on time.0 period.0 } }
 {
-    Ticks(next(time.0, period.0))
+    Ticks(if time < period { time.0 + 1 } else { 1 })
 }
 
 fn age_at(changed: bool, age: Ticks, period: Ticks) -> Ticks
@@ -110,12 +92,10 @@ pub fn ages_after<'a>(
 ) -> [u32; ModuleNo::MOST]
     ensures { result ≡ stores ages (age_rule changed.now running.now periods.now ages) most_modules }
 {
-    let mut m = 0;
-    while m < ModuleNo::MOST {
-        let period = Ticks(number_at(periods, byte_at(running, m)));
-        let age = age_at(is_set(changed[m]), Ticks(ages[m]), period);
-        ages[m] = age.0;
-        m += 1;
+    for (m, age) in ages.iter_mut().enumerate() {
+        let mode = ModeNo(running[m]).place();
+        let period = Ticks(entry_or(periods, mode, 0));
+        *age = age_at(is_set(changed[m]), Ticks(*age), period).0;
     }
     ages
 }
@@ -123,15 +103,7 @@ pub fn ages_after<'a>(
 fn had_at(given: bool, ends: bool, changed: bool, had: bool) -> bool
     ensures { result ≡ (not (ends || changed) && (had || given)) }
 {
-    if ends {
-        false
-    } else if changed {
-        false
-    } else if had {
-        true
-    } else {
-        given
-    }
+    !(ends || changed) && (had || given)
 }
 
 // Whether each task's run has had its result.
@@ -144,15 +116,9 @@ pub fn had_after<'a>(
 ) -> [u8; TaskNo::MOST]
     ensures { result ≡ stores had (had_rule given.now changed.now ends.now homes.now had) most_tasks }
 {
-    let mut t = 0;
-    while t < TaskNo::MOST {
-        had[t] = flag_byte(had_at(
-            is_set(given[t]),
-            ends[t],
-            flag_at(changed, byte_at(homes, t)),
-            is_set(had[t]),
-        ));
-        t += 1;
+    for (t, flag) in had.iter_mut().enumerate() {
+        let changes = flag_at(changed, ModuleNo(homes[t]).place());
+        *flag = flag_byte(had_at(is_set(given[t]), ends[t], changes, is_set(*flag)));
     }
     had
 }

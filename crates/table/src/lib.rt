@@ -10,7 +10,7 @@ pub mod write;
 use units::{NodeNo, Ticks};
 
 // What a table's first record says.
-#[derive(Clone, Copy)]
+#[derive(Clone, Copy, Default)]
 pub struct Header {
     pub period: Ticks,
     pub controls: usize,
@@ -18,14 +18,11 @@ pub struct Header {
 }
 
 impl Header {
+    #[tactic(auto, unfolding(crate::specs::Memory::empty_table, crate::specs::Memory::lay_out, crate::specs::Memory::no_table))]
     pub fn empty() -> Header
         ensures { result ≡ empty_table.header }
     {
-        Header {
-            period: Ticks(0),
-            controls: 0,
-            datas: 0,
-        }
+        Header::default()
     }
 }
 
@@ -42,6 +39,7 @@ pub struct Heading {
 }
 
 impl Heading {
+    #[tactic(auto, unfolding(crate::specs::Memory::empty_table, crate::specs::Memory::lay_out, crate::specs::Memory::no_table))]
     pub fn empty() -> Heading
         ensures { result ≡ heading_of empty_table }
     {

@@ -40,8 +40,8 @@ fn first_record(s: &[u8], body: usize) -> Header
     let first = records::body(s, body, body + fields::header::LENGTH);
     Header {
         period: Ticks(read32(first, fields::header::PERIOD)),
-        controls: read8(first, fields::header::CONTROLS) as usize,
-        datas: read16(first, fields::header::DATAS) as usize,
+        controls: usize::from(read8(first, fields::header::CONTROLS)),
+        datas: usize::from(read16(first, fields::header::DATAS)),
     }
 }
 

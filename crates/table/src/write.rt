@@ -10,6 +10,7 @@ use little::{put8, put16, put32};
 use units::{Frame, NodeNo, TaskNo, Ticks};
 
 // The length of a table with so many control rows and data rows.
+#[tactic(auto, unfolding(rules::specs::Table::table_length, rules::specs::Table::record_length, rules::specs::Records::body_length, rules::specs::Records::fields, rules::specs::Records::kinds))]
 pub fn table_length(controls: usize, rows: usize) -> usize
     requires { (controls ≤ most_nodes) × (rows ≤ most_frames) }
     ensures { (result ≡ table_length controls rows) × (result < 2 ^ 32) }
@@ -63,8 +64,7 @@ fn put_controls(
     requires { (controls ≤ most_nodes) × (at + 10 * controls < 2 ^ 64) }
     ensures { buf.new ≡ sets buf.old at (joined (map control_bytes (tab (control_in nodes.now starts.now stops.now) 0 controls))) }
 {
-    let mut k = 0;
-    while k < controls {
+    for k in 0..controls {
         put_control(
             &mut *buf,
             at + fields::control_row::RECORD * k,
@@ -72,7 +72,6 @@ fn put_controls(
             Ticks(starts[k]),
             Ticks(stops[k]),
         );
-        k += 1;
     }
 }
 
@@ -88,8 +87,7 @@ fn put_rows(
     requires { (rows ≤ most_frames) × (at + 14 * rows < 2 ^ 64) }
     ensures { buf.new ≡ sets buf.old at (joined (map data_bytes (tab (data_in tasks.now deadlines.now starts.now stops.now) 0 rows))) }
 {
-    let mut k = 0;
-    while k < rows {
+    for k in 0..rows {
         put_data(
             &mut *buf,
             at + fields::data_row::RECORD * k,
@@ -98,7 +96,6 @@ fn put_rows(
             Ticks(starts[k]),
             Ticks(stops[k]),
         );
-        k += 1;
     }
 }
 

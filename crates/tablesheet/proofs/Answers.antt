@@ -10,7 +10,7 @@ use Rattle.text.proofs.Fronts.{Front, first-long, front-counts, neither_long, se
 use Rattle.sheet.specs.Sheet.{sheet_text}
 use Rattle.sheetwriter.specs.declared.Written.{Written}
 use Rattle.sheetwriter.specs.Writing.{Writes}
-use Rattle.answers.specs.Refusals.{heard}
+use Rattle.answers.specs.Answered.{judged}
 use Rattle.checked.specs.Checking.{verdict}
 use Rattle.laws.specs.Res.{Res, ok, refuse}
 use Rattle.manners.specs.Status.{status_of}
@@ -49,11 +49,11 @@ module _ (plan table old out : List ℕ) (n l t : ℕ) where
       (second_long_status 65536 plan table (status_of (check_files plan table)) h) a says
 
   pub written_response : length plan ≤ 65536 → length table ≤ 65536 → (r : Written) → Writes r old out plan table → r.length ≤ 262144 → n ≡ r.length
-      → Says l t n (status_of (heard r.answer)) → Responds plan table old out l t
+      → Says l t n (status_of (judged r.answer)) → Responds plan table old out l t
   unfolding answer_for status_for
   written_response p q r h few e says =
       let is : answer_for plan table ≡ sheet_text plan table = neither_long 65536 plan table (sheet_text plan table) p q in
-      let ends : status_of (heard r.answer) ≡ status_for plan table =
+      let ends : status_of (judged r.answer) ≡ status_for plan table =
       ap status_of h.answered ∙ verdict_status (check_files plan table)
       ∙ sym (neither_long_status 65536 plan table (status_of (check_files plan table)) p q)
       in

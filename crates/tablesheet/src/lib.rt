@@ -3,31 +3,31 @@
 
 ghost use Rattle.std.specs.Prelude.{◌≡◌, ◌≤◌, length};
 ghost use Rattle.std.proofs.lemmas.List.Edits.{sets};
-ghost use Rattle.answers.specs.Refusals.{heard};
+ghost use Rattle.answers.specs.Answered.{judged};
 ghost use Rattle.io.specs.Counts.{IsPrefixLen};
-ghost use Rattle.manners.specs.Status.{status_of};
+ghost use Rattle.manners.specs.Status.{number_of, status_of};
 ghost use Rattle.rules.specs.Limits.{longest_sheet};
 ghost use Rattle.tablesheet.specs.Answer.{answer_for, status_for};
 
-use answers::Verdict;
-use input::{Input, file_room, read_argument, text_room};
-use manners::{FAILED, Response, Start, put_lines};
+use answers::Refusal;
+use input::{file_room, read_argument, text_room};
+use manners::{Failed, Response, Status, put_lines};
 use meanings::put_help_lines;
 
 // A text of so many bytes, and the status by the checker's answer.
-fn ending(answer: Verdict, n: usize) -> Response
-    ensures { (result.length ≡ n) × (result.status ≡ status_of (heard answer)) }
+fn ending(answer: Result<(), Refusal>, n: usize) -> Response
+    ensures { (result.length ≡ n) × (number_of result.status ≡ status_of (judged answer)) }
 {
     match answer {
-        Verdict::Fine => Response::done(n),
-        Verdict::Refused(_) => Response::refused(n),
+        Ok(()) => Response::done(n),
+        Err(_) => Response::refused(n),
     }
 }
 
 // The text at the front of `out`, and how the program ends. No sheet has more than 262,144 bytes.
 fn respond(plan: &[u8], table: &[u8], out: &mut [u8]) -> Response
     ensures out_after { (out.new ≡ sets out.old 0 (answer_for plan.now table.now)) × (result.length ≡ length (answer_for plan.now table.now)) }
-    ensures status_value { result.status ≡ status_for plan.now table.now }
+    ensures status_value { number_of result.status ≡ status_for plan.now table.now }
     ensures prefix_len { longest_sheet ≤ length out.old → IsPrefixLen result.length out.new }
 {
     if plan.len() > 65536 {
@@ -41,19 +41,14 @@ fn respond(plan: &[u8], table: &[u8], out: &mut [u8]) -> Response
     ending(answer, written.length)
 }
 
-fn print(rt: HostRuntime) -> i32 {
+fn print(rt: HostRuntime) -> Result<Status, Failed> {
     let mut plan = file_room();
-    let Input::Bytes(n) = read_argument(rt, 1, b"PLAN", &mut plan) else {
-        return FAILED;
-    };
+    let n = read_argument(rt, 1, b"PLAN", &mut plan)?;
     let mut table = file_room();
-    let Input::Bytes(m) = read_argument(rt, 2, b"TABLE", &mut table) else {
-        return FAILED;
-    };
+    let m = read_argument(rt, 2, b"TABLE", &mut table)?;
     let mut out = text_room();
     let answer = respond(&plan[..n], &table[..m], &mut out);
-    let length = answer.length;
-    manners::write_out(rt, &out[..length], answer.status as i32)
+    manners::write_out(rt, &out[..answer.length], answer.status)
 }
 
 // What `--help` says behind the usage.
@@ -75,11 +70,11 @@ fn put_help(out: &mut [u8]) -> usize
     put_help_lines(&mut *out, table_at, 20, 9)
 }
 
-// The program; the number that it ends with.
-pub fn run(rt: HostRuntime) -> i32 {
+// The program, and how it ends.
+pub fn run(rt: HostRuntime) -> Result<Status, Failed> {
     let mut help = io::buffer();
     let end = put_help(&mut help);
-    let start = manners::opening(
+    let opened = manners::opening(
         rt,
         b"tablesheet",
         b"tablesheet PLAN TABLE",
@@ -87,8 +82,8 @@ pub fn run(rt: HostRuntime) -> i32 {
         1,
         2,
     );
-    match start {
-        Start::Works => print(rt),
-        Start::Ends(status) => status,
+    match opened {
+        Some(ended) => ended,
+        None => print(rt),
     }
 }

@@ -65,6 +65,19 @@ decimal-few (suc k) n h = which (λ w. decimal-few k (n / 10) w) (le-or-lt 10 n)
     which fewer (inl w) = rw (decimal_more n w) (omega (arith, fewer (omega (arith, pow-succ' 10 (suc k)))))
     which fewer (inr w) = rw (decimal-one n w) (omega arith)
 
+ten-some : (k : ℕ) → 0 < 10 ^ k
+ten-some zero = omega (arith, pow-zero 10)
+ten-some (suc k) = omega (arith, pow-succ' 10 k, ten-some k)
+
+-- one from a power of ten on has more
+pub decimal-many : (k n : ℕ) → 10 ^ k ≤ n → suc k ≤ length (decimal n)
+decimal-many zero n h = omega (arith, decimal-long n)
+decimal-many (suc k) n h =
+    let some : 0 < 10 ^ k = ten-some k in
+    let long : 10 ≤ n = omega (arith, pow-succ' 10 k) in
+    let more : suc k ≤ length (decimal (n / 10)) = decimal-many k (n / 10) (omega (arith, pow-succ' 10 k)) in
+    rw (decimal_more n long) (omega (arith, more))
+
 pub left-few : (n m : ℕ) (w : List ℕ) → n ≤ m → length w ≤ m → length (pad_left n w) ≤ m
 unfolding pad_left
 left-few n m w a b =

@@ -2,7 +2,6 @@
 use mathlib.Core.Path.{◌≡◌, refl, sym, ap, ◌∙◌}
 use mathlib.Core.Bool.{Bool, true, false, cond, not, ◌&&◌, true≢false}
 use mathlib.Core.List.{List, [], ◌∷◌, ◌++◌, map, append_assoc}
-use native.Mathlib.Nat.{add-zero, le_antisymm}
 use native.Mathlib.Numerals.{add-one}
 use native.Mathlib.Omega.{arith}
 use borrow.Author.Tests.{eq-eqb, ne_eqb, ltb-false}
@@ -12,9 +11,13 @@ use lib.Seq.{drop-cons, drop-length, drop-drop}
 use Prim.Native.Nat.{ℕ, zero, suc, ◌+◌, ◌-◌, ◌≤◌, ◌<◌}
 use Rattle.laws.specs.Lists.{all, joined}
 use Rattle.laws.proofs.Members.{All, empty, also}
+use Rattle.std.specs.Prelude.{nat_eq, take_while}
+use Rattle.std.proofs.lemmas.Bool.Decides.{nat_tests}
+use Rattle.std.specs.Cmp.Lexicographic.{pointwise}
+use Rattle.std.proofs.lemmas.List.Sums.{take_while-cons}
 use Rattle.text.specs.Text.{run_on, front, line_feed, ended}
 use Rattle.text.specs.Lines.{run_end, is_other, one_line, line_end, in_front, or_feed, lines_of, behind_end, starts_with, behind_word}
-use Rattle.text.specs.declared.lines.End.TheVariants.{At, Wrong}
+use Rattle.std.specs.Prelude.{Some, None}
 
 pub drop_all : (i : ℕ) (l : List ℕ) → length l ≤ i → drop i l ≡ []
 drop_all zero [] h = refl
@@ -47,46 +50,25 @@ module _ (p : ℕ → Bool) where
       over true e f = ap (λ (r : List ℕ). b ∷ r) (f e)
       over false e f = absurd (true≢false (sym e))
 
-  run-done : (s : List ℕ) (at : ℕ) → length s ≤ at → run_end p s at ≡ at
-  unfolding run_end
-  run-done s at h = rw (drop_all at s h) (add-zero at)
-
-  run-stops : (s : List ℕ) (at : ℕ) → at < length s → p (get_or s at 0) ≡ false → run_end p s at ≡ at
-  unfolding run_end
-  run-stops s at h e = rw (drop_here s at h, e) (add-zero at)
-
-  run_on_lem : (s : List ℕ) (at : ℕ) → at < length s → p (get_or s at 0) ≡ true → run_end p s (at + 1) ≡ run_end p s at
-  unfolding run_end
-  run_on_lem s at h e = rw (drop_here s at h, e) (omega arith)
-
   pub run_part : (s : List ℕ) (at : ℕ) → take (run_end p s at - at) (drop at s) ≡ front p (drop at s)
   unfolding run_end
   run_part s at =
       let n : (at + length (front p (drop at s))) - at ≡ length (front p (drop at s)) = omega arith in
       rw n (front-taken (drop at s))
 
-  -- a loop that seeks the end: it is the same from here on
-  pub record Running (s : List ℕ) (from at : ℕ) : Type 0 where
-    pub same : run_end p s at ≡ run_end p s from
-    pub within : from ≤ length s → at ≤ length s
-    pub after : from ≤ at
+  -- it is the library's
+  pub front-while : (l : List ℕ) → front p l ≡ take_while p l
+  front-while [] = refl
+  front-while (b ∷ l) = go (p b) refl (front-while l)
+    where
+      go : (t : Bool) → p b ≡ t → front p l ≡ take_while p l → run_on t b (front p l) ≡ take_while p (b ∷ l)
+      go true e h = rw (take_while-cons, e) (ap (λ (r : List ℕ). b ∷ r) h)
+      go false e h = rw (take_while-cons, e)
 
-  pub running_none : {s : List ℕ} {from : ℕ} → Running s from from
-  running_none = record { same = refl; within = λ h. h; after = omega arith }
-
-  -- what a run's end says of itself
-  abbrev pub RunEnds : List ℕ → ℕ → ℕ → Type 0
-  RunEnds s from end = (end ≡ run_end p s from) × ((from ≤ length s → end ≤ length s) × (from ≤ end))
-
-  module _ {s : List ℕ} {from at : ℕ} (g : Running s from at) where
-    pub running_turn : at < length s → p (get_or s at 0) ≡ true → Running s from (at + 1)
-    running_turn h e = record { same = run_on_lem s at h e ∙ g.same; within = λ w. omega arith; after = omega (arith, g.after) }
-
-    pub running-stop : at < length s → p (get_or s at 0) ≡ false → RunEnds s from at
-    running-stop h e = (sym (run-stops s at h e) ∙ g.same, (g.within, g.after))
-
-    pub running-end : length s ≤ at → RunEnds s from at
-    running-end h = (sym (run-done s at h) ∙ g.same, (g.within, g.after))
+  -- a run's end, as the library counts what it takes from the rest of a text
+  pub run_counted : (s : List ℕ) (from : ℕ) {part : List ℕ} {n : ℕ} → part ≡ drop from s → n ≡ length (take_while p part) → from + n ≡ run_end p s from
+  unfolding run_end
+  run_counted s from e q = rw (front-while (drop from s), ← e, q)
 
 pub is_stop : {stop b : ℕ} → b ≡ stop → is_other stop b ≡ false
 is_stop {stop} {b} e = rw (eq-eqb b stop e)
@@ -166,38 +148,24 @@ lines-joined (l ∷ ls) (also h r) =
     ap lines_of (append_assoc l line_feed (joined (map ended ls))) ∙ line_first l (joined (map ended ls)) h
     ∙ ap (λ (ms : List (List ℕ)). l ∷ ms) (lines-joined ls r)
 
--- ---- a word compared byte by byte
+-- ---- a word at a place
 
--- the first i bytes of the word stand there, and what is left of it decides
-pub record Matched (s word : List ℕ) (at next i : ℕ) : Type 0 where
-  pub place : next ≡ at + i
-  pub rest : starts_with (drop i word) (drop next s) ≡ starts_with word (drop at s)
+-- the word stands at the front, as the library compares
+starts-is : (word s : List ℕ) → starts_with word s ≡ pointwise nat_eq word (take (length word) s)
+starts-is [] s = refl
+starts-is (w ∷ ws) [] = refl
+starts-is (w ∷ ws) (b ∷ s) = rw (turned b w, starts-is ws s)
+  where
+    turned : (a b : ℕ) → eqb a b ≡ eqb b a
+    turned a b = grind (arith, nat_tests)
 
-pub matched-none : {s word : List ℕ} {at : ℕ} → Matched s word at at 0
-matched-none {s} {word} {at} = record { place = sym (add-zero at); rest = refl }
-
-module _ {s word : List ℕ} {at next i : ℕ} (m : Matched s word at next i) where
-  decided : (b : Bool) → starts_with (drop i word) (drop next s) ≡ b → behind_word s at word ≡ cond b (At (at + length word)) Wrong
+module _ (s : List ℕ) (at : ℕ) (word : List ℕ) {part : List ℕ} (e : part ≡ drop at s) where
+  decided : (t : Bool) → t ≡ pointwise nat_eq word (take (length word) part) → behind_word s at word ≡ cond t (Some (at + length word)) None
   unfolding behind_word
-  decided b e = rw (← m.rest, e)
+  decided t h = rw (starts-is word (drop at s), ← e, ← h)
 
-  pub matched_turn : i < length word → next < length s → get_or s next 0 ≡ get_or word i 0 → Matched s word at (next + 1) (i + 1)
-  matched_turn h w e =
-      let same : eqb (get_or s next 0) (get_or word i 0) ≡ true = eq-eqb (get_or s next 0) (get_or word i 0) e in
-      let whole = m.rest in
-      record {
-        place = let p = m.place in omega arith;
-        rest = rw (drop_here word i h, drop_here s next w, same) at whole;
-      }
+  pub word_stands : true ≡ pointwise nat_eq word (take (length word) part) → Some (at + length word) ≡ behind_word s at word
+  word_stands h = sym (decided true h)
 
-  pub matched-short : i < length word → length s ≤ next → Wrong ≡ behind_word s at word
-  matched-short h w = sym (decided false (rw (drop_here word i h, drop_all next s w)))
-
-  pub matched-wrong : i < length word → next < length s → (get_or s next 0 ≡ get_or word i 0 → ⊥) → Wrong ≡ behind_word s at word
-  matched-wrong h w f =
-      sym (decided false (rw (drop_here word i h, drop_here s next w, ne_eqb (get_or s next 0) (get_or word i 0) f)))
-
-  pub matched-end : i ≤ length word → length word ≤ i → At next ≡ behind_word s at word
-  matched-end h w =
-      let all : i ≡ length word = le_antisymm h w in
-      sym (decided true (rw (drop_all i word w)) ∙ ap At (ap (λ (k : ℕ). at + k) (sym all) ∙ sym m.place))
+  pub word_lacks : false ≡ pointwise nat_eq word (take (length word) part) → None ≡ behind_word s at word
+  word_lacks h = sym (decided false h)

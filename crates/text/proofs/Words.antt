@@ -15,9 +15,8 @@ use Rattle.laws.proofs.Lists.{tab_more, both_left, both_right}
 use Rattle.text.specs.Text.{run_on, front, spaces, pad_left, pad_right, texts, decimal, is_digit, read_decimal, number_at, digit_run}
 use Rattle.text.specs.Lines.{run_end, is_other, is_blank, is_letter, blank_first, letter_first, words, word_from, next_word, uncommented, whole_number}
 use Rattle.text.specs.declared.lines.Word.{Word}
-use Rattle.text.specs.declared.lines.Word.TheVariants.{Stands, None}
-use Rattle.text.specs.declared.lines.Whole.TheVariants as whole
-use Rattle.text.specs.declared.Number.TheVariants as number
+use Rattle.std.specs.Prelude.{Option, Some, None}
+use Rattle.text.specs.declared.Digits.{Digits}
 use Rattle.text.proofs.Runs.{front_over, front-taken, run_part}
 use Rattle.text.proofs.Decimals.{value-decimal, all-decimal, decimal-long}
 use Rattle.text.proofs.Reading.{all_read}
@@ -70,9 +69,9 @@ behind_blanks {C} (b ∷ l) none some = go (is_blank b) refl (λ n s. behind_bla
     go false e more none some = some b l refl e
 
 -- the words from a place on, by what `next_word` finds there
-abbrev pub WordsFrom : List ℕ → ℕ → Word → Type 0
-WordsFrom s at (Stands from to) =
-    (words (drop at s) ≡ take (to - from) (drop from s) ∷ words (drop to s)) × (from < to) × (to ≤ length s) × (at ≤ from)
+abbrev pub WordsFrom : List ℕ → ℕ → Option Word → Type 0
+WordsFrom s at (Some w) =
+    (words (drop at s) ≡ take (w.to - w.from) (drop w.from s) ∷ words (drop w.to s)) × (w.from < w.to) × (w.to ≤ length s) × (at ≤ w.from)
 WordsFrom s at None = words (drop at s) ≡ []
 
 front-few : (p : ℕ → Bool) (l : List ℕ) → length (front p l) ≤ length l
@@ -91,7 +90,7 @@ module _ (s : List ℕ) (at from : ℕ) (later : at ≤ from) (skipped : words (
       short : length s ≤ from
       short = let none : length s - from ≡ 0 = sym (length-drop from s) ∙ ap length e in omega (arith, none)
 
-      go : (t : Bool) → ltb from (length s) ≡ t → WordsFrom s at (cond t (Stands from (run_end is_letter s from)) None)
+      go : (t : Bool) → ltb from (length s) ≡ t → WordsFrom s at (cond t (Some (record { from = from; to = run_end is_letter s from })) None)
       go true q = absurd (let h : from < length s = ltb-true from (length s) q in omega (arith, short))
       go false q = skipped ∙ ap words e
 
@@ -116,7 +115,7 @@ module _ (s : List ℕ) (at from : ℕ) (later : at ≤ from) (skipped : words (
           (sym (ap (λ (l : List ℕ). drop (suc (length (front is_letter r))) l) e) ∙ drop-drop (suc (length (front is_letter r))) from s
           ∙ ap (λ (k : ℕ). drop k s) (sym to_is))
 
-      go : (t : Bool) → ltb from (length s) ≡ t → WordsFrom s at (cond t (Stands from (run_end is_letter s from)) None)
+      go : (t : Bool) → ltb from (length s) ≡ t → WordsFrom s at (cond t (Some (record { from = from; to = run_end is_letter s from })) None)
       go true q =
           let few : length (front is_letter r) ≤ length r = front-few is_letter r in
           let within : run_end is_letter s from ≤ length s = omega (arith, to_is, long) in
@@ -134,31 +133,34 @@ words-from s at =
     (λ b r e letter. one-stands s at from (omega arith) skipped b r (sym there ∙ e) letter)
 
 -- what was found, by its cases
-module _ (s : List ℕ) (at : ℕ) {found : Word} (next-is : found ≡ next_word s at) where
-  found-words : (w : Word) → found ≡ w → WordsFrom s at w
+module _ (s : List ℕ) (at : ℕ) {found : Option Word} (next-is : found ≡ next_word s at) where
+  found-words : (w : Option Word) → found ≡ w → WordsFrom s at w
   found-words w e = rw (← e, next-is) (words-from s at)
 
   pub none_found : found ≡ None → words (drop at s) ≡ []
   none_found e = found-words None e
 
-  module _ {from to : ℕ} (e : found ≡ Stands from to) where
-    pub word-found : words (drop at s) ≡ take (to - from) (drop from s) ∷ words (drop to s)
-    word-found = (found-words (Stands from to) e).0
+  module _ {w : Word} (e : found ≡ Some w) where
+    pub word-found : words (drop at s) ≡ take (w.to - w.from) (drop w.from s) ∷ words (drop w.to s)
+    word-found = (found-words (Some w) e).0
 
     -- the word is a part of the line, further on
-    pub part_found : (from ≤ to) × (to ≤ length s)
-    part_found = let w = found-words (Stands from to) e in (omega (arith, w.1), omega (arith, w.2))
+    pub part_found : (w.from ≤ w.to) × (w.to ≤ length s)
+    part_found = let h = found-words (Some w) e in (omega (arith, h.1), omega (arith, h.2))
 
-    pub later-found : at < to
-    later-found = let w = found-words (Stands from to) e in omega (arith, w.1, w.3)
+    pub later-found : at < w.to
+    later-found = let h = found-words (Some w) e in omega (arith, h.1, h.3)
 
 -- the part in front of the comment
 pub uncommented_part : (line : List ℕ) {end : ℕ} → end ≡ length (uncommented line) → take end line ≡ uncommented line
 unfolding uncommented
 uncommented_part line e = rw e (front-taken (is_other 35) line)
 
+abbrev stands : ℕ → ℕ → Option Word
+stands from to = Some (record { from = from; to = to })
+
 -- the word is found by its places, or there is none
-pub next-found : (s : List ℕ) (at : ℕ) {from to : ℕ} → from ≡ run_end is_blank s at → from < length s → to ≡ run_end is_letter s from → Stands from to ≡ next_word s at
+pub next-found : (s : List ℕ) (at : ℕ) {from to : ℕ} → from ≡ run_end is_blank s at → from < length s → to ≡ run_end is_letter s from → stands from to ≡ next_word s at
 unfolding next_word
 next-found s at {from} e h q = rw (← e, lt-ltb from (length s) h, q)
 
@@ -253,12 +255,13 @@ pub decimal-wordy : (n : ℕ) → Wordy (decimal n)
 decimal-wordy n = record { some = decimal-long n; letters = all_also is_digit is_letter digit_letter (decimal n) (all-decimal n) }
 
 -- a number that was written is that number
-pub whole-decimal : (n : ℕ) → n < 2 ^ 64 → whole_number (decimal n) ≡ whole.Value n
+pub whole-decimal : (n : ℕ) → n < 2 ^ 64 → whole_number (decimal n) ≡ Some n
 unfolding whole_number read_decimal
 whole-decimal n h =
+    let number : Digits = record { value = n; next = length (decimal n) } in
     let run : digit_run (decimal n) ≡ decimal n =
     ap digit_run (sym (append-nil (decimal n))) ∙ front_over is_digit (decimal n) [] (all-decimal n) ∙ append-nil (decimal n) in
-    let read : number_at (digit_run (decimal n)) 0 ≡ number.Digits n (length (decimal n)) =
+    let read : number_at (digit_run (decimal n)) 0 ≡ Some number =
     ap (λ (r : List ℕ). number_at r 0) run
     ∙ sym (all_read (decimal n) 0 n (length (decimal n)) h (λ q. omega (arith, decimal-long n)) (sym (zero-add (length (decimal n)))) (sym (value-decimal n))) in
     rw (read, eq-eqb (length (decimal n)) (length (decimal n)) refl)

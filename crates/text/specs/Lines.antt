@@ -1,14 +1,8 @@
 -- Text parted into lines, and a line into words: bytes, not letters of an alphabet.
-use Rattle.std.specs.Prelude.{Bool, true, false, cond, not, ◌&&◌, ◌||◌, List, [], ◌∷◌, eqb, ltb, length, drop, ℕ, suc, ◌+◌}
+use Rattle.std.specs.Prelude.{Bool, true, false, cond, not, ◌&&◌, ◌||◌, List, [], ◌∷◌, eqb, ltb, length, drop, Option, Some, None, ℕ, suc, ◌+◌}
 use Rattle.text.specs.Text.{front, read_decimal}
-use Rattle.text.specs.declared.Number.{Number}
-use Rattle.text.specs.declared.Number.TheVariants as number
-use Rattle.text.specs.declared.lines.End.{End}
-use Rattle.text.specs.declared.lines.End.TheVariants.{At, Wrong}
+use Rattle.text.specs.declared.Digits.{Digits}
 use Rattle.text.specs.declared.lines.Word.{Word}
-use Rattle.text.specs.declared.lines.Word.TheVariants as word
-use Rattle.text.specs.declared.lines.Whole.{Whole}
-use Rattle.text.specs.declared.lines.Whole.TheVariants as whole
 
 -- ---- runs
 
@@ -55,24 +49,24 @@ starts_with (w ∷ ws) [] = false
 starts_with (w ∷ ws) (b ∷ s) = eqb b w && starts_with ws s
 
 -- the place behind a word, if the word stands at a place
-unfoldable pub behind_word : List ℕ → ℕ → List ℕ → End
-behind_word s at word = cond (starts_with word (drop at s)) (At (at + length word)) Wrong
+unfoldable pub behind_word : List ℕ → ℕ → List ℕ → Option ℕ
+behind_word s at word = cond (starts_with word (drop at s)) (Some (at + length word)) None
 
 -- the place is the text's end
-abbrev pub is_end : List ℕ → End → Bool
-is_end s Wrong = false
-is_end s (At next) = eqb next (length s)
+abbrev pub is_end : List ℕ → Option ℕ → Bool
+is_end s None = false
+is_end s (Some next) = eqb next (length s)
 
 -- the text is the word, and nothing more
 unfoldable pub is_word : List ℕ → List ℕ → Bool
 is_word word s = is_end s (behind_word s 0 word)
 
 -- the number that a text is, if it is digits and nothing more, and 64 bits hold it
-abbrev pub whole_in : List ℕ → Number → Whole
-whole_in s number.None = whole.None
-whole_in s (number.Digits value next) = cond (eqb next (length s)) (whole.Value value) whole.None
+abbrev pub whole_in : List ℕ → Option Digits → Option ℕ
+whole_in s None = None
+whole_in s (Some digits) = cond (eqb digits.next (length s)) (Some digits.value) None
 
-unfoldable pub whole_number : List ℕ → Whole
+unfoldable pub whole_number : List ℕ → Option ℕ
 whole_number s = whole_in s (read_decimal s 0)
 
 -- ---- the words of a line
@@ -106,8 +100,8 @@ words [] = []
 words (b ∷ s) = blank_or (is_blank b) (words s) (letter_first (blank_first s) b (words s))
 
 -- the first word from a place on, by its places
-abbrev pub word_from : List ℕ → ℕ → Word
-word_from s from = cond (ltb from (length s)) (word.Stands from (run_end is_letter s from)) word.None
+abbrev pub word_from : List ℕ → ℕ → Option Word
+word_from s from = cond (ltb from (length s)) (Some (record { from = from; to = run_end is_letter s from })) None
 
-unfoldable pub next_word : List ℕ → ℕ → Word
+unfoldable pub next_word : List ℕ → ℕ → Option Word
 next_word s at = word_from s (run_end is_blank s at)

@@ -1,11 +1,10 @@
 -- What the programs write and read as text: lists of ASCII codes. Numbers, and the lines that several programs write; how text is parted
 -- into lines and words is in Lines.antt.
-use Rattle.std.specs.Prelude.{Bool, true, false, ◌&&◌, List, [], ◌∷◌, ◌++◌, leb, ltb, length, drop, replicate, ℕ, zero, suc, ◌+◌, ◌-◌, ◌*◌, ◌/◌, ◌%◌, ◌^◌}
+use Rattle.std.specs.Prelude.{Bool, true, false, cond, ◌&&◌, List, [], ◌∷◌, ◌++◌, leb, ltb, length, drop, replicate, Option, Some, None, ℕ, zero, suc, ◌+◌, ◌-◌, ◌*◌, ◌/◌, ◌%◌, ◌^◌}
 use Prim.Native.Char.{code}
 use Prim.Native.String as string
 use Prim.Native.String.{String}
-use Rattle.text.specs.declared.Number.{Number}
-use Rattle.text.specs.declared.Number.TheVariants.{Digits, None}
+use Rattle.text.specs.declared.Digits.{Digits}
 
 -- a quoted text as its codes
 abbrev pub ascii : String → List ℕ
@@ -117,16 +116,20 @@ abbrev pub value_from : ℕ → List ℕ → ℕ
 value_from v [] = v
 value_from v (b ∷ bs) = value_from (10 * v + (b - 48)) bs
 
+-- the number that digits stand for, if 64 bits hold it
+abbrev pub value64 : List ℕ → Option ℕ
+value64 bs = cond (ltb (value_from 0 bs) (2 ^ 64)) (Some (value_from 0 bs)) None
+
 -- a value that a 64-bit number holds, with the place behind its digits
-abbrev pub within64 : Bool → ℕ → ℕ → Number
-within64 true value next = Digits value next
+abbrev pub within64 : Bool → ℕ → ℕ → Option Digits
+within64 true value next = Some (record { value = value; next = next })
 within64 false value next = None
 
 -- what a run of digits at a place says; no digit says nothing
-abbrev pub number_at : List ℕ → ℕ → Number
+abbrev pub number_at : List ℕ → ℕ → Option Digits
 number_at [] at = None
 number_at (b ∷ bs) at = within64 (ltb (value_from 0 (b ∷ bs)) (2 ^ 64)) (value_from 0 (b ∷ bs)) (at + length (b ∷ bs))
 
 -- the number that the longest run of digits from a place on stands for
-unfoldable pub read_decimal : List ℕ → ℕ → Number
+unfoldable pub read_decimal : List ℕ → ℕ → Option Digits
 read_decimal s at = number_at (digit_run (drop at s)) at

@@ -2,17 +2,17 @@
 // buffer's end is not stored, so that a buffer of any length may be lent.
 #![tactic(auto)]
 
-ghost use Rattle.std.specs.Prelude.{◌≡◌, ◌+◌, ◌-◌, ◌≤◌, length, get_or, set};
+ghost use Rattle.std.specs.Prelude.{◌≡◌, ◌+◌, ◌-◌, ◌≤◌, drop, length, set, take_while};
 ghost use Rattle.std.proofs.lemmas.List.Edits.{sets};
-ghost use Rattle.text.specs.Text.{digits, decimal, marked, numbered_line, refused_line, spaces, too_long_line, unreadable_line, passed_line, is_digit, read_decimal};
+ghost use Rattle.text.specs.Text.{digits, decimal, marked, numbered_line, refused_line, spaces, too_long_line, unreadable_line, passed_line, is_digit, read_decimal, value64};
 
 pub mod lines;
 
 // A number read: its value and the place behind its digits.
-#[derive(Clone, Copy)]
-pub enum Number {
-    Digits { value: u64, next: usize },
-    None,
+#[derive(Clone, Copy, PartialEq, Eq)]
+pub struct Digits {
+    pub value: u64,
+    pub next: usize,
 }
 
 fn store(buf: &mut [u8], at: usize, x: u8)
@@ -28,12 +28,10 @@ pub fn put_bytes(buf: &mut [u8], at: usize, s: &[u8]) -> usize
     requires { at + length s.now ≤ 18446744073709551615 }
     ensures { (buf.new ≡ sets buf.old at s.now) × (result ≡ at + length s.now) }
 {
-    let mut i = 0;
-    while i < s.len() {
-        store(&mut *buf, at + i, s[i]);
-        i += 1;
+    for (i, byte) in s.iter().enumerate() {
+        store(&mut *buf, at + i, *byte);
     }
-    at + i
+    at + s.len()
 }
 
 // The digits of x from `at` on, none for 0; the place behind them. It calls itself once for each digit, at most 20 times.
@@ -45,7 +43,7 @@ fn put_digits(buf: &mut [u8], at: usize, x: u64) -> usize
         return at;
     }
     let last = put_digits(&mut *buf, at, x / 10);
-    store(&mut *buf, last, 48 + (x % 10) as u8);
+    store(&mut *buf, last, b'0' + (x % 10) as u8);
     last + 1
 }
 
@@ -55,7 +53,7 @@ pub fn put_decimal(buf: &mut [u8], at: usize, x: u64) -> usize
     ensures { (buf.new ≡ sets buf.old at (decimal x)) × (result ≡ at + length (decimal x)) }
 {
     if x == 0 {
-        store(&mut *buf, at, 48);
+        store(&mut *buf, at, b'0');
         return at + 1;
     }
     put_digits(&mut *buf, at, x)
@@ -66,13 +64,14 @@ pub fn put_refused(buf: &mut [u8], number: u32, place: usize) -> usize
     ensures { (buf.new ≡ sets buf.old 0 (refused_line number place)) × (result ≡ length (refused_line number place)) }
 {
     let number_at = put_bytes(&mut *buf, 0, b"refused ");
-    let at_at = put_decimal(&mut *buf, number_at, number as u64);
+    let at_at = put_decimal(&mut *buf, number_at, u64::from(number));
     let place_at = put_bytes(&mut *buf, at_at, b" at ");
     let end = put_decimal(&mut *buf, place_at, place as u64);
     put_bytes(&mut *buf, end, b"\n")
 }
 
 // The line `too long` at the front of the buffer; its length.
+#[tactic(auto, unfolding(crate::specs::Text::too_long_line))]
 pub fn put_too_long(buf: &mut [u8]) -> usize
     ensures { (buf.new ≡ sets buf.old 0 too_long_line) × (result ≡ length too_long_line) }
 {
@@ -80,6 +79,7 @@ pub fn put_too_long(buf: &mut [u8]) -> usize
 }
 
 // The line `passed` at the front of the buffer; its length.
+#[tactic(auto, unfolding(crate::specs::Text::passed_line))]
 pub fn put_passed(buf: &mut [u8]) -> usize
     ensures { (buf.new ≡ sets buf.old 0 passed_line) × (result ≡ length passed_line) }
 {
@@ -107,6 +107,7 @@ pub fn put_numbered(out: &mut [u8], word: &[u8], number: u64) -> usize
 }
 
 // The line `unreadable line L` at the front of the buffer.
+#[tactic(auto, unfolding(crate::specs::Text::unreadable_line))]
 pub fn put_unreadable(out: &mut [u8], line: u64) -> usize
     ensures out_after { (out.new ≡ sets out.old 0 (unreadable_line line)) × (result ≡ length (unreadable_line line)) }
     ensures few { result ≤ 41 }
@@ -120,67 +121,65 @@ pub fn put_spaces(buf: &mut [u8], at: usize, n: usize) -> usize
     ensures buf_after { (buf.new ≡ sets buf.old at (spaces n)) × (result ≡ at + length (spaces n)) }
     ensures few { result ≡ at + n }
 {
-    let mut i = 0;
-    while i < n {
-        store(&mut *buf, at + i, 32);
-        i += 1;
+    for i in 0..n {
+        store(&mut *buf, at + i, b' ');
     }
-    at + i
+    at + n
 }
 
 // How many bytes the number x is written with.
 pub fn decimal_length(x: u64) -> usize
     ensures { (result ≡ length (decimal x)) × (result ≤ 20) }
 {
-    let mut rest = x;
-    let mut count = 1;
-    while rest >= 10 {
-        rest = rest / 10;
-        count += 1;
-    }
-    count
+    if x == 0 { 1 } else { x.ilog10() as usize + 1 }
 }
 
-// Behind the end stands 0, which is no digit.
-fn byte_at(s: &[u8], at: usize) -> u8
-    ensures { result ≡ get_or s.now at 0 }
+// What stands from a place on; nothing behind the end.
+fn rest(s: &[u8], from: usize) -> &[u8]
+    ensures { result.now ≡ drop from s.now }
 {
-    if at < s.len() { s[at] } else { 0 }
+    s.get(from..).unwrap_or(&[])
 }
 
 pub fn is_digit(b: u8) -> bool
     ensures { result ≡ is_digit b }
 {
-    if b < 48 {
-        return false;
-    }
-    b <= 57
+    matches!(b, b'0'..=b'9')
 }
 
-fn digit_value(b: u8) -> u64
-    ensures { (result ≡ b - 48) × (result ≤ 255) }
+// How many digits stand at the front.
+fn digit_count(s: &[u8]) -> usize
+    ensures value { result ≡ length (take_while is_digit s.now) }
+    ensures within { result ≤ length s.now }
 {
-    if b < 48 { 0 } else { (b - 48) as u64 }
+    s.iter().take_while(|b| is_digit(**b)).count()
+}
+
+// The number that digits stand for, if 64 bits hold it.
+fn value_of(digits: &[u8]) -> Option<u64>
+    ensures { result ≡ value64 digits.now }
+{
+    let mut value: u64 = 0;
+    for b in digits {
+        value = value
+            .checked_mul(10)?
+            .checked_add(u64::from(b.saturating_sub(b'0')))?;
+    }
+    Some(value)
 }
 
 // The number that the longest run of digits from `at` on stands for, if there is a digit and 64 bits hold it.
-pub fn read_decimal(s: &[u8], at: usize) -> Number
+pub fn read_decimal(s: &[u8], at: usize) -> Option<Digits>
     ensures { result ≡ read_decimal s.now at }
 {
-    let mut value: u64 = 0;
-    let mut next = at;
-    let mut b = byte_at(s, at);
-    while is_digit(b) {
-        let digit = digit_value(b);
-        if value > (18446744073709551615 - digit) / 10 {
-            return Number::None;
-        }
-        value = 10 * value + digit;
-        next += 1;
-        b = byte_at(s, next);
+    let text = rest(s, at);
+    let count = digit_count(text);
+    if count == 0 {
+        return None;
     }
-    if next == at {
-        return Number::None;
-    }
-    Number::Digits { value, next }
+    let value = value_of(&text[..count])?;
+    Some(Digits {
+        value,
+        next: at + count,
+    })
 }

@@ -4,24 +4,23 @@
 ghost use Rattle.std.specs.Prelude.{◌≡◌, ◌≤◌, length};
 ghost use Rattle.std.proofs.lemmas.List.Edits.{sets};
 ghost use Rattle.io.specs.Counts.{IsPrefixLen};
+ghost use Rattle.manners.specs.Status.{number_of};
 ghost use Rattle.planwords.specs.TextPlan.{unreadable_text};
 ghost use Rattle.textplan.specs.Answer.{answer_for, status_for};
 
-use input::Input;
-use manners::{FAILED, Response, Start, put_lines};
+use manners::{Failed, Response, Status, put_lines};
 use planitems::put_reason;
-use planreader::Back;
-use planwords::Reason;
+use planreader::{Unread, Unreadable};
 use text::{put_bytes, put_marked, put_too_long};
 
 // The line `unreadable line L: REASON` at the front of the buffer; its length.
-fn put_unreadable(out: &mut [u8], line: u64, why: Reason) -> usize
-    ensures out_after { (out.new ≡ sets out.old 0 (unreadable_text line why)) × (result ≡ length (unreadable_text line why)) }
+fn put_unreadable(out: &mut [u8], unread: Unreadable) -> usize
+    ensures out_after { (out.new ≡ sets out.old 0 (unreadable_text unread.line unread.why)) × (result ≡ length (unreadable_text unread.line unread.why)) }
     ensures few { result ≤ 64 }
 {
-    let colon_at = put_marked(&mut *out, 0, b"unreadable line ", line);
+    let colon_at = put_marked(&mut *out, 0, b"unreadable line ", unread.line);
     let why_at = put_bytes(&mut *out, colon_at, b": ");
-    let end = put_reason(&mut *out, why_at, why);
+    let end = put_reason(&mut *out, why_at, unread.why);
     put_bytes(&mut *out, end, b"\n")
 }
 
@@ -29,28 +28,24 @@ fn put_unreadable(out: &mut [u8], line: u64, why: Reason) -> usize
 fn respond(lines: &[u8], out: &mut [u8]) -> Response
     requires { 262145 ≤ length out.old }
     ensures out_after { (out.new ≡ sets out.old 0 (answer_for lines.now)) × (result.length ≡ length (answer_for lines.now)) }
-    ensures status_value { result.status ≡ status_for lines.now }
+    ensures status_value { number_of result.status ≡ status_for lines.now }
     ensures prefix_len { IsPrefixLen result.length out.new }
 {
     match planreader::read(lines, &mut *out) {
-        Back::Plan(length) => Response::done(length),
-        Back::Unreadable { line, why } => Response::refused(put_unreadable(&mut *out, line, why)),
-        Back::TooLong => Response::refused(put_too_long(&mut *out)),
+        Ok(length) => Response::done(length),
+        Err(Unread::Unreadable(line)) => Response::refused(put_unreadable(&mut *out, line)),
+        Err(Unread::TooLong) => Response::refused(put_too_long(&mut *out)),
         // No plan that is read is longer than what is lent.
-        Back::Needs(bytes) => Response::refused(bytes),
+        Err(Unread::Needs(bytes)) => Response::refused(bytes),
     }
 }
 
-fn read(rt: HostRuntime) -> i32 {
+fn read(rt: HostRuntime) -> Result<Status, Failed> {
     let mut lines = input::text_room();
-    let Input::Bytes(n) = input::read_open(rt, &mut rt.stdin(), b"standard input", &mut lines)
-    else {
-        return FAILED;
-    };
+    let n = input::read_open(rt, &mut rt.stdin(), b"standard input", &mut lines)?;
     let mut out = input::text_room();
     let answer = respond(&lines[..n], &mut out);
-    let length = answer.length;
-    manners::write_out(rt, &out[..length], answer.status as i32)
+    manners::write_out(rt, &out[..answer.length], answer.status)
 }
 
 // What `--help` says behind the usage.
@@ -69,11 +64,11 @@ fn put_help(out: &mut [u8]) -> usize
     )
 }
 
-// The program; the number that it ends with.
-pub fn run(rt: HostRuntime) -> i32 {
+// The program, and how it ends.
+pub fn run(rt: HostRuntime) -> Result<Status, Failed> {
     let mut help = io::buffer();
     let end = put_help(&mut help);
-    let start = manners::opening(
+    let opened = manners::opening(
         rt,
         b"textplan",
         b"textplan < TEXT > PLAN",
@@ -81,8 +76,8 @@ pub fn run(rt: HostRuntime) -> i32 {
         1,
         0,
     );
-    match start {
-        Start::Works => read(rt),
-        Start::Ends(status) => status,
+    match opened {
+        Some(ended) => ended,
+        None => read(rt),
     }
 }

@@ -7,16 +7,15 @@ ghost use Rattle.plan.specs.Memory.{bus_seen};
 ghost use Rattle.rules.specs.Frames.{of_bits, on_bus, sending_time, gap_on_bus, gap_time};
 ghost use Rattle.times.specs.Sending.{sending_laid};
 
-use figures::larger;
 use plan::Bus;
 use units::ByteCount;
 
 // A number of bits on the bus. Wider than `BitCount`: no value of a bus, however far from its ranges, makes it wrap.
-#[derive(Clone, Copy)]
+#[derive(Clone, Copy, Default, PartialEq, Eq, PartialOrd, Ord)]
 pub struct Bits(pub u64);
 
 // A length of time in ticks; for the same reason wider than `Ticks`.
-#[derive(Clone, Copy)]
+#[derive(Clone, Copy, Default, PartialEq, Eq, PartialOrd, Ord)]
 pub struct Span(pub u64);
 
 // What is sent, as bits and as ticks.
@@ -34,7 +33,7 @@ fn quotient_up(a: u64, b: u32) -> u64
     if b == 0 {
         return 0;
     }
-    let d = b as u64;
+    let d = u64::from(b);
     (a + (d - 1)) / d
 }
 
@@ -43,7 +42,7 @@ fn multiple_up(r: u32, x: u64) -> u64
     requires { x < 2 ^ 62 }
     ensures { (result ≡ up r x) × (result ≤ x + r) }
 {
-    quotient_up(x, r) * r as u64
+    quotient_up(x, r) * u64::from(r)
 }
 
 // Both roundings go up: to a whole tick, then to the resolution.
@@ -61,14 +60,14 @@ fn of_bits(bus: Bus, bits: Bits) -> Sending
 pub fn on_bus(bus: Bus, payload: ByteCount) -> Sending
     ensures { (result ≡ sending_laid (on_bus (bus_seen bus) payload.0)) × (result.ticks.0 < 2 ^ 53) }
 {
-    let bytes = bus.overhead.0 as u64 + larger(payload.0, bus.least.0) as u64;
-    of_bits(bus, Bits(bus.byte_bits.0 as u64 * bytes))
+    let bytes = u64::from(bus.overhead.0) + u64::from(payload.0.max(bus.least.0));
+    of_bits(bus, Bits(u64::from(bus.byte_bits.0) * bytes))
 }
 
 pub fn gap_on_bus(bus: Bus) -> Sending
     ensures { (result ≡ sending_laid (gap_on_bus (bus_seen bus))) × (result.ticks.0 < 2 ^ 53) }
 {
-    of_bits(bus, Bits(bus.gap.0 as u64))
+    of_bits(bus, Bits(u64::from(bus.gap.0)))
 }
 
 pub fn sending_time(bus: Bus, payload: ByteCount) -> Span

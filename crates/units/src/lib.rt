@@ -6,7 +6,7 @@ ghost use Rattle.std.specs.Prelude.{◌≡◌};
 
 // Time, in ticks of one microsecond.
 #[repr(C)]
-#[derive(Clone, Copy)]
+#[derive(Clone, Copy, Default, PartialEq, Eq, PartialOrd, Ord)]
 pub struct Ticks(pub u32);
 
 impl Ticks {
@@ -21,7 +21,7 @@ impl Ticks {
 }
 
 // A number of bytes: of a payload, an overhead, a file.
-#[derive(Clone, Copy)]
+#[derive(Clone, Copy, Default, PartialEq, Eq, PartialOrd, Ord)]
 pub struct ByteCount(pub u32);
 
 impl ByteCount {
@@ -51,11 +51,11 @@ impl ByteCount {
 }
 
 // A number of bits, as a plan gives it: the gap.
-#[derive(Clone, Copy)]
+#[derive(Clone, Copy, Default, PartialEq, Eq, PartialOrd, Ord)]
 pub struct BitCount(pub u32);
 
 // How many bits a byte takes on the bus.
-#[derive(Clone, Copy)]
+#[derive(Clone, Copy, Default, PartialEq, Eq, PartialOrd, Ord)]
 pub struct ByteBits(pub u8);
 
 impl ByteBits {
@@ -86,7 +86,7 @@ impl ByteBits {
 }
 
 // The number of a node, counted from 0.
-#[derive(Clone, Copy)]
+#[derive(Clone, Copy, Default, PartialEq, Eq, PartialOrd, Ord)]
 pub struct NodeNo(pub u8);
 
 impl NodeNo {
@@ -107,7 +107,7 @@ impl NodeNo {
 }
 
 // The number of a module, counted from 0 in the plan's order.
-#[derive(Clone, Copy)]
+#[derive(Clone, Copy, Default, PartialEq, Eq, PartialOrd, Ord)]
 pub struct ModuleNo(pub u8);
 
 impl ModuleNo {
@@ -128,7 +128,7 @@ impl ModuleNo {
 }
 
 // The number of a mode, counted from 0 in the plan's order over all modules.
-#[derive(Clone, Copy)]
+#[derive(Clone, Copy, Default, PartialEq, Eq, PartialOrd, Ord)]
 pub struct ModeNo(pub u8);
 
 impl ModeNo {
@@ -150,7 +150,7 @@ impl ModeNo {
 
 // The number of a task, counted from 0 in the plan's order over all modules.
 #[repr(C)]
-#[derive(Clone, Copy)]
+#[derive(Clone, Copy, Default, PartialEq, Eq, PartialOrd, Ord)]
 pub struct TaskNo(pub u8);
 
 impl TaskNo {
@@ -171,25 +171,25 @@ impl TaskNo {
 }
 
 // The number of a record in its file, counted from 0 over all kinds.
-#[derive(Clone, Copy)]
+#[derive(Clone, Copy, Default, PartialEq, Eq, PartialOrd, Ord)]
 pub struct RecordNo(pub usize);
 
 // The number of a frame: by deadline, then by task.
-#[derive(Clone, Copy)]
+#[derive(Clone, Copy, Default, PartialEq, Eq, PartialOrd, Ord)]
 pub struct FrameNo(pub usize);
 
 // A place in a file, in bytes from its front.
-#[derive(Clone, Copy)]
+#[derive(Clone, Copy, Default, PartialEq, Eq, PartialOrd, Ord)]
 pub struct Offset(pub usize);
 
 // The number of a task as it stands in a row: a word, so that a row has no gaps and many rows are cleared at once.
 #[repr(C)]
-#[derive(Clone, Copy)]
+#[derive(Clone, Copy, Default, PartialEq, Eq, PartialOrd, Ord)]
 pub struct TaskWord(pub u32);
 
 // A frame as the caller lends it a row: its task, release and deadline, and the start that a table gives it.
 #[repr(C)]
-#[derive(Clone, Copy)]
+#[derive(Clone, Copy, Default, PartialEq, Eq)]
 pub struct Frame {
     pub task: TaskWord,
     pub release: Ticks,

@@ -19,18 +19,11 @@ pub fn say_refusal(rt: HostRuntime, why: Refusal) {
     say_number(rt, b" at ", why.place() as u64);
 }
 
-fn wide(x: u8) -> u64 {
-    x as u64
-}
-
 // The bytes in front of `end`.
 pub fn say_table(rt: HostRuntime, buf: &[u8], end: usize) {
     say(rt, b"table ");
-    let mut i = 0;
-    while i < end && i < buf.len() {
-        let byte = wide(buf[i]);
+    for byte in buf.iter().take(end) {
         let _ = print!(rt; "{byte:02x}");
-        i += 1;
     }
 }
 
@@ -41,18 +34,16 @@ fn say_row(rt: HostRuntime, task: u8, release: u32, deadline: u32, start: u32) {
     say_number(rt, b",", start as u64);
 }
 
-pub fn say_rows<'a>(
+pub fn say_rows(
     rt: HostRuntime,
     frames: usize,
-    tasks: &'a [u8; Frame::MOST],
-    releases: &'a [u32; Frame::MOST],
-    deadlines: &'a [u32; Frame::MOST],
-    starts: &'a [u32; Frame::MOST],
+    tasks: &[u8; Frame::MOST],
+    releases: &[u32; Frame::MOST],
+    deadlines: &[u32; Frame::MOST],
+    starts: &[u32; Frame::MOST],
 ) {
-    let mut k = 0;
-    while k < frames && k < Frame::MOST {
+    for k in 0..frames.min(Frame::MOST) {
         say_row(rt, tasks[k], releases[k], deadlines[k], starts[k]);
-        k += 1;
     }
 }
 

@@ -6,12 +6,9 @@
 
 ghost use Rattle.std.specs.Prelude.{◌<◌, ◌≤◌, ◌≡◌, length};
 
-use answers::Verdict;
-use input::Input;
 use lines::{say, say_left, say_refusal, say_rows, say_table};
 use little::read32;
-use std::env::FillError;
-use std::rt::Env;
+use manners::has_argument;
 use units::Frame;
 
 mod lines;
@@ -19,48 +16,30 @@ mod lines;
 // What stands in the buffer before a table is made.
 const OLD: u8 = 165;
 
-fn one_if(test: bool) -> u64
-    ensures { result ≤ 1 }
-{
-    if test { 1 } else { 0 }
-}
-
 // How many bytes from a place on are as they were.
 fn kept(buf: &[u8], from: usize) -> u64 {
-    let mut n: u64 = 0;
-    let mut i = from;
-    while i < buf.len() {
-        n += one_if(buf[i] == OLD);
-        i += 1;
-    }
-    n
+    buf.iter().skip(from).filter(|byte| **byte == OLD).count() as u64
 }
 
 fn is_zero(task: u8, release: u32, deadline: u32, start: u32) -> bool {
     task == 0 && release == 0 && deadline == 0 && start == 0
 }
 
-fn zeros<'a>(
-    tasks: &'a [u8; Frame::MOST],
-    releases: &'a [u32; Frame::MOST],
-    deadlines: &'a [u32; Frame::MOST],
-    starts: &'a [u32; Frame::MOST],
+fn zeros(
+    tasks: &[u8; Frame::MOST],
+    releases: &[u32; Frame::MOST],
+    deadlines: &[u32; Frame::MOST],
+    starts: &[u32; Frame::MOST],
 ) -> u64 {
-    let mut n: u64 = 0;
-    let mut k = 0;
-    while k < Frame::MOST {
-        n += one_if(is_zero(tasks[k], releases[k], deadlines[k], starts[k]));
-        k += 1;
-    }
-    n
+    (0..Frame::MOST)
+        .filter(|k| is_zero(tasks[*k], releases[*k], deadlines[*k], starts[*k]))
+        .count() as u64
 }
 
 fn read(rt: HostRuntime, plan: &[u8]) {
-    let reading = planrules::read(plan);
-    let answer = reading.answer;
-    match answer {
-        Verdict::Fine => say(rt, b"sound"),
-        Verdict::Refused(why) => say_refusal(rt, why),
+    match planrules::read(plan) {
+        Ok(_) => say(rt, b"sound"),
+        Err(why) => say_refusal(rt, why),
     }
 }
 
@@ -82,13 +61,13 @@ fn make_in(rt: HostRuntime, plan: &[u8], edition: u8, lent: usize, buf: &mut [u8
     let answer = made.answer;
     let mut end = 0;
     match answer {
-        linetable::Answer::Made(length) => {
+        Ok(length) => {
             say_table(rt, buf, length);
             say(rt, b" rows");
             say_rows(rt, made.frames, &tasks, &releases, &deadlines, &starts);
             end = length;
         }
-        linetable::Answer::Refused(why) => say_refusal(rt, why),
+        Err(why) => say_refusal(rt, why),
     }
     say_left(
         rt,
@@ -122,21 +101,19 @@ fn check(rt: HostRuntime, plan: &[u8], table: &[u8], lent: usize) {
     );
     let answer = checked.answer;
     match answer {
-        Verdict::Fine => say(rt, b"passed rows"),
-        Verdict::Refused(why) => say_refusal(rt, why),
+        Ok(()) => say(rt, b"passed rows"),
+        Err(why) => say_refusal(rt, why),
     }
     say_rows(rt, checked.frames, &tasks, &releases, &deadlines, &starts);
 }
 
 fn run(rt: HostRuntime, what: u32, plan: &[u8], table: &[u8], lent: usize, room: usize) {
-    if what == 0 {
-        read(rt, plan);
-    } else if what == 1 {
-        make(rt, plan, maker::BASIC, lent, room);
-    } else if what == 2 {
-        check(rt, plan, table, lent);
-    } else if what == 3 {
-        make(rt, plan, maker::CONSUMERS, lent, room);
+    match what {
+        0 => read(rt, plan),
+        1 => make(rt, plan, maker::BASIC, lent, room),
+        2 => check(rt, plan, table, lent),
+        3 => make(rt, plan, maker::CONSUMERS, lent, room),
+        _ => {}
     }
     say(rt, b"\n");
 }
@@ -185,24 +162,14 @@ fn no_cases() -> [u8; 524288]
 // The cases of the file that an argument names.
 fn run_file(rt: HostRuntime, i: usize) {
     let mut file = no_cases();
-    if let Input::Bytes(length) = input::read_argument(rt, i, b"CASES", &mut file) {
+    if let Ok(length) = input::read_argument(rt, i, b"CASES", &mut file) {
         all(rt, &file[..length]);
-    }
-}
-
-// Whether there is an argument i, of whatever length.
-fn is_there(rt: HostRuntime, i: usize) -> bool {
-    let mut room = [0u8; 1];
-    match rt.arg(i, &mut room) {
-        Ok(_) => true,
-        Err(FillError::TooLong) => true,
-        Err(FillError::NotPresent) => false,
     }
 }
 
 fn main(rt: HostRuntime) {
     for i in 1..usize::MAX {
-        if !is_there(rt, i) {
+        if !has_argument(rt, i) {
             return;
         }
         run_file(rt, i);

@@ -5,15 +5,15 @@ use borrow.Author.Rules.{rules}
 use Rattle.answerlines.proofs.put_node.Goals as goal
 
 pub loop-t-init : goal.loop-t-init
-loop-t-init c = (search rules, search rules, putting_none)
+loop-t-init c = (search rules, putting_none)
 
 pub loop-t-preserved : goal.loop-t-preserved
 unfolding shown_at
 loop-t-preserved c =
-    (search rules, search rules, putting_turn c.loop-t.invariant.2 c.put_place-next.ensures.out_after)
+    (search rules, putting_turn c.loop-t.invariant.1 c.put_place-next.ensures.out_after)
 
 pub shape_of-out : goal.shape_of-out
-shape_of-out c = putting_length c.loop-t.invariant.2
+shape_of-out c = putting_length c.loop-t.invariant.1
 
 pub returns : goal.returns
-returns c = record { out_after = putting_end c.loop-t.invariant.2 c.loop-t.invariant.0 c.loop-t-test.false; few = omega arith }
+returns c = record { out_after = putting_end c.loop-t.invariant.1 (omega arith) (omega arith); few = omega arith }

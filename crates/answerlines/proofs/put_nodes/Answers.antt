@@ -5,15 +5,15 @@ use borrow.Author.Rules.{rules}
 use Rattle.answerlines.proofs.put_nodes.Goals as goal
 
 pub loop-n-init : goal.loop-n-init
-loop-n-init c = (search rules, search rules, putting_none)
+loop-n-init c = (search rules, putting_none)
 
 pub loop-n-preserved : goal.loop-n-preserved
 unfolding node_shown
 loop-n-preserved c =
-    (search rules, search rules, putting_turn c.loop-n.invariant.2 c.put_node-next.ensures.out_after)
+    (search rules, putting_turn c.loop-n.invariant.1 c.put_node-next.ensures.out_after)
 
 pub shape_of-out : goal.shape_of-out
-shape_of-out c = putting_length c.loop-n.invariant.2
+shape_of-out c = putting_length c.loop-n.invariant.1
 
 pub returns : goal.returns
-returns c = record { out_after = putting_end c.loop-n.invariant.2 c.loop-n.invariant.0 c.loop-n-test.false; few = omega arith }
+returns c = record { out_after = putting_end c.loop-n.invariant.1 (omega arith) (omega arith); few = omega arith }

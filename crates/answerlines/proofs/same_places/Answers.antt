@@ -1,13 +1,7 @@
-use Rattle.laws.proofs.Turns.{tested_none, tested_turn, tested_end}
-use mathlib.Core.Path.{refl}
-use borrow.Author.Rules.{rules}
+-- Two lists of as many numbers are equal where each place agrees (`same-places`).
+use Rattle.std.proofs.Common.{◌∙◌}
+use Rattle.answerlines.proofs.Places.{same-places}
 use Rattle.answerlines.proofs.same_places.Goals as goal
 
-pub loop-t-init : goal.loop-t-init
-loop-t-init c = (search rules, tested_none)
-
-pub loop-t-preserved : goal.loop-t-preserved
-loop-t-preserved c = (search rules, tested_turn c.loop-t.invariant.1 c.both-same.ensures refl)
-
 pub returns : goal.returns
-returns c = tested_end c.loop-t.invariant.1 c.loop-t.invariant.0 c.loop-t-test.false
+returns c = c.eq.ensures ∙ same-places c.args.a.now c.args.b.now 32 c.told-a c.told-b

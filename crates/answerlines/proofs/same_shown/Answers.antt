@@ -1,15 +1,15 @@
+use Rattle.std.proofs.Common.{◌∙◌, below_more, sym, arith}
 use Rattle.answerlines.specs.Writing.{same_on}
-use Rattle.laws.proofs.Turns.{tested_none, tested_turn, tested_end}
-use borrow.Author.Rules.{rules}
+use Rattle.answerlines.proofs.Places.{same-on}
+use Rattle.laws.proofs.Lists.{all-up_to-each, all-up_to-failed}
 use Rattle.answerlines.proofs.same_shown.Goals as goal
 
-pub loop-n-init : goal.loop-n-init
-loop-n-init c = (search rules, tested_none)
-
 pub loop-n-preserved : goal.loop-n-preserved
-unfolding same_on
-loop-n-preserved c =
-    (search rules, tested_turn c.loop-n.invariant.1 c.both-same.ensures c.same_places.ensures)
+loop-n-preserved c = below_more _ _ c.loop-n.invariant (same-on c.args.a c.args.b c.loop-n.n c.same_places-same.ensures ∙ c.if-not-same.false)
+
+pub returns-then-not-same : goal.returns-then-not-same
+returns-then-not-same c =
+    sym (all-up_to-failed (same_on c.args.a c.args.b) 8 c.loop-n.n c.loop-n-test.true (same-on c.args.a c.args.b c.loop-n.n c.same_places-same.ensures ∙ c.if-not-same.true))
 
 pub returns : goal.returns
-returns c = tested_end c.loop-n.invariant.1 c.loop-n.invariant.0 c.loop-n-test.false
+returns c = sym (all-up_to-each (same_on c.args.a c.args.b) 8 (λ k h. c.loop-n.invariant k (omega arith)))

@@ -10,18 +10,18 @@ returns-then-plan-gt65536 c =
     long_response a.consumers a.plan.now a.out.now _ _ _ _ c.if-plan-gt65536.true c.put_too_long.ensures c.refused.ensures in
     record { out_after = all.0; status_value = all.1.0; prefix_len = all.1.1 }
 
-pub returns-in-Made : goal.returns-in-Made
-returns-in-Made c =
+pub returns-in-Ok : goal.returns-in-Ok
+returns-in-Ok c =
     let all =
     let a = c.args in
     made_response a.consumers c.edition_of.result c.edition_of.ensures a.plan.now a.out.now _ _ c.if-plan-gt65536.false c.made-made.ensures.makes _ _ _
-    c.in-Made.is c.done.ensures in
+    c.in-Ok.is c.done.ensures in
     record { out_after = all.0; status_value = all.1.0; prefix_len = all.1.1 }
 
-pub returns-in-Refused : goal.returns-in-Refused
-returns-in-Refused c =
+pub returns-in-Err : goal.returns-in-Err
+returns-in-Err c =
     let all =
     let a = c.args in
     refused_response a.consumers c.edition_of.result c.edition_of.ensures a.plan.now a.out.now _ _ c.if-plan-gt65536.false c.made-made.ensures.makes
-    _ _ _ _ _ _ _ c.in-Refused.is c.number.ensures c.place.ensures (omega arith) (omega arith) c.put_refused.ensures c.refused-in-Refused.ensures in
+    _ _ _ _ _ _ _ c.in-Err.is c.number.ensures c.place.ensures (omega arith) (omega arith) c.put_refused.ensures c.refused-in-Err.ensures in
     record { out_after = all.0; status_value = all.1.0; prefix_len = all.1.1 }

@@ -3,18 +3,18 @@ use mathlib.Core.Path.{refl}
 use Rattle.checker.proofs.Ways.{way_refused, way_fine}
 use Rattle.checker.proofs.check.Goals as goal
 
-pub returns-in-Refused : goal.returns-in-Refused
-returns-in-Refused c =
+pub returns-in-Err : goal.returns-in-Err
+returns-in-Err c =
     let a = c.args in
     let h =
-    way_refused a.plan.now a.table.now a.lent _ c.judged-all.ensures _ _ c.in-Refused.is c.refused.ensures (refl, (refl, (refl, refl)))
+    way_refused a.plan.now a.table.now a.lent _ c.judged-all.ensures _ _ c.in-Err.is c.refused.ensures (refl, (refl, (refl, refl)))
     in
     record { checks = h.0; passes_exactly = h.1.0; refuses_exactly = h.1.1 }
 
-pub returns-in-Fine : goal.returns-in-Fine
-returns-in-Fine c =
+pub returns-in-Ok : goal.returns-in-Ok
+returns-in-Ok c =
     let a = c.args in
-    let h = way_fine a.plan.now a.table.now a.lent _ c.judged-all.ensures c.in-Fine.is in
+    let h = way_fine a.plan.now a.table.now a.lent _ c.judged-all.ensures c.in-Ok.is in
     record { checks = h.0; passes_exactly = h.1.0; refuses_exactly = h.1.1 }
 
 pub judged-all-requires : goal.judged-all-requires

@@ -9,14 +9,14 @@ by_table-judged-requires c =
     let ready = judge_ready a.p a.line a.tasks.now a.releases.now a.deadlines.now c.requires.p_value in
     record { numbered = ready.0; controls_le_most_nodes = ready.1; starts_value = c.requires.starts_value }
 
-pub returns-in-Refused : goal.returns-in-Refused
-returns-in-Refused c =
+pub returns-in-Err : goal.returns-in-Err
+returns-in-Err c =
     let a = c.args in
     on_refused a.p a.line a.tasks.now a.releases.now a.deadlines.now c.requires.p_value a.table.now _ _ _ _ _ _
-    c.by_table-judged.ensures _ c.in-Refused.is c.taken_back.ensures.value c.taken_back.ensures.tasks_after
+    c.by_table-judged.ensures _ c.in-Err.is c.taken_back.ensures.value c.taken_back.ensures.tasks_after
 
-pub returns : goal.returns
-returns c =
+pub returns-in-Ok : goal.returns-in-Ok
+returns-in-Ok c =
     let a = c.args in
     on_passed a.p a.line a.tasks.now a.releases.now a.deadlines.now c.requires.p_value a.table.now _ _ _ _ _ _
-    c.by_table-judged.ensures c.in_default.is refl refl refl refl
+    c.by_table-judged.ensures c.in-Ok.is refl refl refl refl

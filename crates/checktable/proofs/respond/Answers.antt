@@ -17,17 +17,17 @@ returns-then-table-gt65536 c =
     long-table a.plan.now a.table.now a.out.now c.put_too_long-then-table-gt65536.new.buf c.put_too_long-then-table-gt65536.result _ _ c.if-table-gt65536.true c.put_too_long-then-table-gt65536.ensures c.refused-then-table-gt65536.ensures in
     record { out_after = all.0; status_value = all.1.0; prefix_len = all.1.1 }
 
-pub returns-in-Fine : goal.returns-in-Fine
-returns-in-Fine c =
+pub returns-in-Ok : goal.returns-in-Ok
+returns-in-Ok c =
     let all =
     let a = c.args in
-    passed_response a.plan.now a.table.now a.out.now c.put_passed.new.buf c.put_passed.result _ _ c.if-plan-gt65536.false c.if-table-gt65536.false _ c.check-checked.ensures.checks c.in-Fine.is c.put_passed.ensures c.done.ensures in
+    passed_response a.plan.now a.table.now a.out.now c.put_passed.new.buf c.put_passed.result _ _ c.if-plan-gt65536.false c.if-table-gt65536.false _ c.check-checked.ensures.checks c.in-Ok.is c.put_passed.ensures c.done.ensures in
     record { out_after = all.0; status_value = all.1.0; prefix_len = all.1.1 }
 
-pub returns-in-Refused : goal.returns-in-Refused
-returns-in-Refused c =
+pub returns-in-Err : goal.returns-in-Err
+returns-in-Err c =
     let all =
     let a = c.args in
-    refused_response a.plan.now a.table.now a.out.now c.put_refused.new.buf c.put_refused.result _ _ c.if-plan-gt65536.false c.if-table-gt65536.false _ c.check-checked.ensures.checks c.in-Refused.why c.number.result c.place.result c.in-Refused.is c.number.ensures c.place.ensures
-    (omega arith) (omega arith) c.put_refused.ensures c.refused-in-Refused.ensures in
+    refused_response a.plan.now a.table.now a.out.now c.put_refused.new.buf c.put_refused.result _ _ c.if-plan-gt65536.false c.if-table-gt65536.false _ c.check-checked.ensures.checks c.in-Err.why c.number.result c.place.result c.in-Err.is c.number.ensures c.place.ensures
+    (omega arith) (omega arith) c.put_refused.ensures c.refused-in-Err.ensures in
     record { out_after = all.0; status_value = all.1.0; prefix_len = all.1.1 }

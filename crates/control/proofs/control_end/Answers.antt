@@ -23,7 +23,7 @@ loop-n-preserved c =
     elim c.if-payloads-n-gt0.branch [
       | then-payloads-n-gt0 w ↦
           let y = sends_yes q l.n t (omega arith) w.if-payloads-n-gt0.true in
-          let time = time-is q l.n t (omega arith) w.wide.ensures w.control_time.ensures.0 in (
+          let time = time-is q l.n t (omega arith) w.from.ensures w.control_time.ensures.0 in (
             omega arith,
             l.invariant.1,
             w.next-is ∙ rw (l.invariant.2, time, gap) (sym (next_yes q l.n y)),
@@ -60,9 +60,6 @@ overflow_add-stop c = omega arith
 
 pub overflow_add-next : goal.overflow_add-next
 overflow_add-next c = omega arith
-
-pub overflow_add-n : goal.overflow_add-n
-overflow_add-n c = omega arith
 
 pub overflow_add-result : goal.overflow_add-result
 overflow_add-result c = omega arith

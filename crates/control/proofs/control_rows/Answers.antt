@@ -52,14 +52,14 @@ loop-n-init c = (omega arith, c.requires.p_bound, shown-none (seen c.args.p))
 
 pub overflow_add-stop : goal.overflow_add-stop
 unfolding seen count_seen
-overflow_add-stop c = omega (arith, stops (seen c.args.p) c.loop-n.invariant.2 c.requires.payloads_value (omega arith) (omega arith) c.if-payloads-n-gt0.true c.wide.ensures c.control_time.ensures.0 c.requires.p_bound_2)
+overflow_add-stop c = omega (arith, stops (seen c.args.p) c.loop-n.invariant.2 c.requires.payloads_value (omega arith) (omega arith) c.if-payloads-n-gt0.true c.from.ensures c.control_time.ensures.0 c.requires.p_bound_2)
 
 pub bounds-nodes-count : goal.bounds-nodes-count
 bounds-nodes-count c = omega (arith, shown-few (seen c.args.p) c.loop-n.invariant.2)
 
 pub overflow_cast-starts : goal.overflow_cast-starts
 unfolding seen count_seen
-overflow_cast-starts c = omega (arith, stops (seen c.args.p) c.loop-n.invariant.2 c.requires.payloads_value (omega arith) (omega arith) c.if-payloads-n-gt0.true c.wide.ensures c.control_time.ensures.0 c.requires.p_bound_2)
+overflow_cast-starts c = omega (arith, stops (seen c.args.p) c.loop-n.invariant.2 c.requires.payloads_value (omega arith) (omega arith) c.if-payloads-n-gt0.true c.from.ensures c.control_time.ensures.0 c.requires.p_bound_2)
 
 pub offset_bounds-starts-count : goal.offset_bounds-starts-count
 offset_bounds-starts-count c = omega (arith, shown-few (seen c.args.p) c.loop-n.invariant.2)
@@ -69,7 +69,7 @@ bounds-starts-count c = omega (arith, shown-few (seen c.args.p) c.loop-n.invaria
 
 pub overflow_cast-stops : goal.overflow_cast-stops
 unfolding seen count_seen
-overflow_cast-stops c = omega (arith, stops (seen c.args.p) c.loop-n.invariant.2 c.requires.payloads_value (omega arith) (omega arith) c.if-payloads-n-gt0.true c.wide.ensures c.control_time.ensures.0 c.requires.p_bound_2)
+overflow_cast-stops c = omega (arith, stops (seen c.args.p) c.loop-n.invariant.2 c.requires.payloads_value (omega arith) (omega arith) c.if-payloads-n-gt0.true c.from.ensures c.control_time.ensures.0 c.requires.p_bound_2)
 
 pub offset_bounds-stops-count : goal.offset_bounds-stops-count
 offset_bounds-stops-count c = omega (arith, shown-few (seen c.args.p) c.loop-n.invariant.2)
@@ -82,7 +82,7 @@ overflow_add-count c = omega (arith, shown-few (seen c.args.p) c.loop-n.invarian
 
 pub overflow_add-start : goal.overflow_add-start
 unfolding seen count_seen
-overflow_add-start c = omega (arith, stops (seen c.args.p) c.loop-n.invariant.2 c.requires.payloads_value (omega arith) (omega arith) c.if-payloads-n-gt0.true c.wide.ensures c.control_time.ensures.0 c.requires.p_bound_2)
+overflow_add-start c = omega (arith, stops (seen c.args.p) c.loop-n.invariant.2 c.requires.payloads_value (omega arith) (omega arith) c.if-payloads-n-gt0.true c.from.ensures c.control_time.ensures.0 c.requires.p_bound_2)
 
 pub loop-n-preserved : goal.loop-n-preserved
 unfolding seen
@@ -95,7 +95,7 @@ loop-n-preserved c =
     elim c.if-payloads-n-gt0.branch [
       | then-payloads-n-gt0 w ↦
           let y = sends_yes q l.n t (omega arith) w.if-payloads-n-gt0.true in
-          let time = time-is q l.n t (omega arith) w.wide.ensures w.control_time.ensures.0 in (
+          let time = time-is q l.n t (omega arith) w.from.ensures w.control_time.ensures.0 in (
             omega arith,
             l.invariant.1,
             rw (w.nodes-is, w.starts-is, w.stops-is, w.count-is, w.start-is)
@@ -122,6 +122,3 @@ bounds-payloads-n-then-payloads-n-gt0 c = omega arith
 
 pub overflow_cast-nodes : goal.overflow_cast-nodes
 overflow_cast-nodes c = omega arith
-
-pub overflow_add-n : goal.overflow_add-n
-overflow_add-n c = omega arith

@@ -1,5 +1,5 @@
 -- Invariant: the rows of the nodes passed stand in the arrays (`Shown`). Each stop fits, since none is behind C (`shown-fits`).
-use Prim.Native.Nat.{◌-◌, ◌≤◌}
+use Prim.Native.Nat.{◌≤◌}
 use Rattle.plan.specs.Memory.{seen}
 use Rattle.control.proofs.Turns.{Shown}
 use Rattle.control.proofs.control_rows.Given as goal
@@ -7,6 +7,3 @@ use Rattle.control.proofs.control_rows.Given as goal
 abbrev pub invariant-loop-n : goal.invariant-loop-n
 invariant-loop-n l =
     (l.n ≤ l.most) × (l.most ≤ 8) × Shown (seen l.p) l.n l.count l.start l.nodes l.starts l.stops
-
-abbrev pub decreases-loop-n : goal.decreases-loop-n
-decreases-loop-n l = l.most - l.n

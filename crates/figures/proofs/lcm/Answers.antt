@@ -4,7 +4,7 @@ use mathlib.Core.Bool.{false}
 use mathlib.Core.Logic.{◌⊎◌, inl, inr}
 use native.Mathlib.Nat.{div-le_self, mul-le-mul, dvd_refl, dvd-zero, eq-zero_of_zero-dvd, eq-zero-or-pos}
 use native.Mathlib.Omega.{arith}
-use Prim.Native.Nat.{ℕ, ◌/◌, ◌-◌, ◌≤◌, ◌<◌, ◌^◌}
+use Prim.Native.Nat.{ℕ, ◌-◌, ◌≤◌, ◌<◌, ◌^◌}
 use Rattle.laws.specs.Numbers.{divides, gcd, lcm}
 use Rattle.laws.proofs.Lists.{true-false}
 use Rattle.laws.proofs.Divisors.{divides-true, divides-is, gcd_right, lcm_unique}
@@ -20,24 +20,20 @@ some a b g e f = which (eq-zero-or-pos g)
         absurd (true-false (sym (divides-is a b (rw n (dvd-zero a))) ∙ f))
     which (inr h) = h
 
-quotient : (c : goal.After-gcd) → c.args.a / c.gcd.result ≤ 2 ^ 32 - 1
-quotient c = omega (arith, div-le_self c.args.a c.gcd.result)
-
 pub returns-then-divides : goal.returns-then-divides
-returns-then-divides c = lcm_unique _ _ _ (divides-true _ _ (sym c.divides.ensures ∙ c.if-divides.true)) (dvd_refl _) (λ m p q. q)
+returns-then-divides c =
+    rw c.from.ensures
+    (lcm_unique _ _ _ (divides-true _ _ (sym c.divides.ensures ∙ c.if-divides.true)) (dvd_refl _) (λ m p q. q))
 
 pub nonzero_div-times : goal.nonzero_div-times
 nonzero_div-times c = some _ _ _ c.gcd.ensures (sym c.divides.ensures ∙ c.if-divides.false)
 
-pub overflow_cast-result-2 : goal.overflow_cast-result-2
-overflow_cast-result-2 c = omega (arith, quotient c)
-
 pub overflow_mul-result : goal.overflow_mul-result
 overflow_mul-result c =
-    let b = c.args.b in
-    let w : b ≤ 2 ^ 32 - 1 = omega arith in
-    omega (arith, mul-le-mul (quotient c) w)
+    let a : c.from-2.result ≤ 2 ^ 32 - 1 = rw c.from-2.ensures (omega (arith, div-le_self c.args.a c.gcd.result)) in
+    let b : c.from-3.result ≤ 2 ^ 32 - 1 = rw c.from-3.ensures (omega arith) in
+    omega (arith, mul-le-mul a b)
 
 pub returns : goal.returns
 unfolding lcm
-returns c = rw c.gcd.ensures
+returns c = rw (c.from-2.ensures, c.from-3.ensures, c.gcd.ensures)

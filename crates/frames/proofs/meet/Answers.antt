@@ -1,4 +1,6 @@
-use mathlib.Core.Path.{refl}
+use borrow.Author.Rules.{rules}
+use mathlib.Core.Path.{◌≡◌, refl}
+use Prim.Native.Nat.{max}
 use native.Mathlib.Nat.{le_of_dvd}
 use native.Mathlib.Omega.{arith}
 use Rattle.frames.proofs.Meeting.{taking_start, taken-few, ending, next_readable, next-short, root_rises, taking_turn, taking_end}
@@ -55,8 +57,9 @@ loop-root-smaller c =
 
 pub loop-root-preserved : goal.loop-root-preserved
 loop-root-preserved c =
+    let later : c.max-best.result ≡ max c.loop-root.best c.behind_release-b.result.0 = search rules in
     taking_turn _ _ _ _ _ _ _ _ _ c.requires.ready c.requires.d_nonzero.1 c.requires.d_nonzero.2 c.loop-root.invariant (omega (arith, c.loop-root-test.true)) refl
-    c.next_read-next.ensures c.key.ensures c.raise-root.ensures c.behind_release-b.ensures c.larger-best.ensures
+    c.next_read-next.ensures c.key.ensures c.raise-root.ensures c.behind_release-b.ensures later
 
 pub returns : goal.returns
 returns c =

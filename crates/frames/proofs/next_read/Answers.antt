@@ -25,7 +25,7 @@ read_from-requires c =
 
 pub loop-i-preserved : goal.loop-i-preserved
 loop-i-preserved c =
-    look_more _ _ _ _ _ c.loop-i.invariant (omega arith) c.read_from.ensures c.smaller-next.ensures
+    look_more _ _ _ _ _ c.loop-i.invariant (omega arith) c.read_from.ensures c.min-next.ensures
 
 pub returns : goal.returns
 returns c =

@@ -7,13 +7,13 @@ use Rattle.hearing.proofs.hear.Goals as goal
 pub returns-in-Waits : goal.returns-in-Waits
 unfolding heard_line
 returns-in-Waits c =
-    λ e. rw (c.in-Waits.is, ← c.read_line-line.ensures) c.hear_first.ensures
+    rw (c.in-Waits.is, ← c.read_line-line.ensures) c.hear_first.ensures
 
 pub returns-in-Plays : goal.returns-in-Plays
 unfolding heard_line
 returns-in-Plays c =
-    λ e. rw (c.in-Plays.is, ← c.read_line-line.ensures) (c.hear_later.ensures e)
+    rw (c.in-Plays.is, ← c.read_line-line.ensures) c.hear_later.ensures
 
 pub returns-in-Stops : goal.returns-in-Stops
 returns-in-Stops c =
-    λ e. sym (stays c.args.plan.now c.args.table.now c.args.number c.args.heard c.args.s.now c.args.heard.stage refl (rw c.in-Stops.is))
+    sym (stays c.args.plan.now c.args.table.now c.args.number c.args.heard c.args.s.now c.args.heard.stage refl (rw c.in-Stops.is))

@@ -1,5 +1,4 @@
 use mathlib.Core.Path.{sym}
-use mathlib.Core.Bool.{true≢false}
 use Rattle.stationruns.specs.Inputs.{no_input}
 use Rattle.station.specs.Memory.{ruled}
 use Rattle.hearing.proofs.Ticking.{going_none, going_turn, going_refused, going_end, same-room}
@@ -11,27 +10,24 @@ use borrow.Author.Rules.{rules}
 use Rattle.hearing.proofs.quiet.Goals as goal
 
 pub loop-k-init : goal.loop-k-init
-loop-k-init c = (search rules, going_none, c.answer_room-out.ensures.1)
+loop-k-init c = (going_none, c.answer_room-out.ensures.1)
 
 pub slice_bounds-answer_quiet-end : goal.slice_bounds-answer_quiet-end
-slice_bounds-answer_quiet-end c = search (rules, c.loop-k.invariant.2)
+slice_bounds-answer_quiet-end c = search (rules, c.loop-k.invariant.1)
 
 pub slice_bounds-say-end : goal.slice_bounds-say-end
 slice_bounds-say-end c =
     sym (length-take-le _ _ (omega (arith, c.answer_quiet-answered.ensures.few)))
 
-pub returns-then-not-say : goal.returns-then-not-say
-returns-then-not-say c = λ e. absurd (true≢false (sym e))
-
 pub returns-then-answered : goal.returns-then-answered
 unfolding after_nothing
 returns-then-answered c =
-    λ e. going_refused c.loop-k.invariant.1 c.answer_quiet-answered.ensures.station_value (c.answer_quiet-answered.ensures.stays c.if-answered.true)
+    going_refused c.loop-k.invariant.0 c.answer_quiet-answered.ensures.station_value (c.answer_quiet-answered.ensures.stays c.if-answered.true)
 
 pub loop-k-preserved : goal.loop-k-preserved
 unfolding after_nothing
 loop-k-preserved c =
-    (search rules, going_turn c.loop-k.invariant.1 c.loop-k-test.true c.answer_quiet-answered.ensures.station_value, same-room c.loop-k.out (quiet_said (c.loop-k.k + 1) c.args.rows c.loop-k.station (ruled c.loop-k.station no_input)) c.answer_quiet-answered.ensures.text.0 c.loop-k.invariant.2)
+    (going_turn c.loop-k.invariant.0 c.loop-k-test.true c.answer_quiet-answered.ensures.station_value, same-room c.loop-k.out (quiet_said (c.loop-k.k + 1) c.args.rows c.loop-k.station (ruled c.loop-k.station no_input)) c.answer_quiet-answered.ensures.text.0 c.loop-k.invariant.1)
 
 pub returns : goal.returns
-returns c = λ e. going_end c.loop-k.invariant.1 c.loop-k-test.false
+returns c = going_end c.loop-k.invariant.0 (omega arith)

@@ -1,38 +1,24 @@
-use mathlib.Core.Path.{refl, sym, ◌∙◌}
-use native.Mathlib.Omega.{arith}
+use Rattle.std.proofs.Common.{sym, ◌∙◌}
 use Rattle.laws.proofs.Loops.{first_bad-up_to_more}
 use Rattle.rules.specs.Checker.{same_control}
 use Rattle.table.specs.Rows.{control_in}
 use Rattle.judging.specs.Judged.{controls_same}
-use Rattle.naming.proofs.Places.{scan_hit, scan_end}
-use borrow.Author.Rules.{rules}
+use Rattle.naming.proofs.Places.{scan_hit}
 use Rattle.judging.proofs.first_strange.Goals as goal
-
-pub loop-k-init : goal.loop-k-init
-loop-k-init c = (search rules, refl)
 
 pub returns-then-not-same_control : goal.returns-then-not-same_control
 unfolding controls_same same_control control_in
 returns-then-not-same_control c =
     let a = c.args in
     scan_hit (controls_same (control_in a.control_nodes.now a.control_starts.now a.control_stops.now)
-    (control_in a.fixed_nodes.now a.fixed_starts.now a.fixed_stops.now)) c.loop-k.invariant.1 c.loop-k-test.true
+    (control_in a.fixed_nodes.now a.fixed_starts.now a.fixed_stops.now)) c.loop-k.invariant c.loop-k-test.true
     (sym c.same_control.ensures ∙ c.if-not-same_control.true)
 
 pub loop-k-preserved : goal.loop-k-preserved
 unfolding controls_same same_control control_in
 loop-k-preserved c =
-    let a = c.args in (
-      omega (arith, c.loop-k-test.true),
-      first_bad-up_to_more
-          (controls_same (control_in a.control_nodes.now a.control_starts.now a.control_stops.now)
-          (control_in a.fixed_nodes.now a.fixed_starts.now a.fixed_stops.now)) _ c.loop-k.invariant.1
-          (sym c.same_control.ensures ∙ c.if-not-same_control.false),
-    )
-
-pub returns : goal.returns
-returns c =
     let a = c.args in
-    scan_end (controls_same (control_in a.control_nodes.now a.control_starts.now a.control_stops.now)
-    (control_in a.fixed_nodes.now a.fixed_starts.now a.fixed_stops.now)) c.loop-k.invariant.1 c.loop-k-test.false
-    c.loop-k.invariant.0
+    first_bad-up_to_more
+    (controls_same (control_in a.control_nodes.now a.control_starts.now a.control_stops.now)
+    (control_in a.fixed_nodes.now a.fixed_starts.now a.fixed_stops.now)) _ c.loop-k.invariant
+    (sym c.same_control.ensures ∙ c.if-not-same_control.false)

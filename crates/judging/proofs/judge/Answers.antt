@@ -28,19 +28,19 @@ overflow_add-result c =
     let a = c.args in
     let same = controls_same (control_in a.heading.control_nodes a.heading.control_starts a.heading.control_stops)
     (control_in a.line.control_nodes a.line.control_starts a.line.control_stops) in
-    let e = spot_at (first_bad same (up_to a.line.controls)) c.first_strange.ensures c.in-At.is in
-    let w = first_bad-up_to-within same a.line.controls c.in-At.k e in
+    let e = spot_at (first_bad same (up_to a.line.controls)) c.first_strange.ensures c.in-Some.is in
+    let w = first_bad-up_to-within same a.line.controls c.in-Some.k e in
     omega (arith, w, c.requires.controls_le_most_nodes)
 
-pub returns-in-At : goal.returns-in-At
+pub returns-in-Some : goal.returns-in-Some
 unfolding line_judged controls_on frames_on bounds_on
-returns-in-At c =
+returns-in-Some c =
     let a = c.args in
     let l = drawing a.line a.tasks.now a.releases.now a.deadlines.now in
     strange_control l.tasks l.releases l.deadlines l.frames (time_in l.times) l.control_nodes l.control_starts
     l.control_stops l.controls (bounds_on l)
     (table_with a.heading a.row_tasks.now a.row_deadlines.now a.row_starts.now a.row_stops.now)
-    c.header_right.ensures (c.if-not-header_right.false) c.first_strange.ensures c.in-At.is refl
+    c.header_right.ensures (c.if-not-header_right.false) c.first_strange.ensures c.in-Some.is refl
 
 pub by_rows-requires : goal.by_rows-requires
 unfolding line_judged controls_on frames_on bounds_on

@@ -6,42 +6,42 @@ use Rattle.judging.proofs.rows_judged.Goals as goal
 
 pub overflow_add-result : goal.overflow_add-result
 overflow_add-result c =
-    omega (arith, c.requires.first_bound, among-at most_frames _ c.requires.among.0 c.in-At.is)
+    omega (arith, c.requires.first_bound, among-at most_frames _ c.requires.among.0 c.in-Some.is)
 
-pub returns-in-At : goal.returns-in-At
-returns-in-At c = rw c.in-At.is
+pub returns-in-Some : goal.returns-in-Some
+returns-in-Some c = rw c.in-Some.is
 
-pub overflow_add-result-in-At-mistimed : goal.overflow_add-result-in-At-mistimed
-overflow_add-result-in-At-mistimed c =
-    omega (arith, c.requires.first_bound, among-at most_frames _ c.requires.among.1.0 c.in-At-mistimed.is)
+pub overflow_add-result-in-Some-mistimed : goal.overflow_add-result-in-Some-mistimed
+overflow_add-result-in-Some-mistimed c =
+    omega (arith, c.requires.first_bound, among-at most_frames _ c.requires.among.1.0 c.in-Some-mistimed.is)
 
-pub returns-in-At-mistimed : goal.returns-in-At-mistimed
-returns-in-At-mistimed c =
-    rw (c.in_default.is, c.in-At-mistimed.is)
+pub returns-in-Some-mistimed : goal.returns-in-Some-mistimed
+returns-in-Some-mistimed c =
+    rw (c.in_default.is, c.in-Some-mistimed.is)
 
-pub overflow_add-result-in-At-early : goal.overflow_add-result-in-At-early
-overflow_add-result-in-At-early c =
-    omega (arith, c.requires.first_bound, among-at most_frames _ c.requires.among.1.1.0 c.in-At-early.is)
+pub overflow_add-result-in-Some-early : goal.overflow_add-result-in-Some-early
+overflow_add-result-in-Some-early c =
+    omega (arith, c.requires.first_bound, among-at most_frames _ c.requires.among.1.1.0 c.in-Some-early.is)
 
-pub returns-in-At-early : goal.returns-in-At-early
-returns-in-At-early c =
-    rw (c.in_default.is, c.in_default-mistimed.is, c.in-At-early.is)
+pub returns-in-Some-early : goal.returns-in-Some-early
+returns-in-Some-early c =
+    rw (c.in_default.is, c.in_default-mistimed.is, c.in-Some-early.is)
 
-pub overflow_add-result-in-At-late : goal.overflow_add-result-in-At-late
-overflow_add-result-in-At-late c =
-    omega (arith, c.requires.first_bound, among-at most_frames _ c.requires.among.1.1.1.0 c.in-At-late.is)
+pub overflow_add-result-in-Some-late : goal.overflow_add-result-in-Some-late
+overflow_add-result-in-Some-late c =
+    omega (arith, c.requires.first_bound, among-at most_frames _ c.requires.among.1.1.1.0 c.in-Some-late.is)
 
-pub returns-in-At-late : goal.returns-in-At-late
-returns-in-At-late c =
-    rw (c.in_default.is, c.in_default-mistimed.is, c.in_default-early.is, c.in-At-late.is)
+pub returns-in-Some-late : goal.returns-in-Some-late
+returns-in-Some-late c =
+    rw (c.in_default.is, c.in_default-mistimed.is, c.in_default-early.is, c.in-Some-late.is)
 
-pub overflow_add-result-in-At-crowded : goal.overflow_add-result-in-At-crowded
-overflow_add-result-in-At-crowded c =
-    omega (arith, c.requires.first_bound, among-at most_frames _ c.requires.among.1.1.1.1 c.in-At-crowded.is)
+pub overflow_add-result-in-Some-crowded : goal.overflow_add-result-in-Some-crowded
+overflow_add-result-in-Some-crowded c =
+    omega (arith, c.requires.first_bound, among-at most_frames _ c.requires.among.1.1.1.1 c.in-Some-crowded.is)
 
-pub returns-in-At-crowded : goal.returns-in-At-crowded
-returns-in-At-crowded c =
-    rw (c.in_default.is, c.in_default-mistimed.is, c.in_default-early.is, c.in_default-late.is, c.in-At-crowded.is)
+pub returns-in-Some-crowded : goal.returns-in-Some-crowded
+returns-in-Some-crowded c =
+    rw (c.in_default.is, c.in_default-mistimed.is, c.in_default-early.is, c.in_default-late.is, c.in-Some-crowded.is)
 
 pub returns : goal.returns
 returns c =

@@ -9,16 +9,16 @@ some_reader-requires c =
 pub returns-then-divides : goal.returns-then-divides
 returns-then-divides c =
     let a = c.args in
-    message_by a.runs.now a.counts.now a.periods.now a.task a.deadline a.mode c.number_at-period.ensures
+    message_by a.runs.now a.counts.now a.periods.now a.task a.deadline a.mode c.entry_or-period.ensures
     c.if-period-gt0.true c.divides.ensures c.if-divides.true c.some_reader.ensures
 
 pub returns-else-divides : goal.returns-else-divides
 returns-else-divides c =
     let a = c.args in
-    no_end a.runs.now a.counts.now a.periods.now a.task a.deadline a.mode c.number_at-period.ensures
+    no_end a.runs.now a.counts.now a.periods.now a.task a.deadline a.mode c.entry_or-period.ensures
     c.if-period-gt0.true c.divides.ensures c.if-divides.false
 
 pub returns-else-period-gt0 : goal.returns-else-period-gt0
 returns-else-period-gt0 c =
     let a = c.args in
-    no_run a.runs.now a.counts.now a.periods.now a.task a.deadline a.mode c.number_at-period.ensures c.if-period-gt0.false
+    no_run a.runs.now a.counts.now a.periods.now a.task a.deadline a.mode c.entry_or-period.ensures c.if-period-gt0.false

@@ -1,5 +1,4 @@
 -- Invariant: the three arrays are filled below m (`Filled`), each turn by `mode_at`; at the end each is whole (`filled-all`).
-use Prim.Native.Nat.{◌≤◌, ◌-◌}
 use lib.ListN.{replicate}
 use Rattle.laws.proofs.Turns.{Filled}
 use Rattle.plan.specs.Memory.{seen}
@@ -8,10 +7,6 @@ use Rattle.keeping.proofs.modes.Given as goal
 
 abbrev pub invariant-loop-m : goal.invariant-loop-m
 invariant-loop-m l =
-    (l.m ≤ 32)
-    × Filled (replicate 32 0) (home_of (seen l.p)) l.m l.homes
+    Filled (replicate 32 0) (home_of (seen l.p)) l.m l.homes
     × Filled (replicate 32 0) (period_of (seen l.p)) l.m l.periods
     × Filled (replicate 32 0) (switch_of (seen l.p)) l.m l.switches
-
-abbrev pub decreases-loop-m : goal.decreases-loop-m
-decreases-loop-m l = 32 - l.m

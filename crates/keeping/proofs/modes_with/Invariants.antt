@@ -5,6 +5,3 @@ use Rattle.keeping.proofs.modes_with.Given as goal
 
 abbrev pub invariant-loop-left : goal.invariant-loop-left
 invariant-loop-left l = Built (has_message l.runs l.counts l.periods l.task l.deadline) l.left l.bits
-
-abbrev pub decreases-loop-left : goal.decreases-loop-left
-decreases-loop-left l = l.left

@@ -1,5 +1,4 @@
 -- Invariant: both arrays are filled below m (`Filled`), the senders read by number (`by_number-at`); `filled-all` ends it.
-use Prim.Native.Nat.{◌≤◌, ◌-◌}
 use lib.ListN.{replicate}
 use Rattle.laws.proofs.Turns.{Filled}
 use Rattle.places.specs.Flags.{flag_bytes}
@@ -9,7 +8,4 @@ use Rattle.keeping.proofs.modules.Given as goal
 
 abbrev pub invariant-loop-m : goal.invariant-loop-m
 invariant-loop-m l =
-    (l.m ≤ 16) × Filled (replicate 16 0) (module_node (seen l.p)) l.m l.sites × Filled (replicate 16 0) (flag_bytes (is_sending (seen l.p))) l.m l.sending
-
-abbrev pub decreases-loop-m : goal.decreases-loop-m
-decreases-loop-m l = 16 - l.m
+    Filled (replicate 16 0) (module_node (seen l.p)) l.m l.sites × Filled (replicate 16 0) (flag_bytes (is_sending (seen l.p))) l.m l.sending

@@ -5,6 +5,3 @@ use Rattle.keeping.proofs.runs.Given as goal
 
 abbrev pub invariant-loop-left : goal.invariant-loop-left
 invariant-loop-left l = Stored (seen l.p) l.left l.runs
-
-abbrev pub decreases-loop-left : goal.decreases-loop-left
-decreases-loop-left l = l.left

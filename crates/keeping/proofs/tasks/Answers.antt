@@ -4,11 +4,10 @@ use Rattle.plan.specs.Memory.{seen, task_laid}
 use Rattle.plan.specs.declared.Task.{Task}
 use Rattle.keeping.specs.Keeping.{tasks_of, task_home, task_size, task_worst}
 use Rattle.keeping.proofs.Filling.{filled-all, size_small}
-use borrow.Author.Rules.{rules}
 use Rattle.keeping.proofs.tasks.Goals as goal
 
 pub loop-t-init : goal.loop-t-init
-loop-t-init c = (search rules, filled_none, filled_none, filled_none)
+loop-t-init c = (filled_none, filled_none, filled_none)
 
 pub overflow_cast-sizes : goal.overflow_cast-sizes
 unfolding task_laid
@@ -23,10 +22,9 @@ unfolding task_laid task_home task_size task_worst
 loop-t-preserved c =
     let l = c.loop-t in
     let e = c.task_at-task.ensures in (
-      search rules,
-      filled_turn l.invariant.1 (ap (λ (x : Task). x.home.0) e),
-      filled_turn l.invariant.2 (ap (λ (x : Task). x.size.0) e),
-      filled_turn l.invariant.3 (ap (λ (x : Task). x.worst.0) e),
+      filled_turn l.invariant.0 (ap (λ (x : Task). x.home.0) e),
+      filled_turn l.invariant.1 (ap (λ (x : Task). x.size.0) e),
+      filled_turn l.invariant.2 (ap (λ (x : Task). x.worst.0) e),
     )
 
 pub returns : goal.returns
@@ -35,9 +33,7 @@ returns c =
     let l = c.loop-t in
     rw (
       c.task_count.ensures.0,
-      filled-all 32 0 l.invariant.1 l.invariant.0 c.loop-t-test.false,
-      filled-all 32 0
-          l.invariant.2 l.invariant.0 c.loop-t-test.false,
-      filled-all 32 0 l.invariant.3 l.invariant.0
-          c.loop-t-test.false,
+      filled-all 32 0 l.invariant.0 l.auto.t-end c.loop-t-test.false,
+      filled-all 32 0 l.invariant.1 l.auto.t-end c.loop-t-test.false,
+      filled-all 32 0 l.invariant.2 l.auto.t-end c.loop-t-test.false,
     )

@@ -1,5 +1,4 @@
 -- Invariant: the three arrays are filled below t (`Filled`), and a size fits a byte (`size_small`); `filled-all` ends it.
-use Prim.Native.Nat.{◌≤◌, ◌-◌}
 use lib.ListN.{replicate}
 use Rattle.laws.proofs.Turns.{Filled}
 use Rattle.plan.specs.Memory.{seen}
@@ -8,10 +7,6 @@ use Rattle.keeping.proofs.tasks.Given as goal
 
 abbrev pub invariant-loop-t : goal.invariant-loop-t
 invariant-loop-t l =
-    (l.t ≤ 32)
-    × Filled (replicate 32 0) (task_home (seen l.p)) l.t l.homes
+    Filled (replicate 32 0) (task_home (seen l.p)) l.t l.homes
     × Filled (replicate 32 0) (task_size (seen l.p)) l.t l.sizes
     × Filled (replicate 32 0) (task_worst (seen l.p)) l.t l.worsts
-
-abbrev pub decreases-loop-t : goal.decreases-loop-t
-decreases-loop-t l = 32 - l.t

@@ -46,14 +46,14 @@ closed-laid-requires c =
       p_value = onward (seen a.p) k left a.runs _ r e _ same _ c.lay-count.ensures c.requires.p_value_2 c.if-count-gt-MOST.false;
     }
 
-pub returns-in-Fine : goal.returns-in-Fine
-returns-in-Fine c =
+pub returns-in-Ok : goal.returns-in-Ok
+returns-in-Ok c =
     let a = c.args in
     let same = readers_same (seen a.p) c.requires.plan_kept.0 _ c.of-readers.ensures in
-    fine-laid (seen a.p) _ c.closed-laid.ensures c.in-Fine.is
+    fine-laid (seen a.p) _ c.closed-laid.ensures c.in-Ok.is
     (frames-laid (seen a.p) c.requires.plan_kept.0 c.requires.plan_kept.1 a.runs _ c.requires.senders_value.1 c.requires.senders_value.2 _ same _ c.lay-count.ensures)
 
-pub returns-in-Refused : goal.returns-in-Refused
-returns-in-Refused c =
-    lays_as _ _ c.taken_back-in-Refused.ensures.value c.taken_back-in-Refused.ensures.tasks_after _
-    (refused-is (seen c.args.p) _ c.closed-laid.ensures _ c.in-Refused.is)
+pub returns-in-Err : goal.returns-in-Err
+returns-in-Err c =
+    lays_as _ _ c.taken_back-in-Err.ensures.value c.taken_back-in-Err.ensures.tasks_after _
+    (refused-is (seen c.args.p) _ c.closed-laid.ensures _ c.in-Err.is)

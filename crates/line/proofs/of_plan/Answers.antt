@@ -13,7 +13,7 @@ pub returns-then-not-some_bus_task : goal.returns-then-not-some_bus_task
 unfolding senders_of seen bus_seen
 returns-then-not-some_bus_task c =
     let a = c.args in
-    lays_refused NoBusTask _ c.refused.ensures c.requires.tasks_value _
+    lays_refused NoBusTask _ refl c.requires.tasks_value _
     (six (seen a.p) (sym (some_is (seen a.p) c.requires.plan_kept.0 _ _ (ap (λ (x : Senders). x.tasks) c.of-senders.ensures)
     c.task_count.ensures.0) ∙ sym c.some_bus_task.ensures ∙ c.if-not-some_bus_task.true))
 
@@ -30,7 +30,7 @@ unfolding senders_of seen bus_seen
 returns-then-not-period_divides c =
     let a = c.args in
     let k = c.requires.plan_kept.0 in
-    lays_refused PeriodDoesNotDivide _ c.refused-then-not-period_divides.ensures c.requires.tasks_value _
+    lays_refused PeriodDoesNotDivide _ refl c.requires.tasks_value _
     (seven (seen a.p) (sym (some_is (seen a.p) k _ _ (ap (λ (x : Senders). x.tasks) c.of-senders.ensures)
     c.task_count.ensures.0) ∙ sym c.some_bus_task.ensures ∙ c.if-not-some_bus_task.false)
     (divides_seven (seen a.p) k _ c.counted_runs-counted.ensures.1 _ _ c.grid_of-grid.ensures
@@ -56,7 +56,7 @@ unfolding senders_of seen bus_seen
 returns-then-not-divides c =
     let a = c.args in
     let k = c.requires.plan_kept.0 in
-    lays_refused PeriodOffResolution _ c.refused-then-not-divides.ensures c.requires.tasks_value _
+    lays_refused PeriodOffResolution _ refl c.requires.tasks_value _
     (eight (seen a.p) (sym (some_is (seen a.p) k _ _ (ap (λ (x : Senders). x.tasks) c.of-senders.ensures)
     c.task_count.ensures.0) ∙ sym c.some_bus_task.ensures ∙ c.if-not-some_bus_task.false)
     (divides_seven (seen a.p) k _ c.counted_runs-counted.ensures.1 _ _ c.grid_of-grid.ensures

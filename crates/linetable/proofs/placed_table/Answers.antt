@@ -24,7 +24,7 @@ pub returns-then-buf-needed : goal.returns-then-buf-needed
 returns-then-buf-needed c =
     let a = c.args in
     let line = drawing a.line a.tasks.now a.releases.now a.deadlines.now in
-    λ s. short-made line s _ (all_placed line s _ c.before-2.ensures c.place_all-outcome.ensures c.in-All.is)
+    λ s. short-made line s _ (all_placed line s _ c.before-2.ensures c.place_all-outcome.ensures c.in_default.is)
     _ a.buf.now c.table_length-needed.ensures.0 c.if-buf-needed.true c.requires.starts_value
 
 pub write_placed-requires : goal.write_placed-requires
@@ -42,17 +42,17 @@ starts_by_number-requires c =
     let line = drawing a.line a.tasks.now a.releases.now a.deadlines.now in
     record { count_le_most_frames = few-frames line c.requires.stands; by_len = rw c.requires.starts_value refl }
 
-pub returns-else-buf-needed : goal.returns-else-buf-needed
-returns-else-buf-needed c =
+pub returns : goal.returns
+returns c =
     let a = c.args in
     let line = drawing a.line a.tasks.now a.releases.now a.deadlines.now in
-    λ s. written-made line s _ (all_placed line s _ c.before-2.ensures c.place_all-outcome.ensures c.in-All.is)
+    λ s. written-made line s _ (all_placed line s _ c.before-2.ensures c.place_all-outcome.ensures c.in_default.is)
     _ a.buf.now _ c.table_length-needed.ensures.0 c.if-buf-needed.false c.write_placed.ensures
     (rw c.requires.starts_value at c.starts_by_number.ensures)
 
-pub returns-in-Refused : goal.returns-in-Refused
-returns-in-Refused c =
+pub returns-in-Err : goal.returns-in-Err
+returns-in-Err c =
     let a = c.args in
     let line = drawing a.line a.tasks.now a.releases.now a.deadlines.now in
     λ s. no_room-made line s _ c.before-2.ensures c.place_all-outcome.ensures _ _ a.buf.now
-    c.in-Refused.is c.requires.starts_value
+    c.in-Err.is c.requires.starts_value

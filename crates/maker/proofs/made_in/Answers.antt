@@ -29,24 +29,24 @@ unfolding for_consumers
 made_of-requires c =
     let a = c.args in
     record {
-      stands = (plan-sound a.edition a.plan.now a.lent (length a.buf.now) c.if-lent-lt-MOST.false c.if-edition-gt-CONSUMERS.false c.lay_out-laid.result c.lay_out-laid.ensures c.in-Fine.is).stands;
+      stands = (plan-sound a.edition a.plan.now a.lent (length a.buf.now) c.if-lent-lt-MOST.false c.if-edition-gt-CONSUMERS.false c.lay_out-laid.result c.lay_out-laid.ensures c.in-Ok.is).stands;
       starts_value = c.requires.1.1.1;
     }
 
-pub returns-in-Fine : goal.returns-in-Fine
+pub returns-in-Ok : goal.returns-in-Ok
 unfolding for_consumers
-returns-in-Fine c =
+returns-in-Ok c =
     let a = c.args in
     let all = placed-made a.edition a.plan.now a.lent c.lay_out-laid.result _ a.buf.now _
-    (plan-sound a.edition a.plan.now a.lent (length a.buf.now) c.if-lent-lt-MOST.false c.if-edition-gt-CONSUMERS.false c.lay_out-laid.result c.lay_out-laid.ensures c.in-Fine.is)
+    (plan-sound a.edition a.plan.now a.lent (length a.buf.now) c.if-lent-lt-MOST.false c.if-edition-gt-CONSUMERS.false c.lay_out-laid.result c.lay_out-laid.ensures c.in-Ok.is)
     c.made_of.ensures in
     record { makes = all.0; passes_check = all.1 }
 
-pub returns-in-Refused : goal.returns-in-Refused
+pub returns-in-Err : goal.returns-in-Err
 unfolding for_consumers
-returns-in-Refused c =
+returns-in-Err c =
     let a = c.args in
-    let refused = plan-refused a.edition a.plan.now a.lent (length a.buf.now) c.if-lent-lt-MOST.false c.if-edition-gt-CONSUMERS.false c.lay_out-laid.result c.lay_out-laid.ensures _ c.in-Refused.is in
-    let all = refused-made a.edition a.plan.now a.lent _ _ a.buf.now c.refused-in-Refused.ensures
+    let refused = plan-refused a.edition a.plan.now a.lent (length a.buf.now) c.if-lent-lt-MOST.false c.if-edition-gt-CONSUMERS.false c.lay_out-laid.result c.lay_out-laid.ensures _ c.in-Err.is in
+    let all = refused-made a.edition a.plan.now a.lent _ _ a.buf.now c.refused-in-Err.ensures
     (none_left a.edition a.plan.now a.lent c.lay_out-laid.result refused c.requires.1.1.1) refused.rule in
     record { makes = all.0; passes_check = all.1 }

@@ -1,7 +1,4 @@
 -- The lines and their end, one behind the other (`both_put`).
-use mathlib.Core.Path.{◌≡◌}
-use native.Mathlib.Omega.{arith}
-use Prim.Native.Nat.{◌+◌}
 use Rattle.text.proofs.Putting.{both_put}
 use Rattle.text.specs.Text.{line_feed}
 use Rattle.manners.proofs.put_lines.Goals as goal

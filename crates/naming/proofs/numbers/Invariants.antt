@@ -1,7 +1,5 @@
 -- Invariant: the first k places are filled by `number_at` (`stores`); a turn is `stores_turn` on what `number_of` promises.
-use mathlib.Core.Path.{◌≡◌}
-use Prim.Native.Nat.{◌-◌, ◌≤◌}
-use lib.ListN.{replicate}
+use Rattle.std.proofs.Common.{◌≡◌, replicate}
 use Rattle.rules.specs.Limits.{most_frames}
 use Rattle.laws.specs.Loops.{stores}
 use Rattle.naming.specs.Places.{number_at}
@@ -9,7 +7,4 @@ use Rattle.naming.proofs.numbers.Given as goal
 
 abbrev pub invariant-loop-k : goal.invariant-loop-k
 invariant-loop-k l =
-    (l.k ≤ l.rows) × (l.found ≡ stores (replicate most_frames 0) (number_at l.tasks l.deadlines l.frames l.row_tasks l.row_deadlines) l.k)
-
-abbrev pub decreases-loop-k : goal.decreases-loop-k
-decreases-loop-k l = l.rows - l.k
+    l.found ≡ stores (replicate most_frames 0) (number_at l.tasks l.deadlines l.frames l.row_tasks l.row_deadlines) l.k

@@ -8,4 +8,4 @@ returns c =
     let a = c.args in
     let m = c.made_in-making in
     makes_rows a.edition a.plan.now a.rows.now c.fill.new.rows a.table.now m.new.buf
-    (making m.result m.new.tasks m.new.releases m.new.deadlines m.new.starts) c.made.result c.fill.ensures m.ensures.makes c.made.ensures
+    (making m.result m.new.tasks m.new.releases m.new.deadlines m.new.starts) c.from.result c.fill.ensures m.ensures.makes c.from.ensures

@@ -12,5 +12,5 @@ returns-then-text-lt-LONGEST_SHEET c =
 pub returns : goal.returns
 returns c =
     let a = c.args in
-    let all = sheet-written a.plan.now a.table.now a.text.now _ c.if-text-lt-LONGEST_SHEET.false c.write-written.ensures.writes c.judged.ensures refl in
+    let all = sheet-written a.plan.now a.table.now a.text.now _ c.if-text-lt-LONGEST_SHEET.false c.write-written.ensures.writes c.from.ensures refl in
     record { value = all.0; text_after = all.1 }

@@ -1,8 +1,7 @@
--- The passes and `settled`, one after another; the rows keep their number.
-use Rattle.std.proofs.Common.{◌∙◌, ap, subst, ℕ}
+-- The passes and `settled`, one after another; the scan leaves the rows.
+use Rattle.std.proofs.Common.{◌∙◌, ap, sym, false}
 use Rattle.rows.specs.Passes.{rows_after, cleared_row}
-use Rattle.checked.specs.Checking.{lent_passed}
-use Rattle.checker.specs.Unscanned.{Settles}
+use Rattle.rows.proofs.Scanned.{looked-rows}
 use Rattle.olbiothar.proofs.scanned.Goals as goal
 
 pub returns : goal.returns
@@ -10,11 +9,12 @@ returns c =
     let a = c.args in
     let early = c.some_early-early in
     let settled = c.settled-settled in
+    let n = a.unscanned.frames in
     record {
       early = early.result;
       ruling = settled.result;
-      looked = early.ensures.0;
-      settled = subst (λ (k : ℕ). Settles early.result a.unscanned.answer (lent_passed a.plan.now a.table.now k) settled.result) early.auto.rows settled.ensures;
-      cleared = c.clear.ensures.1 ∙ ap (rows_after cleared_row a.unscanned.frames settled.result.refused) early.ensures.1;
-      told = c.judged.ensures;
+      looked = early.ensures;
+      settled = settled.ensures;
+      cleared = c.clear.ensures.rows_value ∙ ap (rows_after cleared_row n settled.result.refused) (sym (looked-rows n false a.rows.now));
+      told = c.from.ensures;
     }

@@ -2,19 +2,19 @@ use native.Mathlib.Omega.{arith}
 use Rattle.planreader.proofs.Holding.{counting_none, counting_turn, counting_less, counting_end}
 use Rattle.planreader.proofs.count_words.Goals as goal
 
-pub loop-to-init : goal.loop-to-init
-loop-to-init c = counting_none
-
-pub returns-in-None : goal.returns-in-None
-returns-in-None c = counting_end c.loop-to.invariant c.next_word.ensures c.in-None.is
+pub loop-word-init : goal.loop-word-init
+loop-word-init c = counting_none
 
 pub overflow_add-count : goal.overflow_add-count
 overflow_add-count c =
-    let less = counting_less c.loop-to.invariant c.next_word.ensures c.in-Stands.is in
+    let less = counting_less c.loop-word.invariant c.next_word.ensures c.in-Some.is in
     omega (arith, less.0)
 
-pub loop-to-smaller : goal.loop-to-smaller
-loop-to-smaller c = (counting_less c.loop-to.invariant c.next_word.ensures c.in-Stands.is).1
+pub loop-word-smaller : goal.loop-word-smaller
+loop-word-smaller c = (counting_less c.loop-word.invariant c.next_word.ensures c.in-Some.is).1
 
-pub loop-to-preserved : goal.loop-to-preserved
-loop-to-preserved c = counting_turn c.loop-to.invariant c.next_word.ensures c.in-Stands.is
+pub loop-word-preserved : goal.loop-word-preserved
+loop-word-preserved c = counting_turn c.loop-word.invariant c.next_word.ensures c.in-Some.is
+
+pub returns : goal.returns
+returns c = counting_end c.loop-word.invariant c.next_word.ensures c.in_default.is

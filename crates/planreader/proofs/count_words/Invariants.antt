@@ -4,8 +4,8 @@ use lib.ListN.{length}
 use Rattle.planreader.proofs.Holding.{Counting}
 use Rattle.planreader.proofs.count_words.Given as goal
 
-abbrev pub invariant-loop-to : goal.invariant-loop-to
-invariant-loop-to l = Counting l.s l.at l.next l.count
+abbrev pub invariant-loop-word : goal.invariant-loop-word
+invariant-loop-word l = Counting l.s l.at l.next l.count
 
-abbrev pub decreases-loop-to : goal.decreases-loop-to
-decreases-loop-to l = length l.s - l.next
+abbrev pub decreases-loop-word : goal.decreases-loop-word
+decreases-loop-word l = length l.s - l.next

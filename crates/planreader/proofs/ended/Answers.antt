@@ -7,6 +7,6 @@ pub returns-in-None : goal.returns-in-None
 unfolding matched
 returns-in-None c = rw (none_found _ _ c.next_word.ensures c.in-None.is)
 
-pub returns-in-Stands : goal.returns-in-Stands
+pub returns-in-Some : goal.returns-in-Some
 unfolding matched
-returns-in-Stands c = rw (word-found _ _ c.next_word.ensures c.in-Stands.is)
+returns-in-Some c = rw (word-found _ _ c.next_word.ensures c.in-Some.is)

@@ -5,7 +5,7 @@ use Rattle.planreader.proofs.Gathering.{Gathering}
 use Rattle.planreader.proofs.gather.Given as goal
 
 abbrev pub invariant-loop-at : goal.invariant-loop-at
-invariant-loop-at l = Gathering l.text l.initial.out l.out l.previous l.end l.at l.line
+invariant-loop-at l = Gathering l.text l.initial.out l.out l.last.kind l.last.end l.at l.line
 
 abbrev pub decreases-loop-at : goal.decreases-loop-at
 decreases-loop-at l = length l.text - l.at

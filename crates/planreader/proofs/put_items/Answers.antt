@@ -1,31 +1,30 @@
-use native.Mathlib.Omega.{arith}
-use Rattle.planreader.proofs.Holding.{holding_none, holding_turn, holding_wrong, holding_near, holding_end}
+use mathlib.Core.List.{List}
+use mathlib.Core.Path.{ap}
+use lib.ListN.{get_or}
+use Rattle.planwords.specs.declared.Item.{Item}
+use Rattle.planwords.specs.declared.Item.TheVariants.{Word}
+use Rattle.planwords.specs.declared.Name.TheVariants.{Bus}
+use Rattle.std.proofs.lemmas.Result.{err_from_is_err_and}
+use Rattle.planreader.proofs.Holding.{holding_wrong, holding_turn, holding_end}
 use Rattle.planreader.proofs.put_items.Goals as goal
 
-pub loop-k-init : goal.loop-k-init
-loop-k-init c = holding_none
+pub returns-in_err-passed : goal.returns-in_err-passed
+returns-in_err-passed c =
+    let items = c.items_of-items.ensures.all in
+    let here = ap (λ (l : List Item). get_or l c.loop-item.item-index (Word Bus)) items in
+    let h = holding_wrong c.loop-item.invariant (Word Bus) (rw items at c.loop-item-test.true) here c.judge_at.ensures c.in_err-passed.was in
+    let p = err_from_is_err_and c.from_residual.result c.from_residual.ensures.1 in
+    record { value = rw (p.1, p.2) h.0; out_after = h.1 }
 
-pub shape_of-out-in-Wrong : goal.shape_of-out-in-Wrong
-shape_of-out-in-Wrong c = c.loop-k.invariant.long
-
-pub returns-in-Wrong : goal.returns-in-Wrong
-returns-in-Wrong c = let h = (holding_wrong c.loop-k.invariant (rw (← c.item_count-count.ensures.0) c.loop-k-test.true) c.item_at.ensures c.judge_at.ensures c.in-Wrong.is) in record { value = h.0; out_after = h.1 }
-
-pub put_number-end-requires : goal.put_number-end-requires
-put_number-end-requires c =
-    let few = c.item_count-count.ensures in
-    let test = c.loop-k-test.true in
-    let near = holding_near c.loop-k.invariant (rw (← few.0) few.1) (rw (← few.0) test) in
-    let room = c.requires in
-    omega arith
-
-pub loop-k-preserved : goal.loop-k-preserved
-loop-k-preserved c =
-    holding_turn c.loop-k.invariant (rw (← c.item_count-count.ensures.0) c.loop-k-test.true) c.item_at.ensures c.judge_at.ensures c.in-Passes.is
+pub loop-item-preserved : goal.loop-item-preserved
+loop-item-preserved c =
+    let items = c.items_of-items.ensures.all in
+    let here = ap (λ (l : List Item). get_or l c.loop-item.item-index (Word Bus)) items in
+    holding_turn c.loop-item.invariant (Word Bus) (rw items at c.loop-item-test.true) here c.judge_at.ensures c.in_ok-passed.was
     (c.put_number-end.ensures.out_after, c.put_number-end.ensures.few)
 
-pub shape_of-out : goal.shape_of-out
-shape_of-out c = c.loop-k.invariant.long
-
 pub returns : goal.returns
-returns c = let h = (holding_end c.loop-k.invariant (rw (← c.item_count-count.ensures.0) c.loop-k-test.false) c.ended.ensures) in record { value = h.0; out_after = h.1 }
+returns c =
+    let items = c.items_of-items.ensures.all in
+    let h = holding_end c.loop-item.invariant (rw items at c.loop-item-test.false) c.ended.ensures in
+    record { value = h.0; out_after = h.1 }

@@ -1,11 +1,7 @@
 -- Invariant: what is stored, and what is left of the items and the words, come to what all of them do (`Holding`).
-use Prim.Native.Nat.{◌-◌}
 use Rattle.planwords.specs.Items.{items_of}
 use Rattle.planreader.proofs.Holding.{Holding}
 use Rattle.planreader.proofs.put_items.Given as goal
 
-abbrev pub invariant-loop-k : goal.invariant-loop-k
-invariant-loop-k l = Holding l.s l.from (items_of l.kind) l.initial.out l.at l.out l.next l.end l.k
-
-abbrev pub decreases-loop-k : goal.decreases-loop-k
-decreases-loop-k l = l.count - l.k
+abbrev pub invariant-loop-item : goal.invariant-loop-item
+invariant-loop-item l = Holding l.s l.from (items_of l.kind) l.initial.out l.at l.out l.next l.end l.item-index

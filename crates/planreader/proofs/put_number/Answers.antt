@@ -1,21 +1,18 @@
 use native.Mathlib.Omega.{arith}
-use Rattle.planreader.proofs.Numbers.{laying_none, laying_turn, laying_near, laying_end}
+use mathlib.Core.Path.{◌≡◌}
+use Prim.Native.Nat.{◌+◌, ◌-◌}
+use Rattle.planreader.proofs.Numbers.{laying_turn, laying_end}
 use Rattle.planreader.proofs.put_number.Goals as goal
 
-pub loop-left-init : goal.loop-left-init
-loop-left-init c = laying_none (omega arith)
+pub loop-k-preserved : goal.loop-k-preserved
+loop-k-preserved c =
+    let a = c.args in
+    let k = c.loop-k.k in
+    let less : a.wide - (k + 1) ≡ a.wide - k - 1 = omega arith in
+    let behind : a.at + (k + 1) ≡ a.at + k + 1 = omega arith in
+    rw (less, behind) (laying_turn c.loop-k.invariant (omega (arith, c.loop-k-test.true)) (rw c.from.ensures at c.put8.ensures))
 
-pub overflow_add-end : goal.overflow_add-end
-overflow_add-end c =
-    let near = laying_near c.loop-left.invariant in
-    let room = c.requires in
-    omega arith
-
-pub loop-left-preserved : goal.loop-left-preserved
-loop-left-preserved c = laying_turn c.loop-left.invariant c.loop-left-test.true c.put8.ensures
-
-pub shape_of-out : goal.shape_of-out
-shape_of-out c = c.loop-left.invariant.long
-
-pub returns : goal.returns
-returns c = let h = (laying_end c.loop-left.invariant c.loop-left-test.false) in record { out_after = h.0; few = h.1 }
+pub returns-clause-out_after : goal.returns-clause-out_after
+returns-clause-out_after c =
+    let h = laying_end c.loop-k.invariant (omega (arith, c.loop-k-test.false)) in
+    (h.0.0, omega (arith, h.0.1, c.from-2.ensures, c.loop-k-test.false, c.loop-k.auto.k-end))

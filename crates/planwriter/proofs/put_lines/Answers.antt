@@ -1,4 +1,3 @@
-use native.Mathlib.Omega.{arith}
 use Rattle.records.proofs.Steps.{body_within}
 use Rattle.planwriter.proofs.LineByLine.{so_far_none, so_far_more, so_far_less, so_far_end, so_far_wrong}
 use Rattle.planwriter.proofs.put_lines.Goals as goal
@@ -9,15 +8,6 @@ loop-kind-init c = so_far_none _ _
 pub body-body-requires : goal.body-body-requires
 body-body-requires c = body_within _ _ _ _ c.next.ensures c.in-Record.is
 
-pub put_line-end-requires : goal.put_line-end-requires
-put_line-end-requires c = let i = c.loop-kind.invariant in omega (arith, i.short, i.inside, c.requires.0)
-
-pub overflow_add-k : goal.overflow_add-k
-overflow_add-k c = let i = c.loop-kind.invariant in omega (arith, i.fewer, i.counted, i.inside, c.count_of-before.ensures.1, c.requires.0)
-
-pub overflow_add-number : goal.overflow_add-number
-overflow_add-number c = let i = c.loop-kind.invariant in omega (arith, i.counted, i.inside, c.requires.0)
-
 pub loop-kind-smaller : goal.loop-kind-smaller
 loop-kind-smaller c = so_far_less c.loop-kind.invariant c.next.ensures c.in-Record.is
 
@@ -26,14 +16,8 @@ loop-kind-preserved c =
     so_far_more c.loop-kind.invariant c.next.ensures c.in-Record.is c.body-body.ensures c.count_of-before.ensures.0 c.count_of-before.ensures.1
     c.put_line-end.ensures.out_after c.put_line-end.ensures.few
 
-pub shape_of-text-in-End : goal.shape_of-text-in-End
-shape_of-text-in-End c = c.loop-kind.invariant.kept
-
 pub returns-in-End : goal.returns-in-End
-returns-in-End c = let h = (so_far_end c.loop-kind.invariant c.next.ensures c.in-End.is) in record { value = h.0; left = h.1 }
-
-pub shape_of-text-in-Wrong : goal.shape_of-text-in-Wrong
-shape_of-text-in-Wrong c = c.loop-kind.invariant.kept
+returns-in-End c = let h = so_far_end c.loop-kind.invariant c.next.ensures c.in-End.is in record { value = h.0; left = h.1 }
 
 pub returns-in-Wrong : goal.returns-in-Wrong
-returns-in-Wrong c = let h = (so_far_wrong c.loop-kind.invariant c.next.ensures c.in-Wrong.is c.requires.1) in record { value = h.0; left = h.1 }
+returns-in-Wrong c = let h = so_far_wrong c.loop-kind.invariant c.next.ensures c.in-Wrong.is c.requires.1 in record { value = h.0; left = h.1 }

@@ -1,18 +1,13 @@
 -- By what was found: the words of the reason, or those for none.
-use native.Mathlib.Omega.{arith}
 use Rattle.reasons.proofs.Named.{no_words, why_words}
 use Rattle.reasons.proofs.put_words.Goals as goal
 
-pub returns-in-Why : goal.returns-in-Why
-returns-in-Why c =
-    let put = c.put_reason.ensures in
-    let found = c.reason_at-reason.ensures in
-    let words = why_words _ found _ c.in-Why.is in
-    record { out_after = rw (← words) put.out_after; few = put.few }
+pub returns-in-Some-clause-out_after : goal.returns-in-Some-clause-out_after
+returns-in-Some-clause-out_after c =
+    let words = why_words _ c.reason_at.ensures _ c.in-Some.is in
+    rw (← words) c.put_reason.ensures.out_after
 
-pub returns-in-None : goal.returns-in-None
-returns-in-None c =
-    let put = c.put_bytes.ensures in
-    let found = c.reason_at-reason.ensures in
-    let words = no_words _ found c.in-None.is in
-    record { out_after = rw (← words) put; few = omega (arith, put.1) }
+pub returns-in-None-clause-out_after : goal.returns-in-None-clause-out_after
+returns-in-None-clause-out_after c =
+    let words = no_words _ c.reason_at.ensures c.in-None.is in
+    rw (← words) c.put_bytes.ensures

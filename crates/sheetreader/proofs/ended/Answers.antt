@@ -5,6 +5,5 @@ use Rattle.sheetreader.proofs.ended.Goals as goal
 pub returns-in-None : goal.returns-in-None
 returns-in-None c = rw (none_found _ _ c.next_word.ensures c.in-None.is)
 
-pub returns-in-Stands : goal.returns-in-Stands
-returns-in-Stands c =
-    rw (word-found _ _ c.next_word.ensures c.in-Stands.is) c.no_numbers.ensures
+pub returns-in-Some : goal.returns-in-Some
+returns-in-Some c = rw (word-found _ _ c.next_word.ensures c.in-Some.is)

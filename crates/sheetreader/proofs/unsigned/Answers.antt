@@ -8,20 +8,20 @@ use Rattle.sheetreader.proofs.unsigned.Goals as goal
 pub slice_bounds-whole_number-count : goal.slice_bounds-whole_number-count
 slice_bounds-whole_number-count c =
     let w = c.args.word.now in
-    let long : 1 ≤ length w = sign_long w (signed w c.behind.ensures c.in-At.is) in
+    let long : 1 ≤ length w = sign_long w (signed w c.behind.ensures c.in-Some.is) in
     search rules
 
 pub slice_bounds-whole_number-start : goal.slice_bounds-whole_number-start
 slice_bounds-whole_number-start c =
     let w = c.args.word.now in
-    let long : 1 ≤ length w = sign_long w (signed w c.behind.ensures c.in-At.is) in
+    let long : 1 ≤ length w = sign_long w (signed w c.behind.ensures c.in-Some.is) in
     search rules
 
-pub returns-in-Wrong : goal.returns-in-Wrong
-returns-in-Wrong c =
-    rw (unsigned c.args.word.now c.behind.ensures c.in-Wrong.is) c.whole_number.ensures
+pub returns-in-None : goal.returns-in-None
+returns-in-None c =
+    rw (unsigned c.args.word.now c.behind.ensures c.in-None.is) c.whole_number-in-None.ensures
 
-pub returns-in-At : goal.returns-in-At
-returns-in-At c =
+pub returns-in-Some : goal.returns-in-Some
+returns-in-Some c =
     let w = c.args.word.now in
-    rw (signed w c.behind.ensures c.in-At.is, ← part_rest w 1) c.whole_number-in-At.ensures
+    rw (signed w c.behind.ensures c.in-Some.is, ← part_rest w 1) c.whole_number.ensures

@@ -20,13 +20,13 @@ pub numbers-requires : goal.numbers-requires
 numbers-requires c =
     let a = c.args in
     let ready = judge_ready a.p a.line a.tasks.now a.releases.now a.deadlines.now a.table.now c.requires in
-    record { numbered = ready.0; rows_le_most_frames = omega (arith, c.lower.ensures); found_value = refl }
+    record { numbered = ready.0; rows_le_most_frames = omega (arith, c.min.ensures); found_value = refl }
 
 pub returns : goal.returns
 returns c =
     let a = c.args in
     let h = on_rows a.p a.line a.tasks.now a.releases.now a.deadlines.now a.table.now c.requires _ c.read_table-reading.ensures _ _ _ c.in_default.is _
-    c.judge-answer.ensures c.lower.ensures c.numbers.ensures (c.printed.ensures.prints, c.printed.ensures.few) in
+    c.judge-answer.ensures c.min.ensures c.numbers.ensures (c.printed.ensures.prints, c.printed.ensures.few) in
     record { prints = h.0; few = h.1 }
 
 pub read_table-reading-requires : goal.read_table-reading-requires

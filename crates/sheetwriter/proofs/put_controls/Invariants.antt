@@ -2,12 +2,9 @@
 use Rattle.text.proofs.Putting.{Putting}
 use Rattle.plan.specs.Memory.{seen}
 use Rattle.sheetwriter.specs.Memory.{control_text_in}
-use Prim.Native.Nat.{◌+◌, ◌-◌, ◌*◌, ◌≤◌}
+use Rattle.std.proofs.Common.{◌+◌, ◌*◌, ◌≤◌}
 use Rattle.sheetwriter.proofs.put_controls.Given as goal
 
 abbrev pub invariant-loop-k : goal.invariant-loop-k
 invariant-loop-k l =
-    (l.k ≤ l.controls) × (l.next ≤ l.at + 246 * l.k) × Putting l.initial.buf l.at (control_text_in (seen l.p) l.nodes l.starts l.stops) l.k l.buf l.next
-
-abbrev pub decreases-loop-k : goal.decreases-loop-k
-decreases-loop-k l = l.controls - l.k
+    record { few : l.next ≤ l.at + 246 * l.k; put : Putting l.initial.buf l.at (control_text_in (seen l.p) l.nodes l.starts l.stops) l.k l.buf l.next }

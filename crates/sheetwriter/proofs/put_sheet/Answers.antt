@@ -11,13 +11,13 @@ pub put_controls-rows_at-requires : goal.put_controls-rows_at-requires
 unfolding senders_of
 put_controls-rows_at-requires c = record {
   payloads_value = ap (λ (s : Senders). s.payloads) c.of-senders.ensures;
-  controls_le_most_nodes = (omega (arith, c.lower-controls.ensures), omega (arith, c.put_cycle-head_at.ensures.few, c.put_head-controls_at.ensures.few, c.requires));
+  controls_le_most_nodes = (omega (arith, c.min-controls.ensures), omega (arith, c.put_cycle-head_at.ensures.few, c.put_head-controls_at.ensures.few, c.requires));
 }
 
 pub put_datas-requires : goal.put_datas-requires
 put_datas-requires c = (
-  omega (arith, c.lower-rows.ensures),
-  omega (arith, c.lower-controls.ensures),
+  omega (arith, c.min-rows.ensures),
+  omega (arith, c.min-controls.ensures),
   omega (arith, c.put_cycle-head_at.ensures.few, c.put_head-controls_at.ensures.few, c.put_controls-rows_at.ensures.few, c.requires),
 )
 
@@ -26,6 +26,6 @@ unfolding seen
 returns c =
     let a = c.args in record {
       buf_after = sheet-put (seen a.p) _ _ _ _ _ _ _ _ _ _ _ _ _
-          c.lower-controls.ensures c.lower-rows.ensures c.put_cycle-head_at.ensures.buf_after c.put_head-controls_at.ensures.buf_after c.put_controls-rows_at.ensures.buf_after c.put_datas.ensures.buf_after;
+          c.min-controls.ensures c.min-rows.ensures c.put_cycle-head_at.ensures.buf_after c.put_head-controls_at.ensures.buf_after c.put_controls-rows_at.ensures.buf_after c.put_datas.ensures.buf_after;
       few = omega (arith, c.put_cycle-head_at.ensures.few, c.put_head-controls_at.ensures.few, c.put_controls-rows_at.ensures.few, c.put_datas.ensures.few);
     }

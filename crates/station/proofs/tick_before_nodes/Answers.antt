@@ -1,16 +1,16 @@
 -- A refusal leaves all alone (`refused_way`); that nothing was refused is what `accepted` requires.
 use mathlib.Core.Path.{sym, ap, ◌∙◌}
-use Rattle.answers.specs.Refusals.{heard}
+use Rattle.answers.specs.Answered.{judged}
 use Rattle.station.proofs.Ticking.{refused_way}
 use Rattle.station.proofs.tick_before_nodes.Goals as goal
 
 pub accepted-requires : goal.accepted-requires
-accepted-requires c = sym (ap heard c.in-Fine.is) ∙ c.refused.ensures
+accepted-requires c = sym (ap judged c.in-Ok.is) ∙ c.refused.ensures
 
-pub returns-in-Refused : goal.returns-in-Refused
-returns-in-Refused c =
+pub returns-in-Err : goal.returns-in-Err
+returns-in-Err c =
     λ nodes valued. rw c.left_alone.ensures
-    (refused_way _ _ valued c.in-Refused.x (sym (ap heard c.in-Refused.is) ∙ c.refused.ensures))
+    (refused_way _ _ valued c.in-Err.why (sym (ap judged c.in-Err.is) ∙ c.refused.ensures))
 
-pub returns-in-Fine : goal.returns-in-Fine
-returns-in-Fine c = c.accepted.ensures
+pub returns-in-Ok : goal.returns-in-Ok
+returns-in-Ok c = c.accepted.ensures

@@ -1,14 +1,10 @@
-use Rattle.laws.proofs.Turns.{filled_none, filled_turn, filled_next, filled-end}
-use borrow.Author.Rules.{rules}
+use Rattle.laws.proofs.Turns.{filled_turn, filled_next, filled-end}
 use Rattle.stationbus.proofs.bytes_from.Goals as goal
-
-pub loop-m-init : goal.loop-m-init
-loop-m-init c = (search rules, filled_none)
 
 pub loop-m-preserved : goal.loop-m-preserved
 loop-m-preserved c =
-    let c1 = c.before in
-    (search rules, filled_turn c1.loop-m.invariant.1 (rw (filled_next c1.loop-m.invariant.1 0) at c.byte_from.ensures))
+    let so_far = c.loop-m.invariant in
+    filled_turn so_far (rw (filled_next so_far 0) at c.byte_from.ensures)
 
 pub returns : goal.returns
-returns c = filled-end c.loop-m.invariant.1 c.loop-m.invariant.0 c.loop-m-test.false
+returns c = filled-end c.loop-m.invariant c.loop-m.auto.m-end c.loop-m-test.false

@@ -1,11 +1,7 @@
 -- Invariant: the rows so far have another time (`Passed`); an equal time is the first one that fails it (`row_by_other`).
-use Prim.Native.Nat.{◌≤◌, ◌-◌}
 use Rattle.laws.proofs.Turns.{Passed}
 use Rattle.stationbus.specs.Bus.{has_other}
 use Rattle.stationbus.proofs.first_with.Given as goal
 
 abbrev pub invariant-loop-row : goal.invariant-loop-row
-invariant-loop-row l = (l.row ≤ l.count) × Passed (has_other l.times l.time.0) l.row
-
-abbrev pub decreases-loop-row : goal.decreases-loop-row
-decreases-loop-row l = l.count - l.row
+invariant-loop-row l = Passed (has_other l.times l.time.0) l.row

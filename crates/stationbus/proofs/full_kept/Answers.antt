@@ -1,14 +1,10 @@
-use Rattle.laws.proofs.Turns.{filled_none, filled_turn, filled_next, filled-end}
-use borrow.Author.Rules.{rules}
+use Rattle.laws.proofs.Turns.{filled_turn, filled_next, filled-end}
 use Rattle.stationbus.proofs.full_kept.Goals as goal
 
-pub loop-t-init : goal.loop-t-init
-loop-t-init c = (search rules, filled_none)
-
-pub loop-t-preserved : goal.loop-t-preserved
-loop-t-preserved c =
-    let c1 = c.before in
-    (search rules, filled_turn c1.loop-t.invariant.1 (rw (c.is_set.ensures, filled_next c1.loop-t.invariant.1 0) at c.flag_byte.ensures))
+pub loop-flag-preserved : goal.loop-flag-preserved
+loop-flag-preserved c =
+    let so_far = c.loop-flag.invariant in
+    filled_turn so_far (rw (c.is_set.ensures, filled_next so_far 0) at c.flag_byte.ensures)
 
 pub returns : goal.returns
-returns c = filled-end c.loop-t.invariant.1 c.loop-t.invariant.0 c.loop-t-test.false
+returns c = filled-end c.loop-flag.invariant c.loop-flag.auto.flag-index-end c.loop-flag-test.false

@@ -1,11 +1,7 @@
--- Invariant: the places so far are filled by `full_still` (`Filled`); a turn reads the next place, still as it was.
-use Prim.Native.Nat.{◌≤◌, ◌-◌}
+-- Invariant: the places so far are filled by `full_still` (`Filled`).
 use Rattle.laws.proofs.Turns.{Filled}
 use Rattle.stationbus.specs.Bus.{full_still}
 use Rattle.stationbus.proofs.full_kept.Given as goal
 
-abbrev pub invariant-loop-t : goal.invariant-loop-t
-invariant-loop-t l = (l.t ≤ 32) × Filled l.initial.full (full_still l.initial.full) l.t l.full
-
-abbrev pub decreases-loop-t : goal.decreases-loop-t
-decreases-loop-t l = 32 - l.t
+abbrev pub invariant-loop-flag : goal.invariant-loop-flag
+invariant-loop-flag l = Filled l.initial.flag-items (full_still l.initial.flag-items) l.flag-index l.flag-items

@@ -1,14 +1,9 @@
 -- Invariant: by task, the words of the pairs so far. A pair of a task with the time joins one (`word_met`), any other none (`word_missed`).
 use mathlib.Core.Path.{◌≡◌}
 use lib.ListN.{replicate}
-use Prim.Native.Nat.{◌≤◌, ◌-◌}
 use Rattle.laws.specs.Loops.{stores}
 use Rattle.stationbus.specs.Bus.{modes_at}
 use Rattle.stationbus.proofs.modes_from.Given as goal
 
 abbrev pub invariant-loop-q : goal.invariant-loop-q
-invariant-loop-q l =
-    (l.q ≤ l.pairs) × (l.modes ≡ stores (replicate 32 0) (modes_at l.pair_tasks l.times l.pair_modes l.q l.time.0) 32)
-
-abbrev pub decreases-loop-q : goal.decreases-loop-q
-decreases-loop-q l = l.pairs - l.q
+invariant-loop-q l = l.modes ≡ stores (replicate 32 0) (modes_at l.pair_tasks l.times l.pair_modes l.q l.time.0) 32

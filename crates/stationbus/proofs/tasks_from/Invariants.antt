@@ -2,14 +2,9 @@
 use mathlib.Core.Path.{◌≡◌}
 use mathlib.Core.Bool.{false}
 use lib.ListN.{replicate}
-use Prim.Native.Nat.{◌≤◌, ◌-◌}
 use Rattle.laws.specs.Loops.{stores}
 use Rattle.stationbus.specs.Bus.{some_pair_at}
 use Rattle.stationbus.proofs.tasks_from.Given as goal
 
 abbrev pub invariant-loop-q : goal.invariant-loop-q
-invariant-loop-q l =
-    (l.q ≤ l.pairs) × (l.some ≡ stores (replicate 32 false) (some_pair_at l.pair_tasks l.times l.q l.time.0) 32)
-
-abbrev pub decreases-loop-q : goal.decreases-loop-q
-decreases-loop-q l = l.pairs - l.q
+invariant-loop-q l = l.some ≡ stores (replicate 32 false) (some_pair_at l.pair_tasks l.times l.q l.time.0) 32

@@ -1,25 +1,14 @@
-use Rattle.laws.proofs.Turns.{passed_none, passed_turn, passed_hit, passed_end}
-use borrow.Author.Rules.{rules}
+use Rattle.laws.proofs.Turns.{passed_turn, passed_hit, passed_end}
+use Rattle.stationruns.proofs.Given.{given-then_some}
 use Rattle.stationjudge.proofs.not_allowed.Goals as goal
-
-pub loop-m-init : goal.loop-m-init
-loop-m-init c = (search rules, passed_none)
 
 pub loop-m-preserved : goal.loop-m-preserved
 loop-m-preserved c =
-    let c1 = c.before in
-    let c2 = c1.before in (
-      search rules,
-      passed_turn c2.loop-m.invariant.1 (rw (c1.number_at.ensures, c2.byte_at.ensures.0, c1.is_set.ensures) at c.is_allowed.ensures) c.if-is_allowed.true,
-    )
+    passed_turn c.loop-m.invariant (rw (c.then_some.ensures, given-then_some, c.is_set.ensures, c.entry_or.ensures, c.place.ensures) at c.is_allowed.ensures) c.if-not-is_allowed.false
 
-pub returns-else-is_allowed : goal.returns-else-is_allowed
-returns-else-is_allowed c =
-    let c1 = c.before in
-    let c2 = c1.before in
-    let c3 = c2.before in
-    passed_hit c3.loop-m.invariant.1 c3.loop-m-test.true
-    (rw (c1.number_at.ensures, c2.byte_at.ensures.0, c1.is_set.ensures) at c.is_allowed.ensures) c.if-is_allowed.false
+pub returns-then-not-is_allowed : goal.returns-then-not-is_allowed
+returns-then-not-is_allowed c =
+    passed_hit c.loop-m.invariant c.loop-m-test.true (rw (c.then_some.ensures, given-then_some, c.is_set.ensures, c.entry_or.ensures, c.place.ensures) at c.is_allowed.ensures) c.if-not-is_allowed.true
 
 pub returns : goal.returns
-returns c = passed_end c.loop-m.invariant.1 c.loop-m.invariant.0 c.loop-m-test.false
+returns c = passed_end c.loop-m.invariant c.loop-m.auto.m-end c.loop-m-test.false

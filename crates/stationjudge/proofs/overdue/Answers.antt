@@ -1,24 +1,13 @@
-use Rattle.laws.proofs.Turns.{passed_none, passed_turn, passed_hit, passed_end}
-use borrow.Author.Rules.{rules}
+use Rattle.laws.proofs.Turns.{passed_turn, passed_hit, passed_end}
 use Rattle.stationjudge.proofs.overdue.Goals as goal
-
-pub loop-t-init : goal.loop-t-init
-loop-t-init c = (search rules, passed_none)
 
 pub loop-t-preserved : goal.loop-t-preserved
 loop-t-preserved c =
-    let c1 = c.before in
-    let c2 = c1.before in (
-      search rules,
-      passed_turn c2.loop-t.invariant.1 (rw (c2.is_set.ensures, c1.run_at.ensures, c1.is_set-in-loop-t.ensures) at c.is_in_time.ensures) c.if-is_in_time.true,
-    )
+    passed_turn c.loop-t.invariant (rw (c.is_set.ensures, c.from.ensures, c.run_at-run.ensures, c.is_set-in-loop-t.ensures) at c.is_in_time.ensures) c.if-not-is_in_time.false
 
-pub returns-else-is_in_time : goal.returns-else-is_in_time
-returns-else-is_in_time c =
-    let c1 = c.before in
-    let c2 = c1.before in
-    passed_hit c2.loop-t.invariant.1 c2.loop-t-test.true
-    (rw (c2.is_set.ensures, c1.run_at.ensures, c1.is_set-in-loop-t.ensures) at c.is_in_time.ensures) c.if-is_in_time.false
+pub returns-then-not-is_in_time : goal.returns-then-not-is_in_time
+returns-then-not-is_in_time c =
+    passed_hit c.loop-t.invariant c.loop-t-test.true (rw (c.is_set.ensures, c.from.ensures, c.run_at-run.ensures, c.is_set-in-loop-t.ensures) at c.is_in_time.ensures) c.if-not-is_in_time.true
 
 pub returns : goal.returns
-returns c = passed_end c.loop-t.invariant.1 c.loop-t.invariant.0 c.loop-t-test.false
+returns c = passed_end c.loop-t.invariant c.loop-t.auto.t-end c.loop-t-test.false

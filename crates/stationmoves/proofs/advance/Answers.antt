@@ -4,15 +4,7 @@ use Rattle.rules.specs.Station.{row_with}
 use Rattle.stationbus.specs.Bus.{number_at}
 use Rattle.stationmoves.specs.Moving.{said_by, play_after, advanced_by}
 use Rattle.stationmoves.proofs.Ways.{advanced_made}
-use borrow.Author.Rules.{rules}
 use Rattle.stationmoves.proofs.advance.Goals as goal
-
--- the counts fit, by the range of their types
-pub overflow_cast-fixed : goal.overflow_cast-fixed
-overflow_cast-fixed c = search (rules, c.well_formed.1.0)
-
-pub overflow_cast-fixed-2 : goal.overflow_cast-fixed-2
-overflow_cast-fixed-2 c = search (rules, c.well_formed.1.0)
 
 pub returns : goal.returns
 unfolding advanced_by
@@ -22,8 +14,8 @@ returns c =
       value = advanced_made (said_by rows a.pair_tasks.now a.pair_deadlines.now a.pair_starts.now a.pair_stops.now)
           (λ n x y. play_after a.input a.fixed a.play n x y a.ends.now a.pair_tasks.now a.pair_starts.now a.pair_modes.now)
           c.rest.ensures
-          (c.row_with-control.ensures ∙ ap (row_with (number_at rows.starts) rows.count) c.rest.ensures)
-          (c.row_with-first.ensures ∙ ap (row_with (number_at a.pair_starts.now) a.fixed.pairs) c.rest.ensures)
-          c.started-said.ensures c.play_after-next.ensures.value;
+          ((rw c.from.ensures at c.row_with-control.ensures) ∙ ap (row_with (number_at rows.starts) rows.count) c.rest.ensures)
+          ((rw c.from-2.ensures at c.row_with-first.ensures) ∙ ap (row_with (number_at a.pair_starts.now) a.fixed.pairs) c.rest.ensures)
+          c.started-row.ensures c.play_after-next.ensures.value;
       reads = c.play_after-next.ensures.reads;
     }

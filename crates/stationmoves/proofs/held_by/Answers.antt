@@ -2,18 +2,14 @@
 use mathlib.Core.Path.{ap, ◌∙◌}
 use Rattle.laws.specs.Loops.{stores}
 use Rattle.stationbus.specs.Bus.{held_rule}
-use borrow.Author.Rules.{rules}
 use Rattle.stationmoves.proofs.held_by.Goals as goal
-
-pub overflow_cast-fixed : goal.overflow_cast-fixed
-overflow_cast-fixed c = search (rules, c.well_formed.0)
 
 pub returns : goal.returns
 returns c =
     let a = c.args in
     let f = a.fixed in
     let p = a.play in
-    let when = c.row_with-ended.ensures in record {
+    let when = rw c.from.ensures at c.row_with-ended.ensures in record {
       value = c.held_after.ensures.value ∙ ap (λ o. stores p.held
           (held_rule f.modules.sending f.modules.sites p.bytes f.controls.nodes p.held o) 128) when;
       reads = λ j w. c.held_after.ensures.reads j w ∙ ap

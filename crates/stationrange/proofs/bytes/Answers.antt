@@ -1,13 +1,9 @@
-use Rattle.laws.proofs.Turns.{tested_none, tested_turn, tested_end}
 use mathlib.Core.Path.{refl}
-use borrow.Author.Rules.{rules}
+use Rattle.laws.proofs.Turns.{tested_turn, tested_end}
 use Rattle.stationrange.proofs.bytes.Goals as goal
 
-pub loop-m-init : goal.loop-m-init
-loop-m-init c = (search rules, tested_none)
-
 pub loop-m-preserved : goal.loop-m-preserved
-loop-m-preserved c = (search rules, tested_turn c.loop-m.invariant.1 c.both-good.ensures refl)
+loop-m-preserved c = tested_turn c.loop-m.invariant refl refl
 
 pub returns : goal.returns
-returns c = tested_end c.loop-m.invariant.1 c.loop-m.invariant.0 c.loop-m-test.false
+returns c = tested_end c.loop-m.invariant c.loop-m.auto.m-end c.loop-m-test.false

@@ -1,12 +1,7 @@
--- Too many pairs make the first test false; else the invariant is that the flag says whether the pairs so far passed (`Tested`).
-use Prim.Native.Nat.{◌≤◌, ◌-◌}
+-- Invariant: the flag says whether the pairs so far passed (`Tested`).
 use Rattle.laws.proofs.Turns.{Tested}
 use Rattle.stationrange.specs.Ranges.{pair_test}
 use Rattle.stationrange.proofs.pairs.Given as goal
 
 abbrev pub invariant-loop-q : goal.invariant-loop-q
-invariant-loop-q l =
-    (l.q ≤ l.count) × Tested (pair_test l.tasks l.period.0 l.pair_tasks l.pair_deadlines l.pair_starts l.pair_stops) l.q l.good
-
-abbrev pub decreases-loop-q : goal.decreases-loop-q
-decreases-loop-q l = l.count - l.q
+invariant-loop-q l = Tested (pair_test l.tasks l.period.0 l.pair_tasks l.pair_deadlines l.pair_starts l.pair_stops) l.q l.good

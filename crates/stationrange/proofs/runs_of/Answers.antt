@@ -1,13 +1,9 @@
-use Rattle.laws.proofs.Turns.{tested_none, tested_turn, tested_end}
 use mathlib.Core.Path.{refl}
-use borrow.Author.Rules.{rules}
+use Rattle.laws.proofs.Turns.{tested_turn, tested_end}
 use Rattle.stationrange.proofs.runs_of.Goals as goal
 
-pub loop-t-init : goal.loop-t-init
-loop-t-init c = (search rules, tested_none)
-
 pub loop-t-preserved : goal.loop-t-preserved
-loop-t-preserved c = (search rules, tested_turn c.loop-t.invariant.1 c.both-good.ensures refl)
+loop-t-preserved c = tested_turn c.loop-t.invariant refl refl
 
 pub returns : goal.returns
-returns c = tested_end c.loop-t.invariant.1 c.loop-t.invariant.0 c.loop-t-test.false
+returns c = tested_end c.loop-t.invariant c.loop-t.auto.t-end c.loop-t-test.false

@@ -1,17 +1,17 @@
-use mathlib.Core.Path.{◌∙◌}
-use Rattle.laws.proofs.Turns.{filled_none, filled_turn, filled_next, filled-end}
-use borrow.Author.Rules.{rules}
+use Rattle.laws.proofs.Turns.{filled_turn, filled_next, filled-end}
 use Rattle.stationsteps.proofs.had_after.Goals as goal
-
-pub loop-t-init : goal.loop-t-init
-loop-t-init c = (search rules, filled_none)
 
 pub loop-t-preserved : goal.loop-t-preserved
 loop-t-preserved c =
-    let c1 = c.before in
-    let c2 = c1.before in
-    let c3 = c2.before in
-    (search rules, filled_turn c3.loop-t.invariant.1 (c.flag_byte.ensures ∙ rw (c.had_at.ensures, c.is_set-in-loop-t.ensures, c1.flag_at.ensures, c1.byte_at.ensures.0, c2.is_set.ensures, filled_next c3.loop-t.invariant.1 0)))
+    let so_far = c.loop-t.invariant in
+    filled_turn so_far (rw (
+      c.had_at.ensures,
+      c.is_set.ensures,
+      c.flag_at-changes.ensures,
+      c.place.ensures,
+      c.is_set-in-loop-t.ensures,
+      filled_next so_far 0,
+    ) at c.flag_byte.ensures)
 
 pub returns : goal.returns
-returns c = filled-end c.loop-t.invariant.1 c.loop-t.invariant.0 c.loop-t-test.false
+returns c = filled-end c.loop-t.invariant c.loop-t.auto.t-end c.loop-t-test.false

@@ -1,29 +1,17 @@
-use native.Mathlib.Omega.{arith}
-use Rattle.text.proofs.Decimals.{decimal-long, decimal-most, decimal-one, decimal_more}
-use borrow.Author.Rules.{rules}
+-- The number lies between two powers of ten, which say how many digits it has.
+use Rattle.std.proofs.Common.{arith, ◌≤◌, ap, length, suc, sym}
+use native.Mathlib.Nat.{pow-succ'}
+use Rattle.text.proofs.Decimals.{decimal-zero}
+use Rattle.text.specs.Text.{decimal}
+use Rattle.text.proofs.Padded.{decimal-few, decimal-many}
 use Rattle.text.proofs.decimal_length.Goals as goal
 
-pub loop-rest-init : goal.loop-rest-init
-loop-rest-init c = (omega arith, search rules)
+pub returns-then-x-eq0 : goal.returns-then-x-eq0
+returns-then-x-eq0 c = rw c.if-x-eq0.true (sym (ap length decimal-zero), omega arith)
 
-pub overflow_add-count : goal.overflow_add-count
-overflow_add-count c =
-    let a = c.args in
-    let few = decimal-most a.x (omega arith) in
-    let some = decimal-long c.loop-rest.rest in
-    let all = c.loop-rest.invariant.0 in
-    record { fits = omega arith }
-
-pub loop-rest-preserved : goal.loop-rest-preserved
-loop-rest-preserved c =
-    let less = decimal_more c.loop-rest.rest c.loop-rest-test.true in
-    let all = c.loop-rest.invariant.0 in
-    (omega arith, omega arith)
-
-pub returns : goal.returns
-returns c =
-    let a = c.args in
-    let few = decimal-most a.x (omega arith) in
-    let one = decimal-one c.loop-rest.rest (omega arith) in
-    let all = c.loop-rest.invariant.0 in
+pub returns-else-x-eq0 : goal.returns-else-x-eq0
+returns-else-x-eq0 c =
+    let k = c.ilog10.result in
+    let most : length (decimal c.args.x) ≤ suc k = decimal-few k c.args.x (omega (arith, pow-succ' 10 k)) in
+    let least : suc k ≤ length (decimal c.args.x) = decimal-many k c.args.x c.ilog10.ensures.power_le in
     (omega arith, omega arith)

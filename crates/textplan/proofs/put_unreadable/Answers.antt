@@ -5,4 +5,4 @@ use Rattle.textplan.proofs.put_unreadable.Goals as goal
 
 pub returns : goal.returns
 returns c =
-    let a = c.args in record { out_after = unreadable-put a.out.now _ _ _ _ _ _ _ _ a.line a.why c.put_marked-colon_at.ensures.out_after c.put_bytes-why_at.ensures c.put_reason-end.ensures.out_after c.put_bytes.ensures; few = omega (arith, c.put_marked-colon_at.ensures.few, c.put_bytes-why_at.ensures.1, c.put_reason-end.ensures.few, c.put_bytes.ensures.1) }
+    let a = c.args in record { out_after = unreadable-put a.out.now _ _ _ _ _ _ _ _ a.unread.line a.unread.why c.put_marked-colon_at.ensures.out_after c.put_bytes-why_at.ensures c.put_reason-end.ensures.out_after c.put_bytes.ensures; few = omega (arith, c.put_marked-colon_at.ensures.few, c.put_bytes-why_at.ensures.1, c.put_reason-end.ensures.few, c.put_bytes.ensures.1) }

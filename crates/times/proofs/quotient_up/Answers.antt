@@ -10,4 +10,4 @@ returns-then-b-eq0 c = (rw (c.if-b-eq0.true, ceil_by_zero), search rules)
 
 pub returns : goal.returns
 unfolding ceil
-returns c = (refl, ceil-le _ _)
+returns c = rw c.from-d.ensures (refl, ceil-le _ _)

@@ -1,6 +1,5 @@
 -- Invariant: the array holds those left of the first i connections (`left_laid`); one that is left is `left_more`, another `left-kept`.
 use mathlib.Core.Path.{◌≡◌}
-use Prim.Native.Nat.{◌≤◌, ◌-◌}
 use lib.ListN.{take}
 use Rattle.laws.specs.Lists.{keep}
 use Rattle.plan.specs.Memory.{seen}
@@ -9,9 +8,6 @@ use Rattle.bus.specs.Edition.{left_laid}
 use Rattle.bus.proofs.Leaving.{left_with}
 use Rattle.bus.proofs.edition.connections_left.Given as goal
 
-abbrev pub invariant-loop-i : goal.invariant-loop-i
-invariant-loop-i l =
-    (l.i ≤ l.n) × (left_with l.count l.left ≡ left_laid (keep (is_left (seen l.p)) (take l.i (seen l.p).connections)))
-
-abbrev pub decreases-loop-i : goal.decreases-loop-i
-decreases-loop-i l = l.n - l.i
+abbrev pub invariant-loop-connection : goal.invariant-loop-connection
+invariant-loop-connection l =
+    (left_with l.count l.left ≡ left_laid (keep (is_left (seen l.fn.p)) (take l.connection-index (seen l.fn.p).connections)))

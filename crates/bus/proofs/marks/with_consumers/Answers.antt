@@ -1,40 +1,28 @@
-use borrow.Author.Rules.{rules}
-use mathlib.Core.Path.{◌∙◌}
-use native.Mathlib.Omega.{arith}
-use Prim.Native.Nat.{◌≤◌, ◌<◌}
-use lib.ListN.{length}
-use lib.Seq.{take_all}
-use Rattle.plan.specs.Memory.{seen, connection_seen, connection_laid}
+-- What `mark` promises, of connections as they are seen (`marked_seen`); what one marks is `counted-marks`.
+use mathlib.Core.Path.{◌≡◌}
+use Rattle.std.proofs.Common.{rules}
+use Rattle.std.specs.Bool.{then_some}
+use Prim.Native.Nat.{◌<◌}
+use lib.Dec.{ltb}
+use lib.ListN.{get_or}
+use Rattle.plan.specs.Memory.{seen, connection_seen}
 use Rattle.rules.specs.Traffic.{is_bus_task, thins_for}
 use Rattle.bus.specs.Marks.{is_counted_task}
-use Rattle.bus.proofs.Things.{connection-here}
-use Rattle.bus.proofs.Tables.{marked_by, marked-none}
-use Rattle.bus.proofs.Thinning.{counted_turn}
+use Rattle.bus.proofs.Marking.{marked_seen}
+use Rattle.bus.proofs.Given.{counted-marks}
 use Rattle.bus.proofs.marks.with_consumers.Goals as goal
 
-pub loop-i-init : goal.loop-i-init
-loop-i-init c =
-    let start = c.before in
-    let q = seen start.args.p in
-    (search rules, start.requires.bus_value ∙ marked-none (is_bus_task q) (thins_for q))
-
-pub loop-i-preserved : goal.loop-i-preserved
-unfolding connection_seen connection_laid
-loop-i-preserved c =
-    let placed = c.before in
-    let loop = placed.before in
-    let start = loop.before in
-    let p = start.args.p in
-    let l = loop.loop-i in
-    let h : l.i < length (seen p).connections = omega arith in (
-      search rules,
-      counted_turn (seen p) l.i h (connection-here p l.i h) loop.least_periods-leasts.ensures (omega arith) (omega arith)
-          placed.place-t.ensures.0 placed.place-u.ensures.0 l.invariant.1 c.either.ensures,
-    )
-
 pub returns : goal.returns
-unfolding is_counted_task marked_by
+unfolding is_counted_task connection_seen
 returns c =
     let q = seen c.args.p in
-    let w : length q.connections ≤ c.loop-i.i = omega arith in
-    rw (take_all c.loop-i.i q.connections w) at c.loop-i.invariant.1
+    let things = c.connections.result.now in
+    let leasts = c.least_periods-leasts.result in
+    marked_seen connection_seen (thins_for q) (is_bus_task q) c.connections.ensures.things c.requires.bus_value
+    (c.mark.ensures _ (record {
+      told = λ i d r w said k.
+          let from : (get_or things i d).producer.0 < 256 = search rules in
+          let to : (get_or things i d).consumer.0 < 256 = search rules in
+          let here : r ≡ then_some ((ltb (get_or leasts (get_or things i d).producer.0 0) (get_or leasts (get_or things i d).consumer.0 0))) (get_or things i d).consumer.0 = search rules in
+          counted-marks q (connection_seen (get_or things i d)) k c.least_periods-leasts.ensures from to here;
+    }))

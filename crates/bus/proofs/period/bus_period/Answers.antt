@@ -1,52 +1,47 @@
-use borrow.Author.Rules.{rules}
 use mathlib.Core.Path.{◌≡◌, refl, sym, ◌∙◌}
 use native.Mathlib.Omega.{arith}
+use Prim.Native.Nat.{ℕ, ◌+◌, ◌<◌}
+use lib.ListN.{length, get_or, take}
+use Rattle.std.proofs.lemmas.List.{length-take-le, get_or-take}
 use Rattle.laws.specs.Lists.{tab}
+use Rattle.laws.specs.Numbers.{lcm}
 use Rattle.rules.specs.Traffic.{period_of_runs}
 use Rattle.bus.specs.Runs.{run_at, runs_seen}
-use mathlib.Core.Bool.{true}
-use Prim.Native.Nat.{◌+◌}
-use Rattle.laws.specs.Numbers.{divides}
+use Rattle.bus.specs.declared.runs.Runs.{Runs}
 use Rattle.bus.proofs.Multiples.{period_more, period-below}
 use Rattle.bus.proofs.period.bus_period.Goals as goal
 
-made : (c : goal.After-lcm-period) → c.lcm-period.result ≡ period_of_runs (tab (run_at c.args.runs) 0 (c.loop-i.i + 1))
+-- one run more, of those that are lent
+made : (r : Runs) (i v period : ℕ) → i < r.count → v ≡ lcm (get_or (take r.count r.periods) i 0) period → period ≡ period_of_runs (tab (run_at r) 0 i) → v ≡ period_of_runs (tab (run_at r) 0 (i + 1))
 unfolding run_at
-made c =
-    let c1 = c.before in
-    c.lcm-period.ensures ∙ rw c1.loop-i.invariant.1
-    (sym (period_more (run_at c1.args.runs) c1.loop-i.i))
+made r i v period w e h = e ∙ rw (h, get_or-take r.count r.periods i 0 w) (sym (period_more (run_at r) i))
 
-whole : (c : goal.After-lcm-period) → divides (period_of_runs (tab (run_at c.args.runs) 0 c.args.runs.count)) c.args.grid.0 ≡ true
-unfolding runs_seen
-whole c =
-    let c1 = c.before in
-    c1.requires.grid_value
-
-pub loop-i-init : goal.loop-i-init
+pub loop-each-init : goal.loop-each-init
 unfolding period_of_runs
-loop-i-init c = (search rules, refl)
+loop-each-init c = refl
 
 pub overflow_cast-period : goal.overflow_cast-period
+unfolding runs_seen
 overflow_cast-period c =
-    let c1 = c.before in
-    let a = c1.args in
+    let r = c.args.runs in
+    let long : length (take r.count r.periods) ≡ r.count = length-take-le r.count r.periods (omega arith) in
     omega (
       arith,
-      made c,
-      period-below (run_at a.runs) a.grid.0 a.runs.count (c1.loop-i.i + 1) (omega arith) c1.requires.grid_nonzero
-          (whole c),
+      made r c.loop-each.each-index _ _ (omega arith) c.lcm-period.ensures c.loop-each.invariant,
+      period-below (run_at r) c.args.grid.0 r.count (c.loop-each.each-index + 1) (omega arith) c.requires.grid_nonzero c.requires.grid_value,
     )
 
-pub loop-i-preserved : goal.loop-i-preserved
-loop-i-preserved c = (omega arith, made c)
+pub loop-each-preserved : goal.loop-each-preserved
+loop-each-preserved c =
+    let r = c.args.runs in
+    let long : length (take r.count r.periods) ≡ r.count = length-take-le r.count r.periods (omega arith) in
+    made r c.loop-each.each-index _ _ (omega arith) c.lcm-period.ensures c.loop-each.invariant
 
 pub returns : goal.returns
 unfolding runs_seen
 returns c =
-    let e : c.loop-i.i ≡ c.args.runs.count = omega arith in
-    let h = rw e at c.loop-i.invariant.1 in (
-      h,
-      rw h (period-below (run_at c.args.runs) c.args.grid.0 c.args.runs.count c.args.runs.count (omega arith)
-          c.requires.grid_nonzero c.requires.grid_value),
-    )
+    let r = c.args.runs in
+    let long : length (take r.count r.periods) ≡ r.count = length-take-le r.count r.periods (omega arith) in
+    let e : c.loop-each.each-index ≡ r.count = omega arith in
+    let h = rw e at c.loop-each.invariant in
+    (h, rw h (period-below (run_at r) c.args.grid.0 r.count r.count (omega arith) c.requires.grid_nonzero c.requires.grid_value))

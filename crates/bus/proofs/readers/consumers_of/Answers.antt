@@ -1,40 +1,16 @@
-use borrow.Author.Rules.{rules}
+-- What `mark` promises, of connections as they are seen (`marked_seen`).
 use mathlib.Core.Path.{refl}
 use mathlib.Core.Bool.{false}
-use mathlib.Core.List.{[]}
-use native.Mathlib.Omega.{arith}
-use Prim.Native.Nat.{◌≤◌, ◌<◌}
-use lib.ListN.{length}
-use lib.Seq.{take_all}
-use Rattle.plan.specs.Memory.{seen, connection_seen, connection_laid}
+use Rattle.std.proofs.Common.{rules}
+use Rattle.plan.specs.Memory.{connection_seen}
 use Rattle.rules.specs.Readers.{leads_to}
 use Rattle.bus.specs.Readers.{leads_from}
-use Rattle.bus.proofs.Things.{connection-here}
-use Rattle.bus.proofs.Tables.{all_alike, no_mark, marked_by}
-use Rattle.bus.proofs.Thinning.{consumers_turn}
+use Rattle.bus.proofs.Tables.{no_mark, all_alike}
+use Rattle.bus.proofs.Marking.{marked_seen, if_mark}
 use Rattle.bus.proofs.readers.consumers_of.Goals as goal
 
-pub loop-i-init : goal.loop-i-init
-unfolding marked_by
-loop-i-init c = (search rules, all_alike (marked_by no_mark (leads_to c.args.t) []) false (λ k. refl))
-
-pub loop-i-preserved : goal.loop-i-preserved
-unfolding connection_seen connection_laid
-loop-i-preserved c =
-    let placed = c.before in
-    let loop = placed.before in
-    let start = loop.before in
-    let p = start.args.p in
-    let l = loop.loop-i in
-    let h : l.i < length (seen p).connections = omega arith in (
-      search rules,
-      consumers_turn (seen p) l.i h (connection-here p l.i h) start.args.t (omega arith) placed.place-from.ensures.0
-          placed.place-u.ensures.0 l.invariant.1 c.either.ensures,
-    )
-
 pub returns : goal.returns
-unfolding leads_from marked_by
+unfolding leads_from leads_to connection_seen
 returns c =
-    let q = seen c.args.p in
-    let w : length q.connections ≤ c.loop-i.i = omega arith in
-    rw (take_all c.loop-i.i q.connections w) at c.loop-i.invariant.1
+    marked_seen connection_seen (leads_to c.args.t) no_mark c.connections.ensures.things (all_alike no_mark false (λ k. refl))
+    (c.mark.ensures _ (record { told = λ i d r w said k. search (rules, if_mark) }))

@@ -1,39 +1,30 @@
-use borrow.Author.Rules.{rules}
-use mathlib.Core.Path.{refl}
-use mathlib.Core.Bool.{false}
-use mathlib.Core.List.{[]}
-use native.Mathlib.Omega.{arith}
-use Prim.Native.Nat.{◌≤◌, ◌<◌}
-use lib.ListN.{length}
-use lib.Seq.{take_all}
-use Rattle.plan.specs.Memory.{seen, connection_seen, connection_laid}
+-- What `mark` promises, of connections as they are seen (`marked_seen`); what one marks is `full-marks`.
+use mathlib.Core.Path.{◌≡◌, refl}
+use mathlib.Core.Bool.{false, not}
+use Rattle.std.proofs.Common.{rules}
+use Rattle.std.specs.Bool.{then_some}
+use Prim.Native.Nat.{◌<◌}
+use lib.Dec.{ltb}
+use lib.ListN.{get_or}
+use Rattle.plan.specs.Memory.{seen, connection_seen}
 use Rattle.rules.specs.Readers.{needs_all}
 use Rattle.bus.specs.Readers.{is_full}
-use Rattle.bus.proofs.Things.{connection-here}
-use Rattle.bus.proofs.Tables.{all_alike, no_mark, marked_by}
-use Rattle.bus.proofs.Thinning.{full_turn}
+use Rattle.bus.proofs.Tables.{no_mark, all_alike}
+use Rattle.bus.proofs.Marking.{marked_seen}
+use Rattle.bus.proofs.Given.{full-marks}
 use Rattle.bus.proofs.readers.full_tasks.Goals as goal
 
-pub loop-i-init : goal.loop-i-init
-unfolding marked_by
-loop-i-init c = (search rules, all_alike (marked_by no_mark (needs_all (seen c.args.p)) []) false (λ k. refl))
-
-pub loop-i-preserved : goal.loop-i-preserved
-unfolding connection_seen connection_laid
-loop-i-preserved c =
-    let placed = c.before in
-    let loop = placed.before in
-    let p = loop.args.p in
-    let l = loop.loop-i in
-    let h : l.i < length (seen p).connections = omega arith in (
-      search rules,
-      full_turn (seen p) l.i h (connection-here p l.i h) loop.least_periods-leasts.ensures (omega arith) (omega arith)
-          placed.place-t.ensures.0 placed.place-u.ensures.0 l.invariant.1 c.either.ensures,
-    )
-
 pub returns : goal.returns
-unfolding is_full marked_by
+unfolding is_full connection_seen
 returns c =
     let q = seen c.args.p in
-    let w : length q.connections ≤ c.loop-i.i = omega arith in
-    rw (take_all c.loop-i.i q.connections w) at c.loop-i.invariant.1
+    let things = c.connections.result.now in
+    let leasts = c.least_periods-leasts.result in
+    marked_seen connection_seen (needs_all q) no_mark c.connections.ensures.things (all_alike no_mark false (λ k. refl))
+    (c.mark.ensures _ (record {
+      told = λ i d r w said k.
+          let from : (get_or things i d).producer.0 < 256 = search rules in
+          let to : (get_or things i d).consumer.0 < 256 = search rules in
+          let here : r ≡ then_some (not (ltb (get_or leasts (get_or things i d).producer.0 0) (get_or leasts (get_or things i d).consumer.0 0))) (get_or things i d).producer.0 = search rules in
+          full-marks q (connection_seen (get_or things i d)) k c.least_periods-leasts.ensures from to here;
+    }))

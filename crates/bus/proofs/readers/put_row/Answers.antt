@@ -1,23 +1,17 @@
-use borrow.Author.Rules.{rules}
-use mathlib.Core.Path.{◌≡◌, refl}
-use native.Mathlib.Omega.{arith}
-use Prim.Native.Nat.{◌<◌, ◌*◌}
-use lib.ListN.{length}
+use mathlib.Core.Path.{refl}
+use Prim.Native.Nat.{◌*◌}
+use lib.ListN.{take}
+use lib.Seq.{take_all}
 use Rattle.laws.proofs.Rows.{sets_more}
 use Rattle.bus.proofs.readers.put_row.Goals as goal
 
 pub loop-k-init : goal.loop-k-init
-loop-k-init c = (search rules, refl)
+loop-k-init c = refl
 
 pub loop-k-preserved : goal.loop-k-preserved
 loop-k-preserved c =
-    let loop = c.before in
-    let a = loop.args in
-    let l = loop.loop-k in
-    let h : l.k < length a.row = omega arith in
-    (search rules, rw l.invariant.1 (sets_more a.periods.now (a.t * 64) a.row l.k 0 h))
+    let a = c.args in
+    rw c.loop-k.invariant (sets_more a.periods.now (a.t * 64) (take a.n a.row) c.loop-k.k 0 c.loop-k-test.true)
 
 pub returns : goal.returns
-returns c =
-    let e : c.loop-k.k ≡ c.args.n = omega arith in
-    rw e at c.loop-k.invariant.1
+returns c = rw (take_all c.loop-k.k (take c.args.n c.args.row) c.loop-k-test.false) at c.loop-k.invariant

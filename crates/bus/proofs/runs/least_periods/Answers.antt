@@ -1,4 +1,3 @@
-use borrow.Author.Rules.{rules}
 use mathlib.Core.Path.{◌∙◌}
 use native.Mathlib.Omega.{arith}
 use Prim.Native.Nat.{◌≤◌, ◌<◌}
@@ -6,33 +5,28 @@ use lib.ListN.{length, get_or}
 use lib.Seq.{take_all}
 use Rattle.plan.specs.Memory.{seen, invocation_seen, invocation_laid}
 use Rattle.rules.specs.Plan.{no_invocation}
-use Rattle.bus.proofs.Things.{invocation-here}
 use Rattle.bus.proofs.Columns.{period-is}
+use Rattle.bus.proofs.Marking.{seen_at}
 use Rattle.bus.proofs.Thinning.{leasts_none, leasts_all, leasts_turn}
 use Rattle.bus.proofs.runs.least_periods.Goals as goal
 
-pub loop-i-init : goal.loop-i-init
-loop-i-init c = (search rules, leasts_none (seen c.args.p))
+pub loop-invocation-init : goal.loop-invocation-init
+loop-invocation-init c = leasts_none (seen c.args.p)
 
-pub loop-i-preserved : goal.loop-i-preserved
+pub loop-invocation-preserved : goal.loop-invocation-preserved
 unfolding invocation_seen invocation_laid
-loop-i-preserved c =
-    let divided = c.before in
-    let placed = divided.before in
-    let loop = placed.before in
-    let start = loop.before in
-    let q = seen start.args.p in
-    let l = loop.loop-i in
-    let h : l.i < length q.invocations = omega arith in
-    let x = invocation_seen (get_or start.args.p.invocations l.i (invocation_laid no_invocation)) in (
-      search rules,
-      leasts_turn q l.i h (invocation-here start.args.p l.i h) start.requires l.invariant.1 (omega arith) placed.place-t.ensures.0
-          (period-is q x placed.place-m.result loop.mode_periods-lasting.ensures (omega arith) placed.place-m.ensures.0 divided.quotient-period.ensures)
-          c.lesser.ensures,
-    )
+loop-invocation-preserved c =
+    let q = seen c.args.p in
+    let l = c.loop-invocation in
+    let items = c.invocations-invocation-items in
+    let i = l.invocation-index in
+    let h : i < length q.invocations = omega (arith, items.ensures.count.0) in
+    let x = invocation_seen (get_or items.result.now i (invocation_laid no_invocation)) in
+    leasts_turn q i h (seen_at invocation_seen items.result.now items.ensures.things i (invocation_laid no_invocation) no_invocation (omega arith)) c.requires l.invariant (omega arith) c.from-t.ensures
+    (period-is q x c.from-m.result c.mode_periods-lasting.ensures (omega arith) c.from-m.ensures c.quotient-period.ensures) c.lesser.ensures
 
 pub returns : goal.returns
 returns c =
     let q = seen c.args.p in
-    let w : length q.invocations ≤ c.loop-i.i = omega arith in
-    rw (take_all c.loop-i.i q.invocations w) at c.loop-i.invariant.1 ∙ leasts_all q
+    let w : length q.invocations ≤ c.loop-invocation.invocation-index = omega (arith, c.invocations-invocation-items.ensures.count.0) in
+    rw (take_all c.loop-invocation.invocation-index q.invocations w) at c.loop-invocation.invariant ∙ leasts_all q

@@ -1,47 +1,31 @@
-use mathlib.Core.Path.{◌≡◌, sym, ◌∙◌}
-use native.Mathlib.Omega.{arith}
-use Prim.Native.Nat.{ℕ, ◌≤◌, ◌<◌}
-use lib.ListN.{length, get_or}
-use lib.Seq.{take_all}
-use Rattle.plan.specs.Memory.{seen, connection_seen, connection_laid}
-use Rattle.plan.specs.declared.Plan.{Plan}
-use Rattle.rules.specs.Plan.{no_connection}
-use Rattle.rules.specs.Traffic.{is_bus_task}
-use Rattle.bus.specs.Senders.{invoked_by, bus_task_by}
-use Rattle.bus.proofs.Things.{connection-here}
-use Rattle.bus.proofs.Turns.{bus-tasks-none, bus-tasks_turn}
-use borrow.Author.Rules.{rules}
+-- What `mark` promises, of connections as they are seen (`marked_seen`); what one marks is `leaving-marks`.
+use mathlib.Core.Path.{◌≡◌, refl, ◌∙◌}
+use mathlib.Core.Bool.{false, not, ◌&&◌}
+use Rattle.std.proofs.Common.{rules}
+use Rattle.std.specs.Bool.{then_some}
+use Prim.Native.Nat.{◌<◌}
+use lib.Dec.{eqb}
+use lib.ListN.{get_or}
+use Rattle.plan.specs.Memory.{seen, connection_seen}
+use Rattle.laws.proofs.Laid.{tab-same}
+use Rattle.rules.specs.Traffic.{leaves, is_bus_task}
+use Rattle.bus.specs.Senders.{by_number, invoked_by}
+use Rattle.bus.proofs.Tables.{no_mark, all_alike}
+use Rattle.bus.proofs.Marking.{marked_seen, any_and}
+use Rattle.bus.proofs.Given.{leaving-marks}
 use Rattle.bus.proofs.senders.bus_tasks.Goals as goal
 
-producer : (p : Plan) (i : ℕ) → i < length (seen p).connections → (get_or (seen p).connections i no_connection).producer ≡ (get_or p.connections i (connection_laid no_connection)).producer.0
-unfolding connection_seen
-producer p i w = rw (connection-here p i w)
-
-consumer : (p : Plan) (i : ℕ) → i < length (seen p).connections → (get_or (seen p).connections i no_connection).consumer ≡ (get_or p.connections i (connection_laid no_connection)).consumer.0
-unfolding connection_seen
-consumer p i w = rw (connection-here p i w)
-
-pub loop-i-init : goal.loop-i-init
-loop-i-init c = (search rules, bus-tasks-none (seen c.args.p))
-
-pub loop-i-preserved : goal.loop-i-preserved
-unfolding connection_laid
-loop-i-preserved c =
-    let c1 = c.before in
-    let c2 = c1.before in
-    let start = c2.before in
-    let p = start.args.p in
-    let l = c2.loop-i in
-    let w : l.i < length (seen p).connections = omega arith in (
-      search rules,
-      bus-tasks_turn (seen p) l.i _ _ l.invariant.1 start.requires.invoked_value start.requires.nodes_value w
-          (producer p l.i w ∙ sym c1.place-t.ensures.0) (consumer p l.i w ∙ sym c1.place-u.ensures.0)
-          (omega arith) (omega arith) c.marked.ensures,
-    )
-
 pub returns : goal.returns
-unfolding is_bus_task bus_task_by invoked_by
+unfolding is_bus_task invoked_by connection_seen by_number
 returns c =
     let q = seen c.args.p in
-    let w : length q.connections ≤ c.loop-i.i = omega arith in
-    rw (take_all c.loop-i.i q.connections w) at c.loop-i.invariant.1
+    let things = c.connections.result.now in
+    marked_seen connection_seen (λ k x. invoked_by q.invocations k && leaves q k x) no_mark c.connections.ensures.things (all_alike no_mark false (λ k. refl))
+    (c.mark.ensures _ (record {
+      told = λ i d r w said k.
+          let from : (get_or things i d).producer.0 < 256 = search rules in
+          let to : (get_or things i d).consumer.0 < 256 = search rules in
+          let here : r ≡ then_some (get_or c.args.invoked.now (get_or things i d).producer.0 false && not (eqb (get_or c.args.nodes.now (get_or things i d).consumer.0 0) (get_or c.args.nodes.now (get_or things i d).producer.0 0))) (get_or things i d).producer.0 = search rules in
+          leaving-marks q (connection_seen (get_or things i d)) k c.requires.nodes_value c.requires.invoked_value from to here;
+    }))
+    ∙ tab-same _ (is_bus_task q) 0 256 (λ k a b. any_and (invoked_by q.invocations k) (leaves q k) q.connections)

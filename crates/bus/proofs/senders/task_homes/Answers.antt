@@ -1,37 +1,13 @@
-use borrow.Author.Rules.{rules}
-use mathlib.Core.Path.{◌≡◌, refl, sym, ap, ◌∙◌}
-use lib.ListN.{length, get_or}
+-- What `fill` promises, of tasks as they are seen (`filled_seen`).
+use mathlib.Core.Path.{refl}
 use native.Mathlib.Omega.{arith}
-use Prim.Native.Nat.{ℕ, ◌<◌}
-use Rattle.laws.proofs.Loops.{stores_turn}
-use Rattle.plan.specs.Memory.{seen, task_seen, task_laid}
-use Rattle.plan.specs.declared.Plan.{Plan}
+use Rattle.std.proofs.Common.{rules}
+use Rattle.plan.specs.Memory.{task_seen}
 use Rattle.rules.specs.Plan.{Task, no_task, the_task}
 use Rattle.bus.specs.Senders.{task_home}
-use Rattle.bus.proofs.Tables.{filled_of}
-use Rattle.bus.proofs.Things.{task-here}
+use Rattle.bus.proofs.Marking.{filled_seen}
 use Rattle.bus.proofs.senders.task_homes.Goals as goal
 
-abbrev home : Task → ℕ
-home x = x.home
-
-here : (p : Plan) (k : ℕ) → k < length (seen p).tasks → (get_or p.tasks k (task_laid no_task)).home.0 ≡ task_home (seen p) k
-unfolding task_home the_task task_seen task_laid
-here p k h = sym (ap home (task-here p k h))
-
-pub loop-t-init : goal.loop-t-init
-loop-t-init c = (search rules, refl)
-
-pub loop-t-preserved : goal.loop-t-preserved
-unfolding task_laid
-loop-t-preserved c =
-    let p = c.args.p in
-    let w : c.loop-t.t < length (seen p).tasks = omega arith in
-    (search rules, stores_turn _ _ _ c.loop-t.invariant.1 (here p _ w))
-
 pub returns : goal.returns
-unfolding task_home the_task
-returns c =
-    let l = (seen c.args.p).tasks in
-    let e : c.loop-t.t ≡ length l = omega arith in
-    c.loop-t.invariant.1 ∙ rw e (filled_of home l no_task refl (omega arith))
+unfolding task_home the_task task_seen
+returns c = filled_seen task_seen (λ (x : Task). x.home) no_task refl c.tasks.ensures.things (omega (arith, c.tasks.ensures.count.1)) c.fill.ensures (λ i d v w said. search rules)

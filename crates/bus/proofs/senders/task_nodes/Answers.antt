@@ -1,27 +1,26 @@
-use mathlib.Core.Path.{◌≡◌, refl, ◌∙◌}
+-- What `fill` promises, of the nodes that stand in the table of modules (`node-there`); behind the tasks stands the node of module 0.
+use mathlib.Core.Path.{◌≡◌, refl, sym, ap, ◌∙◌}
 use native.Mathlib.Omega.{arith}
-use lib.ListN.{length}
-use Rattle.laws.proofs.Loops.{stores_turn}
-use Rattle.plan.specs.Memory.{seen}
+use Rattle.std.proofs.Common.{rules}
+use Prim.Native.Nat.{◌<◌}
+use lib.ListN.{length, get_or}
+use Rattle.plan.specs.Memory.{seen, task_seen}
+use Rattle.rules.specs.Plan.{Task, no_task, the_task}
 use Rattle.rules.specs.Traffic.{task_node}
 use Rattle.bus.proofs.Tables.{filled}
-use Rattle.bus.proofs.Turns.{node-there, node-behind}
-use borrow.Author.Rules.{rules}
+use Rattle.bus.proofs.Marking.{seen_at}
+use Rattle.bus.proofs.Given.{node-there, node-behind}
 use Rattle.bus.proofs.senders.task_nodes.Goals as goal
 
-pub loop-t-init : goal.loop-t-init
-loop-t-init c = (search rules, λ q e f. refl)
-
-pub loop-t-preserved : goal.loop-t-preserved
-loop-t-preserved c = (
-  search rules,
-  λ q e f. stores_turn _ _ _ (c.loop-t.invariant.1 q e f) (node-there q c.loop-t.t e f (omega arith) (omega arith) c.place-m.ensures.0),
-)
-
 pub returns : goal.returns
+unfolding the_task task_seen
 returns c =
-    let start = c.before in
-    let q = seen start.args.p in
-    let e : c.loop-t.t ≡ length q.tasks = omega arith in
-    c.loop-t.invariant.1 q start.requires.nodes_value start.requires.homes_value
-    ∙ rw e (filled (task_node q) _ (length q.tasks) (omega arith) (λ k h v. node-behind q k start.requires.nodes_value h))
+    let q = seen c.args.p in
+    let things = c.tasks.result.now in
+    c.fill.ensures (task_node q) (record {
+      told = λ i d v w said.
+          let within : (get_or things i d).home.0 < 256 = search rules in
+          let here : v ≡ get_or c.args.nodes.now (get_or things i d).home.0 0 = search rules in
+          node-there q i c.requires within (sym (ap (λ (x : Task). x.home) (seen_at task_seen things c.tasks.ensures.things i d no_task w))) here;
+    })
+    ∙ rw c.tasks.ensures.count.0 (filled (task_node q) _ (length q.tasks) (omega (arith, c.tasks.ensures.count.1)) (λ k h v. node-behind q k c.requires refl h))

@@ -11,13 +11,16 @@ use Rattle.plan.proofs.bodies.bus_with.Goals as goal
 pub returns : goal.returns
 unfolding bus_laid with_byte_bits bus_of record_of fields kinds
 returns c =
-    let c1 = c.before in
-    let a = c1.args in
+    let a = c.args in
     rw (
-      c1.read16-overhead.ensures,
-      c1.read16-least.ensures,
-      c1.read16-most.ensures,
-      c.read16-gap.ensures,
+      c.from.ensures,
+      c.from-2.ensures,
+      c.from-3.ensures,
+      c.from-4.ensures,
+      c.read16.ensures,
+      c.read16-2.ensures,
+      c.read16-3.ensures,
+      c.read16-4.ensures,
       c.read32.ensures,
       c.read32-2.ensures,
     )

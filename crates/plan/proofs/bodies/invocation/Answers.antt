@@ -11,6 +11,6 @@ use Rattle.plan.proofs.bodies.invocation.Goals as goal
 pub returns : goal.returns
 unfolding invocation_laid invocation_of fields kinds
 returns c =
-    rw (c.read16-rate.ensures, c.read8.ensures, c.read8-2.ensures)
+    rw (c.from.ensures, c.read16.ensures, c.read8.ensures, c.read8-2.ensures)
     (ap (λ (b : List ℕ). invocation_laid (invocation_of b))
     (sym (numbers-laid c.args.body.now 0 6)))

@@ -11,5 +11,5 @@ use Rattle.plan.proofs.bodies.task.Goals as goal
 pub returns : goal.returns
 unfolding task_laid task_of fields kinds
 returns c =
-    rw (c.read8-size.ensures, c.read8.ensures, c.read32.ensures)
+    rw (c.from.ensures, c.read8-2.ensures, c.read8.ensures, c.read32.ensures)
     (ap (λ (b : List ℕ). task_laid (task_of b)) (sym (numbers-laid c.args.body.now 0 5)))

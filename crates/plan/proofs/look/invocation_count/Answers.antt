@@ -11,4 +11,4 @@ unfolding seen count_seen
 returns c =
     let p = c.args.p in
     let h = sizes p _ c.well_formed.0 in
-    (c.lower.ensures ∙ sym (part_length invocation_seen (count_seen p 6) p.invocations 64 h.invocations), omega arith)
+    (rw c.from.ensures at c.min.ensures ∙ sym (part_length invocation_seen (count_seen p 6) p.invocations 64 h.invocations), omega arith)

@@ -11,4 +11,4 @@ unfolding seen count_seen
 returns c =
     let p = c.args.p in
     let h = sizes p _ c.well_formed.0 in
-    (c.lower.ensures ∙ sym (part_length mode_seen (count_seen p 4) p.modes 32 h.modes), omega arith)
+    (rw c.from.ensures at c.min.ensures ∙ sym (part_length mode_seen (count_seen p 4) p.modes 32 h.modes), omega arith)

@@ -1,13 +1,9 @@
--- Invariant: the first k counts are within their ranges. One that is not ends the scan (`met_up_to`); else `none-up_to`.
-use mathlib.Core.Path.{◌≡◌}
-use mathlib.Core.Option.{none}
-use Prim.Native.Nat.{◌-◌, ◌≤◌}
+-- The counts looked at are within their ranges.
+use Rattle.std.proofs.Common.{◌≡◌}
+use Rattle.std.proofs.Math.Option.{none}
 use Rattle.laws.specs.Lists.{first_bad, up_to}
 use Rattle.planrules.specs.Tests.{counts_fit}
 use Rattle.planrules.proofs.counts.first_bad.Given as goal
 
 abbrev pub invariant-loop-k : goal.invariant-loop-k
-invariant-loop-k l = (l.k ≤ 6) × (first_bad (counts_fit l.counts) (up_to l.k) ≡ none)
-
-abbrev pub decreases-loop-k : goal.decreases-loop-k
-decreases-loop-k l = 6 - l.k
+invariant-loop-k l = first_bad (counts_fit l.fn.counts) (up_to l.k) ≡ none

@@ -1,15 +1,15 @@
-use Rattle.std.proofs.Common.{◌≡◌, arith, ◌∙◌, ap}
-use Rattle.laws.specs.Loops.{stores}
-use Rattle.rows.specs.Frames.{zero_frame, rows_with, frame_in, end_of}
-use Rattle.rows.proofs.Filled.{filled-end}
+use Rattle.std.proofs.Common.{sym, arith}
+use Rattle.rows.specs.Frames.{rows_with}
+use Rattle.rows.proofs.Filled.{filled-few, filled-end}
 use Rattle.rows.proofs.passes.fill.Goals as goal
+
+pub returns-then-rows-lt-MOST : goal.returns-then-rows-lt-MOST
+returns-then-rows-lt-MOST c =
+    let a = c.args in
+    sym (filled-few (rows_with a.frames a.tasks.now a.releases.now a.deadlines.now a.starts.now) a.rows.now c.if-rows-lt-MOST.true)
 
 pub returns : goal.returns
 returns c =
     let a = c.args in
-    let r = rows_with a.frames a.tasks.now a.releases.now a.deadlines.now a.starts.now in
-    let k_end : c.loop-k.k ≡ c.end_in-end.result = omega (arith, c.loop-k-test.false, c.loop-k.invariant.within) in
-    let j_end : c.loop-j.j ≡ c.end_of-last.result = omega (arith, c.loop-j-test.false, c.loop-j.invariant.within) in
-    filled-end r a.rows.now c.loop-k.rows
-    (c.loop-k.invariant.zeros ∙ ap (stores a.rows.now (λ k. zero_frame)) (k_end ∙ c.end_in-end.ensures.0))
-    c.loop-j.rows (c.loop-j.invariant.framed ∙ ap (stores c.loop-k.rows (frame_in r)) (j_end ∙ c.end_of-last.ensures.0 ∙ ap (end_of a.frames) c.loop-k.auto.rows))
+    filled-end (rows_with a.frames a.tasks.now a.releases.now a.deadlines.now a.starts.now) a.rows.now c.loop-k.rows c.loop-k.k c.if-rows-lt-MOST.false
+    c.loop-k.invariant (omega (arith, c.loop-k.auto.rows, c.loop-k-test.false, c.loop-k.auto.k-end))

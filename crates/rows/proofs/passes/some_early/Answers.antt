@@ -1,29 +1,12 @@
-use Rattle.std.proofs.Common.{◌≡◌, refl, rules, arith, ◌∙◌, ap, get_or, Bool}
-use Rattle.laws.proofs.Loops.{stores_turn}
-use Rattle.rows.specs.Frames.{zero_frame}
-use Rattle.rows.specs.Passes.{found_in, passed_row, looked_row}
-use Rattle.rows.proofs.Scanned.{as_found, as_passed, carried-end}
+-- Found already (`looked-before`), or one of the rows is early (`looked-now`).
+use Rattle.rows.proofs.Scanned.{looked-before, looked-now}
 use Rattle.rows.proofs.passes.some_early.Goals as goal
 
-pub loop-k-init : goal.loop-k-init
-unfolding found_in
-loop-k-init c = record { within = search rules; found = refl; passed = refl }
+pub returns-then-found : goal.returns-then-found
+returns-then-found c =
+    looked-before c.args.frames c.end_of-end.result c.args.rows.now c.end_of-end.ensures.value c.end_of-end.ensures.room c.if-found.true
 
-pub loop-k-preserved : goal.loop-k-preserved
-loop-k-preserved c =
-    let l = c.loop-k in
-    let e : c.looked-step.result ≡ looked_row (found_in looked_row c.args.found c.args.rows.now l.k) (get_or l.rows l.k zero_frame) =
-    c.looked-step.ensures ∙ ap (λ (b : Bool). looked_row b (get_or l.rows l.k zero_frame)) l.invariant.found in
-    record {
-      within = search rules;
-      found = as_found looked_row c.args.found c.args.rows.now l.k l.rows c.looked-step.result l.invariant.passed e;
-      passed = stores_turn c.args.rows.now (passed_row looked_row c.args.found c.args.rows.now) l.k l.invariant.passed
-          (as_passed looked_row c.args.found c.args.rows.now l.k l.rows c.looked-step.result l.invariant.passed e);
-    }
-
-pub returns : goal.returns
-returns c =
-    let l = c.loop-k in
-    let at_end : l.k ≡ c.end_of-end.result = omega (arith, c.loop-k-test.false, l.invariant.within) in
-    let all = carried-end looked_row c.args.found c.args.rows.now c.args.frames l.k l.rows l.invariant.passed (at_end ∙ c.end_of-end.ensures.0) in
-    (l.invariant.found ∙ all.0, all.1)
+pub returns-else-found : goal.returns-else-found
+returns-else-found c =
+    looked-now c.args.frames c.end_of-end.result c.args.rows.now c.end_of-end.ensures.value c.end_of-end.ensures.room c.if-found.false
+    c.one_early.ensures

@@ -13,6 +13,8 @@ returns c =
     rw (
       cut_numbers 16 a.s.now a.body refl is,
       c.read32.ensures,
+      c.from.ensures,
+      c.from-2.ensures,
       c.read8.ensures,
       c.read16.ensures,
     )

@@ -1,22 +1,9 @@
-use Rattle.text.proofs.Runs.{matched-none, matched_turn, matched-short, matched-wrong, matched-end}
-use borrow.Author.Rules.{rules}
+-- The library's own test of a front decides the definition's (`word_stands`, `word_lacks`).
+use Rattle.text.proofs.Runs.{word_stands, word_lacks}
 use Rattle.text.proofs.lines.behind.Goals as goal
 
-pub loop-i-init : goal.loop-i-init
-loop-i-init c = (search rules, matched-none)
+pub returns-then-starts_with : goal.returns-then-starts_with
+returns-then-starts_with c = word_stands _ _ _ c.rest.ensures c.if-starts_with.ensures.value
 
-pub returns-then-s-next : goal.returns-then-s-next
-returns-then-s-next c = matched-short c.loop-i.invariant.1 c.loop-i-test.true c.if-s-next.true
-
-pub returns-then-s-next-2 : goal.returns-then-s-next-2
-returns-then-s-next-2 c =
-    let c1 = c.before in
-    matched-wrong c1.loop-i.invariant.1 c1.loop-i-test.true c1.if-s-next.false c.if-s-next-2.true
-
-pub loop-i-preserved : goal.loop-i-preserved
-loop-i-preserved c =
-    let c1 = c.before in
-    (search rules, matched_turn c1.loop-i.invariant.1 c1.loop-i-test.true c1.if-s-next.false c.if-s-next-2.false)
-
-pub returns : goal.returns
-returns c = matched-end c.loop-i.invariant.1 c.loop-i.invariant.0 c.loop-i-test.false
+pub returns-else-starts_with : goal.returns-else-starts_with
+returns-else-starts_with c = word_lacks _ _ _ c.rest.ensures c.if-starts_with.ensures.value

@@ -23,7 +23,7 @@ few q kept t e =
 pub loop-t-init : goal.loop-t-init
 loop-t-init c =
     let start = c.before in
-    (omega arith, refl, rows_none (seen start.args.p) start.requires)
+    (refl, rows_none (seen start.args.p) start.requires)
 
 pub row_of-row-requires : goal.row_of-row-requires
 row_of-row-requires c =
@@ -47,9 +47,8 @@ loop-t-preserved c =
     let q = seen start.args.p in
     let l = c.loop-t in
     let row = c.row_of-row.ensures in (
-      omega arith,
-      stores_turn _ _ l.t l.invariant.1 (few q start.requires l.t row).0,
-      rows_turn q start.requires l.t (omega arith) row l.invariant.2 c.put_row.ensures,
+      stores_turn _ _ l.t l.invariant.0 (few q start.requires l.t row).0,
+      rows_turn q start.requires l.t (omega arith) row l.invariant.1 c.put_row.ensures,
     )
 
 pub returns : goal.returns
@@ -57,4 +56,4 @@ returns c =
     let start = c.before in
     let l = c.loop-t in
     let e : l.t ≡ 32 = omega arith in
-    rows_are (seen start.args.p) start.requires (rw e at l.invariant.1) (rw e at l.invariant.2)
+    rows_are (seen start.args.p) start.requires (rw e at l.invariant.0) (rw e at l.invariant.1)

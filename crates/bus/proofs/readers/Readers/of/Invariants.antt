@@ -1,6 +1,6 @@
 -- Invariant: the counts and rows of the first t tasks are laid (`stores`, `rows_of`); each turn is `rows_turn`, the end `rows_are`.
 use mathlib.Core.Path.{◌≡◌}
-use Prim.Native.Nat.{ℕ, ◌≤◌, ◌-◌}
+use Prim.Native.Nat.{ℕ}
 use lib.ListN.{length, replicate}
 use Rattle.laws.specs.Loops.{stores}
 use Rattle.plan.specs.Memory.{seen}
@@ -14,7 +14,4 @@ counted q t = length (readers_of q t)
 
 abbrev pub invariant-loop-t : goal.invariant-loop-t
 invariant-loop-t l =
-    (l.t ≤ 32) × (l.counts ≡ stores (replicate 32 0) (counted (seen l.p)) l.t) × (l.periods ≡ rows_of (readers_of (seen l.p)) l.t)
-
-abbrev pub decreases-loop-t : goal.decreases-loop-t
-decreases-loop-t l = 32 - l.t
+    (l.counts ≡ stores (replicate 32 0) (counted (seen l.p)) l.t) × (l.periods ≡ rows_of (readers_of (seen l.p)) l.t)

@@ -1,0 +1,13 @@
+-- As many are lent as the plan has (`front-seen`).
+use native.Mathlib.Omega.{arith}
+use mathlib.Core.Path.{ap, sym, ◌∙◌}
+use lib.ListN.{length, length-map, length-take}
+use Rattle.plan.specs.Memory.{seen, count_seen, mode_seen}
+use Rattle.bus.proofs.Fronts.{front-seen}
+use Rattle.bus.proofs.lists.modes.Goals as goal
+
+pub returns : goal.returns
+unfolding seen
+returns c =
+    let s = front-seen mode_seen (count_seen c.args.p.now 4) _ c.args.p.now.modes c.mode_count.ensures.0 in
+    record { things = s; count = (sym (length-map _ mode_seen) ∙ ap length s, omega (arith, length-take c.mode_count.result c.args.p.now.modes)) }
