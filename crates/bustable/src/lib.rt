@@ -47,7 +47,7 @@ fn make(rt: HostRuntime, consumers: bool) -> Result<Status, Failed> {
     let n = input::read_open(rt, &mut rt.stdin(), b"standard input", &mut plan)?;
     let mut out = [0u8; ByteCount::LONGEST_TABLE];
     let answer = respond(&plan[..n], consumers, &mut out);
-    manners::write_out(rt, &out[..answer.length], answer.status)
+    manners::end_with(rt, &out[..answer.length], answer.status)
 }
 
 // What `--help` says behind the usage.

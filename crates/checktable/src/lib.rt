@@ -50,7 +50,7 @@ fn check(rt: HostRuntime) -> Result<Status, Failed> {
     let m = read_argument(rt, 2, b"TABLE", &mut table)?;
     let mut out = [0u8; 64];
     let answer = respond(&plan[..n], &table[..m], &mut out);
-    manners::write_out(rt, &out[..answer.length], answer.status)
+    manners::end_with(rt, &out[..answer.length], answer.status)
 }
 
 // What `--help` says behind the usage.

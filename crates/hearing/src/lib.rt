@@ -17,7 +17,7 @@ use answerlines::{put_begun, put_quiet, put_ticked, same_shown};
 use answers::Refusal;
 use history::{Line, Places, What, input_of, read_line, starting_of};
 use input::read_more;
-use manners::{Failed, Status, write_out};
+use manners::{Failed, write_out};
 use station::Station;
 use stationmoves::StartedRow;
 use stationruns::Input;
@@ -65,7 +65,7 @@ pub struct Attended {
 // Writes the text, if there is any.
 fn say(rt: HostRuntime, text: &[u8]) -> Result<(), Failed> {
     if !text.is_empty() {
-        write_out(rt, text, Status::Done)?;
+        write_out(rt, text, 0)?;
     }
     Ok(())
 }
@@ -261,6 +261,11 @@ fn hear(
     ensures { IfOk result (λ next. next ≡ heard_line plan.now table.now number heard s.now) }
 {
     let line = read_line(s);
+    // A line without a word changes nothing; what was heard is not taken apart for it.
+    let what = line.what;
+    if let What::Blank = what {
+        return Ok(heard);
+    }
     let station = heard.station;
     let stage = heard.stage;
     match stage {

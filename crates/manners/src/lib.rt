@@ -142,8 +142,8 @@ pub fn fail(rt: HostRuntime, name: &[u8], what: &[u8], why: &std::io::Error) {
     let _ = error.write_all(b"\n");
 }
 
-// Writes the answer to standard output; the status that was given, where it was written.
-pub fn write_out(rt: HostRuntime, answer: &[u8], status: Status) -> Result<Status, Failed>
+// Writes the answer to standard output; the number that was given, where it was written.
+pub fn write_out(rt: HostRuntime, answer: &[u8], status: i32) -> Result<i32, Failed>
     ensures { IfOk result (λ ended. ended ≡ status) }
 {
     let mut name = io::buffer();
@@ -155,4 +155,12 @@ pub fn write_out(rt: HostRuntime, answer: &[u8], status: Status) -> Result<Statu
             Err(Failed)
         }
     }
+}
+
+// Writes the answer that a program ends with; how it ends, where it was written.
+pub fn end_with(rt: HostRuntime, answer: &[u8], status: Status) -> Result<Status, Failed>
+    ensures { IfOk result (λ ended. ended ≡ status) }
+{
+    write_out(rt, answer, 0)?;
+    Ok(status)
 }

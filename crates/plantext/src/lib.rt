@@ -50,7 +50,7 @@ fn print(rt: HostRuntime) -> Result<Status, Failed> {
     let n = input::read_open(rt, &mut rt.stdin(), b"standard input", &mut plan)?;
     let mut out = longest_room();
     let answer = respond(&plan[..n], &mut out);
-    manners::write_out(rt, &out[..answer.length], answer.status)
+    manners::end_with(rt, &out[..answer.length], answer.status)
 }
 
 // What `--help` says behind the usage.

@@ -3,8 +3,8 @@ use Rattle.std.proofs.Common.{◌≡◌, refl, ap, Bool, true, false, cond, not,
 use Rattle.std.specs.Prelude.{is_some, Some}
 use borrow.Author.Tests.{ne_eqb}
 use Rattle.rules.specs.Records.{known, body_length}
-use Rattle.records.specs.Kinds.{if_known, length_of}
-use Rattle.records.proofs.LengthTable.{length_byte, short}
+use Rattle.records.specs.Kinds.{if_known, length_of, length_byte}
+use Rattle.records.proofs.LengthTable.{short}
 
 told : (b : Bool) (n : ℕ) → n < 255 → not (eqb (cond b n 255) 255) ≡ b
 told true n h = ap not (ne_eqb n 255 (λ e. omega arith))

@@ -10,7 +10,7 @@ ghost use Rattle.playstation.specs.Closing.{closing_status, closing_text, end_st
 
 use hearing::{LONGEST, Stage, attend};
 use input::{file_room, read_argument, text_room};
-use manners::{Failed, Response, Status, is_argument, put_lines, write_out};
+use manners::{Failed, Response, Status, end_with, is_argument, put_lines};
 use meanings::put_help_lines;
 use text::{put_too_long, put_unreadable};
 
@@ -45,13 +45,13 @@ fn closing(out: &mut [u8], came: usize, stage: Stage) -> Response
 fn finish(rt: HostRuntime, came: usize, stage: Stage) -> Result<Status, Failed> {
     let mut out = [0u8; 64];
     let closed = closing(&mut out, came, stage);
-    write_out(rt, &out[..closed.length], closed.status)
+    end_with(rt, &out[..closed.length], closed.status)
 }
 
 fn too_long(rt: HostRuntime) -> Result<Status, Failed> {
     let mut out = [0u8; 64];
     let length = put_too_long(&mut out);
-    write_out(rt, &out[..length], Status::Refused)
+    end_with(rt, &out[..length], Status::Refused)
 }
 
 fn play(rt: HostRuntime, plan: &[u8], table: &[u8], rows: bool) -> Result<Status, Failed> {

@@ -9,11 +9,7 @@ use Rattle.laws.proofs.Lists.{length-tab}
 use Rattle.laws.proofs.Bus.{table_at}
 use Rattle.laws.proofs.Table.{below}
 use Rattle.rules.specs.Records.{kinds, known, fields, body_length}
-use Rattle.records.specs.Kinds.{if_known, length_of}
-
--- a kind as the table of the source has it: 255 stands for an unknown one
-unfoldable pub length_byte : ℕ → ℕ
-length_byte k = cond (known k) (body_length k) 255
+use Rattle.records.specs.Kinds.{if_known, length_of, length_byte}
 
 -- no body is 255 bytes long
 is_short : ℕ → Bool

@@ -2,7 +2,7 @@
 ghost use Rattle.std.specs.Prelude.{◌≡◌, ◌&&◌, ◌||◌, eqb, leb};
 ghost use Rattle.rules.specs.Records as rules;
 ghost use Rattle.rules.specs.Records.{is_bus, plan_follows, head_kind, is_head, table_follows};
-ghost use Rattle.records.specs.Kinds.{length_of};
+ghost use Rattle.records.specs.Kinds.{length_of, length_byte};
 
 // Stands in the table for a kind that is unknown; no body is that long.
 const UNKNOWN: u8 = 255;
@@ -35,11 +35,18 @@ const LENGTHS: [u8; LISTED as usize] = [
     fields::header::LENGTH as u8,
 ];
 
+// What stands in the table for a kind.
+fn length_byte(kind: u8) -> u8
+    ensures { result ≡ length_byte kind }
+{
+    LENGTHS.get(usize::from(kind)).copied().unwrap_or(UNKNOWN)
+}
+
 // The length of a kind's body; an unknown kind has none.
 pub fn body_length(kind: u8) -> Option<u8>
     ensures { result ≡ length_of kind }
 {
-    let length = LENGTHS.get(usize::from(kind)).copied().unwrap_or(UNKNOWN);
+    let length = length_byte(kind);
     if length == UNKNOWN {
         None
     } else {

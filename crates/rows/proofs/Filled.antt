@@ -4,13 +4,15 @@ use mathlib.Core.List.{List}
 use mathlib.Core.Logic.{◌⊎◌, inl, inr}
 use native.Mathlib.Nat.{eq-or-lt_of_le}
 use native.Mathlib.Omega.{arith}
-use lib.ListN.{length}
+use lib.ListN.{length, get_or, replicate, length-replicate, get_or-replicate}
 use borrow.Author.Tests.{lt-ltb, le-ltb, le-leb, lt-leb}
 use Prim.Native.Nat.{ℕ, ◌≤◌, ◌<◌}
 use Rattle.rules.specs.Limits.{most_frames}
 use Rattle.laws.specs.Lists.{tab}
 use Rattle.laws.specs.Loops.{stores}
-use Rattle.laws.proofs.Loops.{stores-all}
+use Rattle.laws.proofs.Orders.{le-or-lt}
+use Rattle.laws.proofs.Arrays.{tab_list}
+use Rattle.laws.proofs.Loops.{stores_at, stores_beyond, length-stores}
 use Rattle.rows.specs.Rows.{Rows}
 use Rattle.units.specs.declared.Frame.{Frame}
 use Rattle.rows.specs.Frames.{zero_frame, within_places, frame_at, frame_in, end_of, filled}
@@ -66,7 +68,29 @@ pub filled-all : (r : Rows) (ys : List Frame) → most_frames ≤ length ys → 
 unfolding filled
 filled-all r ys h = rw (le-leb most_frames (length ys) h)
 
--- ---- the loop at its end
+-- ---- zero rows, and the frames stored over them
 
-pub filled-end : (r : Rows) (ys ws : List Frame) (k : ℕ) → most_frames ≤ length ys → ws ≡ stores ys (frame_in r) k → k ≡ length ys → ws ≡ filled r ys
-filled-end r ys ws k enough e q = e ∙ ap (stores ys (frame_in r)) q ∙ stores-all ys (frame_in r) ∙ sym (filled-all r ys enough)
+module _ (r : Rows) (ys us : List Frame) (places : ℕ) (cleared : us ≡ replicate (length ys) zero_frame) (enough : most_frames ≤ length ys)
+    (few : places ≤ most_frames) (e : places ≡ within_places r.frames) where
+  long : length us ≡ length ys
+  long = ap length cleared ∙ length-replicate (length ys) zero_frame
+
+  row-at : (k : ℕ) → k < length ys → get_or (stores us (frame_in r) places) k zero_frame ≡ frame_in r k
+  row-at k h = by_place (le-or-lt places k)
+    where
+      by_place : (places ≤ k) ⊎ (k < places) → get_or (stores us (frame_in r) places) k zero_frame ≡ frame_in r k
+      by_place (inl l) =
+          stores_beyond us (frame_in r) places k zero_frame l
+          ∙ ap (λ (l : List Frame). get_or l k zero_frame) cleared
+          ∙ get_or-replicate (length ys) k zero_frame zero_frame h
+          ∙ sym (frame_behind r k (rw (sym e) l))
+      by_place (inr l) = stores_at us (frame_in r) places k zero_frame l (rw long (omega (arith, few, enough)))
+
+  pub filled-end : (ws : List Frame) (k : ℕ) → ws ≡ stores us (frame_in r) k → k ≡ places → ws ≡ filled r ys
+  filled-end ws k is all =
+      is
+      ∙ ap (stores us (frame_in r)) all
+      ∙ sym
+      (tab_list (frame_in r) (stores us (frame_in r) places) zero_frame (length ys) (sym (length-stores us (frame_in r) places ∙ long))
+      (λ k w. sym (row-at k w)))
+      ∙ sym (filled-all r ys enough)

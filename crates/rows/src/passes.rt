@@ -90,8 +90,9 @@ pub fn fill<'a>(
     if rows.len() < Frame::MOST {
         return;
     }
-    for (k, row) in rows.iter_mut().enumerate() {
-        *row = row_at(k, frames, tasks, releases, deadlines, starts);
+    rows.fill(Frame::zero());
+    for k in 0..within(frames) {
+        rows[k] = row_at(k, frames, tasks, releases, deadlines, starts);
     }
 }
 

@@ -35,7 +35,7 @@ fn read(rt: HostRuntime) -> Result<Status, Failed> {
     let n = input::read_open(rt, &mut rt.stdin(), b"standard input", &mut sheet)?;
     let mut out = [0u8; ByteCount::LONGEST_TABLE];
     let answer = respond(&sheet[..n], &mut out);
-    manners::write_out(rt, &out[..answer.length], answer.status)
+    manners::end_with(rt, &out[..answer.length], answer.status)
 }
 
 // What `--help` says behind the usage.

@@ -36,11 +36,12 @@ pub struct Station {
     pub nodes: [Node; NodeNo::MOST],
 }
 
-// What a tick says, a refusal or the row that starts, and the station after it.
+// What a tick says, a refusal or the row that starts, and the station after it. The station stands first: behind what is said there is a gap of
+// four bytes, and with that in the midst a tick cleared and copied a whole station once more.
 #[derive(Clone, Copy)]
 pub struct Ticked {
-    pub said: Result<Option<StartedRow>, Refusal>,
     pub station: Station,
+    pub said: Result<Option<StartedRow>, Refusal>,
 }
 
 // What a tick makes of all but the nodes. Where it is not `idle` the nodes change, by task: a value `lands`, which is that of `loads`, as

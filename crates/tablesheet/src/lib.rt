@@ -48,7 +48,7 @@ fn print(rt: HostRuntime) -> Result<Status, Failed> {
     let m = read_argument(rt, 2, b"TABLE", &mut table)?;
     let mut out = text_room();
     let answer = respond(&plan[..n], &table[..m], &mut out);
-    manners::write_out(rt, &out[..answer.length], answer.status)
+    manners::end_with(rt, &out[..answer.length], answer.status)
 }
 
 // What `--help` says behind the usage.

@@ -1,18 +1,19 @@
 -- A run of digits read from the front, with the value so far and the run that is left.
 use mathlib.Core.Bool.{Bool, true, false, cond}
 use mathlib.Core.List.{List, [], ◌∷◌, ◌++◌}
-use mathlib.Core.Path.{◌≡◌, refl, sym, ap, ap₂, ◌∙◌}
-use native.Mathlib.Nat.{add-zero, pos_of_ne-zero}
+use mathlib.Core.Path.{◌≡◌, refl, sym, ap, ◌∙◌}
+use native.Mathlib.Nat.{add-zero}
 use native.Mathlib.Omega.{arith}
-use lib.ListN.{length, get_or, drop, take}
-use lib.Seq.{drop-append_seam, drop-cons}
-use borrow.Author.Tests.{lt-ltb, le-ltb}
-use lib.Dec.{ltb}
-use Rattle.text.proofs.Runs.{drop_all, front-taken, front-while}
-use Prim.Native.Nat.{ℕ, suc, ◌+◌, ◌-◌, ◌*◌, ◌^◌, ◌≤◌, ◌<◌}
-use Rattle.std.specs.Prelude.{Option, Some, None, take_while}
+use lib.ListN.{length, get_or, drop}
+use lib.Seq.{drop-append_seam}
+use Rattle.std.proofs.lemmas.List.{drop_more}
+use borrow.Author.Tests.{lt-ltb, le-ltb, eq-eqb, ne_eqb}
+use lib.Dec.{eqb, ltb}
+use Rattle.text.proofs.Runs.{drop_all}
+use Prim.Native.Nat.{ℕ, ◌+◌, ◌-◌, ◌*◌, ◌^◌, ◌≤◌, ◌<◌}
+use Rattle.std.specs.Prelude.{Option, Some, None}
 use Rattle.text.specs.declared.Digits.{Digits}
-use Rattle.text.specs.Text.{decimal, is_digit, digit_run, value_from, value64, within64, number_at, read_decimal}
+use Rattle.text.specs.Text.{decimal, is_digit, digit_run, run_on, value_from, within64, front_number, number_at, read_decimal}
 use Rattle.text.proofs.Decimals.{decimal-long, value-decimal, run-decimal}
 
 -- digits behind a number make it no less
@@ -23,51 +24,87 @@ value_grows v (b ∷ l) = let h : 10 * v + (b - 48) ≤ value_from (10 * v + (b 
 abbrev found : ℕ → ℕ → Option Digits
 found value next = Some (record { value = value; next = next })
 
--- ---- digits one by one: behind so many of them, the value so far and the digits left give the whole number
+-- ---- digits one by one, as far as 64 bits hold the value: behind so many of them, the value so far and the run left give the whole number
 
-module _ (l : List ℕ) (v i : ℕ) (whole : value_from v (drop i l) ≡ value_from 0 l) where
-  pub value-large : i < length l → 2 ^ 64 ≤ 10 * v + (get_or l i 0 - 48) → None ≡ value64 l
-  value-large h large =
-      let more : value_from (10 * v + (get_or l i 0 - 48)) (drop (suc i) l) ≡ value_from 0 l = rw (drop-cons l i 0 h) at whole in
-      let over : 2 ^ 64 ≤ value_from 0 l = rw (← more) (omega (arith, value_grows (10 * v + (get_or l i 0 - 48)) (drop (suc i) l), large)) in
-      rw (le-ltb (value_from 0 l) (2 ^ 64) over)
+module _ (s : List ℕ) (i : ℕ) where
+  run-here : i < length s → digit_run (drop i s) ≡ run_on (is_digit (get_or s i 0)) (get_or s i 0) (digit_run (drop (i + 1) s))
+  run-here h = ap digit_run (drop_more s i 0 h)
 
-  pub value-read : length l ≤ i → v < 2 ^ 64 → Some v ≡ value64 l
-  value-read h fits =
-      let all : v ≡ value_from 0 l = rw (drop_all i l h) at whole in
-      rw (← all, lt-ltb v (2 ^ 64) fits)
+  pub run_more : i < length s → is_digit (get_or s i 0) ≡ true → digit_run (drop i s) ≡ get_or s i 0 ∷ digit_run (drop (i + 1) s)
+  run_more h e = run-here h ∙ rw e
 
--- ---- a run of digits, as the library counts it, at a place
+  pub run_ends : i < length s → is_digit (get_or s i 0) ≡ false → digit_run (drop i s) ≡ []
+  run_ends h e = run-here h ∙ rw e
 
-abbrev pub with_end : ℕ → Option ℕ → Option Digits
-with_end next None = None
-with_end next (Some value) = found value next
+  pub run_over : length s ≤ i → digit_run (drop i s) ≡ []
+  run_over h = ap digit_run (drop_all i s h)
 
-number-with_end : (l : List ℕ) (at : ℕ) → 0 < length l → with_end (at + length l) (value64 l) ≡ number_at l at
-number-with_end [] at h = absurd (omega (arith, h))
-number-with_end (b ∷ l) at h = go (ltb (value_from 0 (b ∷ l)) (2 ^ 64))
+  module _ (v : ℕ) (whole : value_from v (digit_run (drop i s)) ≡ value_from 0 (digit_run s)) where
+    pub value-more : i < length s → is_digit (get_or s i 0) ≡ true
+        → value_from (10 * v + (get_or s i 0 - 48)) (digit_run (drop (i + 1) s)) ≡ value_from 0 (digit_run s)
+    value-more h e = sym (ap (value_from v) (run_more h e)) ∙ whole
+
+    pub value-large : i < length s → is_digit (get_or s i 0) ≡ true → 2 ^ 64 ≤ 10 * v + (get_or s i 0 - 48) → None ≡ front_number (digit_run s)
+    value-large h e large =
+        let over : 2 ^ 64 ≤ value_from 0 (digit_run s) = rw (← value-more h e)
+        (omega (arith, value_grows (10 * v + (get_or s i 0 - 48)) (digit_run (drop (i + 1) s)), large)) in
+        rw (le-ltb (value_from 0 (digit_run s)) (2 ^ 64) over)
+
+    pub value-read : (n : ℕ) → digit_run (drop i s) ≡ [] → n + length (digit_run (drop i s)) ≡ length (digit_run s) → v < 2 ^ 64
+        → found v n ≡ front_number (digit_run s)
+    value-read n z e fits =
+        let all : v ≡ value_from 0 (digit_run s) = sym (ap (value_from v) z) ∙ whole in
+        let long : n ≡ length (digit_run s) = sym (add-zero n) ∙ sym (ap (λ (l : List ℕ). n + length l) z) ∙ e in
+        rw (← all, lt-ltb v (2 ^ 64) fits, ← long)
+
+-- ---- what stands at the front, at a place
+
+abbrev pub at_place : ℕ → Option Digits → Option Digits
+at_place at None = None
+at_place at (Some digits) = cond (eqb digits.next 0) None (found digits.value (at + digits.next))
+
+module _ (at : ℕ) (digits : Digits) where
+  pub none_at : digits.next ≡ 0 → None ≡ at_place at (Some digits)
+  none_at e = rw (eq-eqb digits.next 0 e)
+
+  pub some_at : (digits.next ≡ 0 → ⊥) → found digits.value (at + digits.next) ≡ at_place at (Some digits)
+  some_at f = rw (ne_eqb digits.next 0 f)
+
+placed : (run : List ℕ) (at : ℕ) → at_place at (front_number run) ≡ number_at run at
+placed [] at = refl
+placed (b ∷ l) at = go (ltb (value_from 0 (b ∷ l)) (2 ^ 64))
   where
-    go : (t : Bool) → with_end (at + length (b ∷ l)) (cond t (Some (value_from 0 (b ∷ l))) None) ≡ within64 t (value_from 0 (b ∷ l)) (at + length (b ∷ l))
+    go : (t : Bool) → at_place at (within64 t (value_from 0 (b ∷ l)) (length (b ∷ l))) ≡ within64 t (value_from 0 (b ∷ l)) (at + length (b ∷ l))
+    go true = rw (ne_eqb (length (b ∷ l)) 0 (λ e. omega (arith, e)))
+    go false = refl
+
+abbrev next_or : ℕ → Option Digits → ℕ
+next_or n None = n
+next_or n (Some digits) = digits.next
+
+counted : (run : List ℕ) {digits : Digits} → Some digits ≡ front_number run → digits.next ≡ length run
+counted run e = ap (next_or (length run)) e ∙ go (ltb (value_from 0 run) (2 ^ 64))
+  where
+    go : (t : Bool) → next_or (length run) (within64 t (value_from 0 run) (length run)) ≡ length run
     go true = refl
     go false = refl
 
-module _ (s : List ℕ) (at : ℕ) {part : List ℕ} {count : ℕ} (e : part ≡ drop at s) (n : count ≡ length (take_while is_digit part)) where
-  run-long : length (digit_run (drop at s)) ≡ count
-  run-long = ap length (front-while is_digit (drop at s)) ∙ ap (λ (l : List ℕ). length (take_while is_digit l)) (sym e) ∙ sym n
+run-short : (s : List ℕ) → length (digit_run s) ≤ length s
+run-short [] = omega arith
+run-short (b ∷ s) = go (is_digit b) (run-short s)
+  where
+    go : (t : Bool) → length (digit_run s) ≤ length s → length (run_on t b (digit_run s)) ≤ length (b ∷ s)
+    go true h = omega (arith, h)
+    go false h = omega (arith, h)
 
-  run-is : digit_run (drop at s) ≡ take count part
-  run-is = sym (front-taken is_digit (drop at s)) ∙ ap₂ take run-long (sym e)
+-- as many digits as were read stand in the part
+pub within_part : (part : List ℕ) {digits : Digits} → Some digits ≡ front_number (digit_run part) → digits.next ≤ length part
+within_part part e = rw (counted (digit_run part) e) (run-short part)
 
-  pub none_read : count ≡ 0 → None ≡ read_decimal s at
-  unfolding read_decimal
-  none_read z = rw (run-is, z)
-
-  pub some_read : {answer : Option ℕ} → answer ≡ value64 (take count part) → (count ≡ 0 → ⊥) → with_end (at + count) answer ≡ read_decimal s at
-  unfolding read_decimal
-  some_read q f =
-      let long : length (take count part) ≡ count = ap length (sym run-is) ∙ run-long in
-      let all = number-with_end (take count part) at (omega (arith, long, pos_of_ne-zero f)) in
-      ap (with_end (at + count)) q ∙ (rw long at all) ∙ sym (ap (λ (l : List ℕ). number_at l at) run-is)
+pub reads : (s : List ℕ) (at : ℕ) {part : List ℕ} {read : Option Digits} → part ≡ drop at s → read ≡ front_number (digit_run part)
+    → at_place at read ≡ read_decimal s at
+unfolding read_decimal
+reads s at e q = ap (at_place at) (q ∙ ap (λ (l : List ℕ). front_number (digit_run l)) e) ∙ placed (digit_run (drop at s)) at
 
 -- ---- the ways out, with the run R that stands at `at`
 

@@ -1,6 +1,6 @@
 -- What the programs write and read as text: lists of ASCII codes. Numbers, and the lines that several programs write; how text is parted
 -- into lines and words is in Lines.antt.
-use Rattle.std.specs.Prelude.{Bool, true, false, cond, ◌&&◌, List, [], ◌∷◌, ◌++◌, leb, ltb, length, drop, replicate, Option, Some, None, ℕ, zero, suc, ◌+◌, ◌-◌, ◌*◌, ◌/◌, ◌%◌, ◌^◌}
+use Rattle.std.specs.Prelude.{Bool, true, false, ◌&&◌, List, [], ◌∷◌, ◌++◌, leb, ltb, length, drop, replicate, Option, Some, None, ℕ, zero, suc, ◌+◌, ◌-◌, ◌*◌, ◌/◌, ◌%◌, ◌^◌}
 use Prim.Native.Char.{code}
 use Prim.Native.String as string
 use Prim.Native.String.{String}
@@ -116,14 +116,14 @@ abbrev pub value_from : ℕ → List ℕ → ℕ
 value_from v [] = v
 value_from v (b ∷ bs) = value_from (10 * v + (b - 48)) bs
 
--- the number that digits stand for, if 64 bits hold it
-abbrev pub value64 : List ℕ → Option ℕ
-value64 bs = cond (ltb (value_from 0 bs) (2 ^ 64)) (Some (value_from 0 bs)) None
-
 -- a value that a 64-bit number holds, with the place behind its digits
 abbrev pub within64 : Bool → ℕ → ℕ → Option Digits
 within64 true value next = Some (record { value = value; next = next })
 within64 false value next = None
+
+-- what a run of digits stands for, and how many they are, if 64 bits hold it
+abbrev pub front_number : List ℕ → Option Digits
+front_number run = within64 (ltb (value_from 0 run) (2 ^ 64)) (value_from 0 run) (length run)
 
 -- what a run of digits at a place says; no digit says nothing
 abbrev pub number_at : List ℕ → ℕ → Option Digits

@@ -2,9 +2,9 @@
 // buffer's end is not stored, so that a buffer of any length may be lent.
 #![tactic(auto)]
 
-ghost use Rattle.std.specs.Prelude.{◌≡◌, ◌+◌, ◌-◌, ◌≤◌, drop, length, set, take_while};
+ghost use Rattle.std.specs.Prelude.{◌≡◌, ◌+◌, ◌-◌, ◌≤◌, drop, length, set};
 ghost use Rattle.std.proofs.lemmas.List.Edits.{sets};
-ghost use Rattle.text.specs.Text.{digits, decimal, marked, numbered_line, refused_line, spaces, too_long_line, unreadable_line, passed_line, is_digit, read_decimal, value64};
+ghost use Rattle.text.specs.Text.{digits, decimal, marked, numbered_line, refused_line, spaces, too_long_line, unreadable_line, passed_line, is_digit, digit_run, front_number, read_decimal};
 
 pub mod lines;
 
@@ -147,39 +147,34 @@ pub fn is_digit(b: u8) -> bool
     matches!(b, b'0'..=b'9')
 }
 
-// How many digits stand at the front.
-fn digit_count(s: &[u8]) -> usize
-    ensures value { result ≡ length (take_while is_digit s.now) }
-    ensures within { result ≤ length s.now }
-{
-    s.iter().take_while(|b| is_digit(**b)).count()
-}
-
-// The number that digits stand for, if 64 bits hold it.
-fn value_of(digits: &[u8]) -> Option<u64>
-    ensures { result ≡ value64 digits.now }
+// What the digits at the front stand for, and how many they are, if 64 bits hold it. It ends where they do not: no digit behind is looked at.
+fn digits_in(s: &[u8]) -> Option<Digits>
+    ensures { result ≡ front_number (digit_run s.now) }
 {
     let mut value: u64 = 0;
-    for b in digits {
+    let mut next = 0;
+    for b in s {
+        if !is_digit(*b) {
+            break;
+        }
         value = value
             .checked_mul(10)?
             .checked_add(u64::from(b.saturating_sub(b'0')))?;
+        next += 1;
     }
-    Some(value)
+    Some(Digits { value, next })
 }
 
 // The number that the longest run of digits from `at` on stands for, if there is a digit and 64 bits hold it.
 pub fn read_decimal(s: &[u8], at: usize) -> Option<Digits>
     ensures { result ≡ read_decimal s.now at }
 {
-    let text = rest(s, at);
-    let count = digit_count(text);
-    if count == 0 {
+    let digits = digits_in(rest(s, at))?;
+    if digits.next == 0 {
         return None;
     }
-    let value = value_of(&text[..count])?;
     Some(Digits {
-        value,
-        next: at + count,
+        value: digits.value,
+        next: at + digits.next,
     })
 }

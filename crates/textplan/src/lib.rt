@@ -45,7 +45,7 @@ fn read(rt: HostRuntime) -> Result<Status, Failed> {
     let n = input::read_open(rt, &mut rt.stdin(), b"standard input", &mut lines)?;
     let mut out = input::text_room();
     let answer = respond(&lines[..n], &mut out);
-    manners::write_out(rt, &out[..answer.length], answer.status)
+    manners::end_with(rt, &out[..answer.length], answer.status)
 }
 
 // What `--help` says behind the usage.

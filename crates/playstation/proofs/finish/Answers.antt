@@ -7,5 +7,5 @@ use Rattle.playstation.proofs.finish.Goals as goal
 pub slice_bounds-out-end : goal.slice_bounds-out-end
 slice_bounds-out-end c = omega (arith, c.closing-closed.ensures.few)
 
-pub slice_bounds-write_out-end : goal.slice_bounds-write_out-end
-slice_bounds-write_out-end c = sym (length-take-le _ _ (omega (arith, c.closing-closed.ensures.few)))
+pub slice_bounds-end_with-end : goal.slice_bounds-end_with-end
+slice_bounds-end_with-end c = sym (length-take-le _ _ (omega (arith, c.closing-closed.ensures.few)))

@@ -10,6 +10,6 @@ pub slice_bounds-out-end : goal.slice_bounds-out-end
 unfolding too_long_line
 slice_bounds-out-end c = search rules
 
-pub slice_bounds-write_out-end : goal.slice_bounds-write_out-end
+pub slice_bounds-end_with-end : goal.slice_bounds-end_with-end
 unfolding too_long_line
-slice_bounds-write_out-end c = sym (length-take-le _ _ (omega arith))
+slice_bounds-end_with-end c = sym (length-take-le _ _ (omega arith))
