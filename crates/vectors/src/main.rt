@@ -18,7 +18,11 @@ const OLD: u8 = 165;
 
 // How many bytes from a place on are as they were.
 fn kept(buf: &[u8], from: usize) -> u64 {
-    buf.iter().skip(from).filter(|byte| **byte == OLD).count() as u64
+    let mut count: u64 = 0;
+    for byte in buf.get(from..).unwrap_or(&[]) {
+        count += u64::from(*byte == OLD);
+    }
+    count
 }
 
 fn is_zero(task: u8, release: u32, deadline: u32, start: u32) -> bool {
@@ -31,9 +35,11 @@ fn zeros(
     deadlines: &[u32; Frame::MOST],
     starts: &[u32; Frame::MOST],
 ) -> u64 {
-    (0..Frame::MOST)
-        .filter(|k| is_zero(tasks[*k], releases[*k], deadlines[*k], starts[*k]))
-        .count() as u64
+    let mut count: u64 = 0;
+    for k in 0..Frame::MOST {
+        count += u64::from(is_zero(tasks[k], releases[k], deadlines[k], starts[k]));
+    }
+    count
 }
 
 fn read(rt: HostRuntime, plan: &[u8]) {
