@@ -27,7 +27,7 @@ pub and-false : (b : Bool) → (b && false) ≡ false
 and-false true = refl
 and-false false = refl
 
-or-again : (a b c : Bool) → (a || (b || c)) ≡ ((a || b) || c)
+pub or-again : (a b c : Bool) → (a || (b || c)) ≡ ((a || b) || c)
 or-again true b c = refl
 or-again false b c = refl
 

@@ -2,14 +2,14 @@
 -- record more; where no place is left, the plan with its counts raised is.
 use mathlib.Core.Path.{◌≡◌, refl}
 use mathlib.Core.Bool.{Bool, true, false, cond}
-use mathlib.Core.List.{List}
+use mathlib.Core.List.{List, [], ◌∷◌}
 use native.Mathlib.Omega.{arith}
-use lib.Dec.{leb}
-use lib.ListN.{get_or, set}
+use lib.Dec.{eqb, leb}
+use lib.ListN.{get_or, length, length-set, set}
 use borrow.Author.Tests.{leb-true, le-leb, lt-leb, ne_eqb}
 use Prim.Native.Nat.{ℕ, zero, suc, ◌≤◌}
 use Rattle.laws.proofs.Lists.{both_left}
-use Rattle.rules.specs.Records.{record_of, is_bus}
+use Rattle.rules.specs.Records.{Rec, record_of, is_bus}
 use Rattle.rules.specs.Plan as rules
 use Rattle.plan.specs.declared.Bus.{Bus}
 use Rattle.plan.specs.declared.Module.{Module}
@@ -35,6 +35,23 @@ number-least p kind at h = go (is_thing kind) refl
 pub picked : {A : Type 0} (P : A → Type 0) (b : Bool) {x y : A} → P x → P y → P (cond b x y)
 picked P true p q = p
 picked P false p q = q
+
+-- how many elements the arrays have
+abbrev pub sizes_of : Plan → List ℕ
+sizes_of p = length p.modules ∷ length p.modes ∷ length p.tasks ∷ length p.invocations ∷ length p.connections ∷ []
+
+-- a record changes none of them
+pub sizes_kept : (p : Plan) (r : Rec) → sizes_of (with_record p r) ≡ sizes_of p
+unfolding with_record with_bus with_nodes with_module with_mode with_task with_invocation with_connection
+sizes_kept p r =
+    let Kept : Plan → Type 0 = λ q. sizes_of q ≡ sizes_of p in
+    picked Kept (rules.is_bus_record r) refl
+    (picked Kept (eqb r.kind 2) refl
+    (picked Kept (eqb r.kind 3) (rw (length-set p.modules (count_seen p 3) _))
+    (picked Kept (eqb r.kind 4) (rw (length-set p.modes (count_seen p 4) _))
+    (picked Kept (eqb r.kind 5) (rw (length-set p.tasks (count_seen p 5) _))
+    (picked Kept (eqb r.kind 6) (rw (length-set p.invocations (count_seen p 6) _))
+    (picked Kept (eqb r.kind 7) (rw (length-set p.connections (count_seen p 7) _)) refl))))))
 
 -- none of 1 to 7 and 9, as the arms of a `match` leave it
 abbrev pub Other : ℕ → Type 0

@@ -23,7 +23,7 @@ module _ (k : ℕ) where
   unlisted : length kinds ≤ k → get_or kinds k none ≡ none
   unlisted h = get_or-eq_default kinds none h
 
-  above : length kinds ≤ k → length_byte k ≡ 255
+  pub above : length kinds ≤ k → length_byte k ≡ 255
   unfolding length_byte known
   above h = rw (unlisted h)
 
