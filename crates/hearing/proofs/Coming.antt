@@ -18,8 +18,6 @@ use Rattle.hearing.specs.Pieces.{Hearing, answered, at_end, hear_on, heard_all, 
 use Rattle.hearing.specs.declared.Heard.{Heard}
 use Rattle.hearing.specs.declared.Stage.{Stage}
 use Rattle.hearing.specs.declared.Stage.TheVariants.{Waits, Plays, Stops}
-use Rattle.history.specs.Reading.{read_line}
-use Rattle.history.specs.declared.What.TheVariants.{Blank}
 
 -- ---- a line and what follows it
 
@@ -121,16 +119,6 @@ module _ (plan table : List ℕ) where
   stays k h s Waits e q = absurd (true≢false (sym q))
   stays k h s (Plays begun) e q = absurd (true≢false (sym q))
   stays k h s (Stops l) e q = rw e
-
-  same_stage : (h : Heard) (x : Stage) → h.stage ≡ x → record { stage = x; station = h.station } ≡ h
-  same_stage h x e = sym (ap (λ (y : Stage). record { stage = y; station = h.station }) e)
-
-  -- and a line without a word changes nothing
-  pub blank_stays : (k : ℕ) (h : Heard) (s : List ℕ) (x : Stage) → h.stage ≡ x → (read_line s).what ≡ Blank → heard_line plan table k h s ≡ h
-  unfolding heard_line
-  blank_stays k h s Waits e q = (rw (e, q)) ∙ same_stage h Waits e
-  blank_stays k h s (Plays begun) e q = (rw (e, q)) ∙ same_stage h (Plays begun) e
-  blank_stays k h s (Stops l) e q = rw e
 
   still : (a : Hearing) (s : List ℕ) → is_stopped a.heard.stage ≡ true → (hear_on plan table a s).heard ≡ a.heard
   unfolding hear_on

@@ -10,7 +10,7 @@ ghost use Rattle.station.specs.Answers.{is_refused};
 ghost use Rattle.station.specs.Memory.{ruled};
 ghost use Rattle.stationruns.specs.Inputs.{no_input, starting_at};
 ghost use Rattle.history.specs.Reading.{starting_from};
-ghost use Rattle.hearing.specs.Heard.{after_quiet, after_tick, begun_by, first_by, heard_line, is_fine, later_by, playing, quiet_said, stopped, tick_text, unheard};
+ghost use Rattle.hearing.specs.Heard.{after_quiet, after_tick, begun_by, first_by, heard_line, is_fine, later_by, quiet_said, tick_text, unheard};
 ghost use Rattle.hearing.specs.Pieces.{answered, is_stopped, last_heard};
 
 use answerlines::{put_begun, put_quiet, put_ticked, same_shown};
@@ -129,15 +129,14 @@ fn answer_quiet(out: &mut [u8], k: u64, rows: bool, station: Station) -> Answere
 
 // ---- lines
 
-fn tick(rt: HostRuntime, rows: bool, station: Station, input: Input) -> Result<Station, Failed>
-    ensures { IfOk result (λ next. next ≡ after_tick station input) }
+fn tick(rt: HostRuntime, rows: bool, station: &mut Station, input: Input) -> Result<(), Failed>
+    ensures { station.new ≡ after_tick station.old input }
 {
     let mut out = answer_room();
-    let answered = answer_tick(&mut out, rows, station, input);
+    let answered = answer_tick(&mut out, rows, *station, input);
+    *station = answered.station;
     let length = answered.length;
-    say(rt, &out[..length])?;
-    let next = answered.station;
-    Ok(next)
+    say(rt, &out[..length])
 }
 
 // Ticks at which nothing is given, up to a refusal.
@@ -173,50 +172,28 @@ fn begin(rt: HostRuntime, plan: &[u8], table: &[u8], modes: Places) -> Result<He
     })
 }
 
-// The history stops at a line.
-fn stopped(number: u64, station: Station) -> Heard
-    ensures { result ≡ stopped number station }
-{
-    Heard {
-        stage: Stage::Stops(number),
-        station,
-    }
-}
-
 // A line where none with a word has come before.
 fn hear_first(
     rt: HostRuntime,
     plan: &[u8],
     table: &[u8],
     number: u64,
-    station: Station,
+    heard: &mut Heard,
     line: Line,
-) -> Result<Heard, Failed>
-    ensures { IfOk result (λ heard. heard ≡ first_by plan.now table.now number station line line.what) }
+) -> Result<(), Failed>
+    ensures { IfOk result (λ done. heard.new ≡ first_by plan.now table.now number heard.old.station line line.what) }
 {
     let what = line.what;
     match what {
-        What::Blank => Ok(Heard {
-            stage: Stage::Waits,
-            station,
-        }),
+        What::Blank => heard.stage = Stage::Waits,
         What::Begin => {
             let modes = line.modes;
-            begin(rt, plan, table, modes)
+            let begun = begin(rt, plan, table, modes)?;
+            *heard = begun;
         }
-        What::Tick => Ok(stopped(number, station)),
-        What::Quiet(_) => Ok(stopped(number, station)),
-        What::Unreadable => Ok(stopped(number, station)),
+        What::Tick | What::Quiet(_) | What::Unreadable => heard.stage = Stage::Stops(number),
     }
-}
-
-fn playing(begun: bool, station: Station) -> Heard
-    ensures { result ≡ playing begun station }
-{
-    Heard {
-        stage: Stage::Plays(begun),
-        station,
-    }
+    Ok(())
 }
 
 // A line behind the beginning.
@@ -225,27 +202,27 @@ fn hear_later(
     rows: bool,
     number: u64,
     begun: bool,
-    station: Station,
+    heard: &mut Heard,
     line: Line,
-) -> Result<Heard, Failed>
-    ensures { IfOk result (λ heard. heard ≡ later_by number begun station line line.what) }
+) -> Result<(), Failed>
+    ensures { IfOk result (λ done. heard.new ≡ later_by number begun heard.old.station line line.what) }
 {
+    heard.stage = Stage::Plays(begun);
     let what = line.what;
     match what {
-        What::Blank => Ok(playing(begun, station)),
+        What::Blank => {}
         What::Tick => {
             let results = line.results;
             let modes = line.modes;
-            let next = tick(rt, rows, station, input_of(results, modes))?;
-            Ok(playing(begun, next))
+            tick(rt, rows, &mut heard.station, input_of(results, modes))?;
         }
         What::Quiet(ticks) => {
-            let next = quiet(rt, rows, station, ticks)?;
-            Ok(playing(begun, next))
+            let next = quiet(rt, rows, heard.station, ticks)?;
+            heard.station = next;
         }
-        What::Begin => Ok(stopped(number, station)),
-        What::Unreadable => Ok(stopped(number, station)),
+        What::Begin | What::Unreadable => heard.stage = Stage::Stops(number),
     }
+    Ok(())
 }
 
 // A line, without its line feed; `number` is its number.
@@ -254,24 +231,18 @@ fn hear(
     plan: &[u8],
     table: &[u8],
     rows: bool,
-    heard: Heard,
+    heard: &mut Heard,
     number: u64,
     s: &[u8],
-) -> Result<Heard, Failed>
-    ensures { IfOk result (λ next. next ≡ heard_line plan.now table.now number heard s.now) }
+) -> Result<(), Failed>
+    ensures { IfOk result (λ done. heard.new ≡ heard_line plan.now table.now number heard.old s.now) }
 {
     let line = read_line(s);
-    // A line without a word changes nothing; what was heard is not taken apart for it.
-    let what = line.what;
-    if let What::Blank = what {
-        return Ok(heard);
-    }
-    let station = heard.station;
     let stage = heard.stage;
     match stage {
-        Stage::Waits => hear_first(rt, plan, table, number, station, line),
-        Stage::Plays(begun) => hear_later(rt, rows, number, begun, station, line),
-        Stage::Stops(_) => Ok(heard),
+        Stage::Waits => hear_first(rt, plan, table, number, heard, line),
+        Stage::Plays(begun) => hear_later(rt, rows, number, begun, heard, line),
+        Stage::Stops(_) => Ok(()),
     }
 }
 
@@ -299,15 +270,15 @@ fn hear_last(
     plan: &[u8],
     table: &[u8],
     rows: bool,
-    heard: Heard,
+    heard: &mut Heard,
     lines: u64,
     s: &[u8],
-) -> Result<Heard, Failed>
+) -> Result<(), Failed>
     requires { lines ≤ 18446744073709551614 }
-    ensures { IfOk result (λ next. next ≡ last_heard plan.now table.now lines heard s.now) }
+    ensures { IfOk result (λ done. heard.new ≡ last_heard plan.now table.now lines heard.old s.now) }
 {
     if s.len() == 0 {
-        return Ok(heard);
+        return Ok(());
     }
     hear(rt, plan, table, rows, heard, lines + 1, s)
 }
@@ -318,19 +289,19 @@ fn hear_end(
     plan: &[u8],
     table: &[u8],
     rows: bool,
-    heard: Heard,
+    heard: &mut Heard,
     lines: u64,
     at: usize,
     s: &[u8],
-) -> Result<Heard, Failed>
+) -> Result<(), Failed>
     requires lines_bound { lines ≤ 18446744073709551614 }
     requires at_in_bounds { at ≤ length s.now }
-    ensures { IfOk result (λ last. last ≡ cond (leb (length s.now) 262144) (last_heard plan.now table.now lines heard (drop at s.now)) heard) }
+    ensures { IfOk result (λ done. heard.new ≡ cond (leb (length s.now) 262144) (last_heard plan.now table.now lines heard.old (drop at s.now)) heard.old) }
 {
     if s.len() <= LONGEST {
         return hear_last(rt, plan, table, rows, heard, lines, &s[at..]);
     }
-    Ok(heard)
+    Ok(())
 }
 
 // Of so many bytes that came, as many are heard line by line.
@@ -363,9 +334,8 @@ pub fn attend<R: Read>(
         let ended = end < heard_to;
         if ended {
             lines += 1;
-            let next = hear(rt, plan, table, rows, heard, lines, &buf[at..end])?;
-            heard = next;
-            let stage = next.stage;
+            hear(rt, plan, table, rows, &mut heard, lines, &buf[at..end])?;
+            let stage = heard.stage;
             if is_stopped(stage) {
                 return Ok(Attended {
                     length: came,
@@ -376,10 +346,10 @@ pub fn attend<R: Read>(
         } else {
             let length = read_more(rt, from, b"standard input", &mut *buf, came)?;
             if length == came {
-                let last = hear_end(rt, plan, table, rows, heard, lines, at, &buf[..came])?;
+                hear_end(rt, plan, table, rows, &mut heard, lines, at, &buf[..came])?;
                 return Ok(Attended {
                     length: came,
-                    heard: last,
+                    heard,
                 });
             }
             came = length;

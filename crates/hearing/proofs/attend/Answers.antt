@@ -30,7 +30,7 @@ shape_of-buf-then-is_stopped g c =
 
 pub returns-then-is_stopped : goal.returns-then-is_stopped
 returns-then-is_stopped g c =
-    let a = min-le_left c.loop-lines.came 262144 in let b = min-le_right c.loop-lines.came 262144 in record { heard_value = (between-stop c.args.plan.now c.args.table.now (between_turn c.args.plan.now c.args.table.now c.loop-lines.invariant.3 (omega (arith, c.line_end-end.ensures.within.1, c.if-ended.true)) (omega (arith, c.heard_part-heard_to.ensures, a, c.loop-lines.invariant.0)) c.line_end-end.ensures.value c.if-ended.true refl c.in_ok-next.ensures) c.loop-lines.came c.loop-lines.invariant.0 (omega (arith, c.heard_part-heard_to.ensures, a, c.if-ended.true)) (omega (arith, c.heard_part-heard_to.ensures, b, c.if-ended.true)) (sym c.is_stopped.ensures ∙ c.if-is_stopped.true)); within = c.loop-lines.invariant.0 }
+    let a = min-le_left c.loop-lines.came 262144 in let b = min-le_right c.loop-lines.came 262144 in record { heard_value = (between-stop c.args.plan.now c.args.table.now (between_turn c.args.plan.now c.args.table.now c.loop-lines.invariant.3 (omega (arith, c.line_end-end.ensures.within.1, c.if-ended.true)) (omega (arith, c.heard_part-heard_to.ensures, a, c.loop-lines.invariant.0)) c.line_end-end.ensures.value c.if-ended.true refl c.in_ok-hear.ensures) c.loop-lines.came c.loop-lines.invariant.0 (omega (arith, c.heard_part-heard_to.ensures, a, c.if-ended.true)) (omega (arith, c.heard_part-heard_to.ensures, b, c.if-ended.true)) (sym c.is_stopped.ensures ∙ c.if-is_stopped.true)); within = c.loop-lines.invariant.0 }
 
 pub overflow_add-at : goal.overflow_add-at
 overflow_add-at g c =
@@ -42,7 +42,7 @@ loop-lines-smaller-then-ended g c =
 
 pub loop-lines-preserved-then-ended : goal.loop-lines-preserved-then-ended
 loop-lines-preserved-then-ended g c =
-    let a = min-le_left c.loop-lines.came 262144 in let b = min-le_right c.loop-lines.came 262144 in (c.loop-lines.invariant.0, (omega (arith, c.heard_part-heard_to.ensures, a, c.if-ended.true)), (omega (arith, c.heard_part-heard_to.ensures, b, c.if-ended.true)), between_turn c.args.plan.now c.args.table.now c.loop-lines.invariant.3 (omega (arith, c.line_end-end.ensures.within.1, c.if-ended.true)) (omega (arith, c.heard_part-heard_to.ensures, a, c.loop-lines.invariant.0)) c.line_end-end.ensures.value c.if-ended.true refl c.in_ok-next.ensures, c.loop-lines.invariant.4)
+    let a = min-le_left c.loop-lines.came 262144 in let b = min-le_right c.loop-lines.came 262144 in (c.loop-lines.invariant.0, (omega (arith, c.heard_part-heard_to.ensures, a, c.if-ended.true)), (omega (arith, c.heard_part-heard_to.ensures, b, c.if-ended.true)), between_turn c.args.plan.now c.args.table.now c.loop-lines.invariant.3 (omega (arith, c.line_end-end.ensures.within.1, c.if-ended.true)) (omega (arith, c.heard_part-heard_to.ensures, a, c.loop-lines.invariant.0)) c.line_end-end.ensures.value c.if-ended.true refl c.in_ok-hear.ensures, c.loop-lines.invariant.4)
 
 pub slice_bounds-hear_end-end : goal.slice_bounds-hear_end-end
 slice_bounds-hear_end-end g c =
@@ -69,7 +69,7 @@ returns-then-length-came g c =
       heard_value = between_done c.args.plan.now c.args.table.now c.loop-lines.invariant.3 c.read_more.new.buf c.loop-lines.came
           c.read_more.ensures.buf_unchanged.0 c.loop-lines.invariant.0 (omega (arith, c.loop-lines.invariant.0, c.read_more.ensures.buf_unchanged.1))
           c.heard_part-heard_to.ensures (at_most c.heard_part-heard_to.ensures c.loop-lines.invariant.1 c.loop-lines.invariant.2)
-          (none_left c.line_end-end.ensures.value c.if-ended.false) (sym l) c.in_ok-last.ensures;
+          (none_left c.line_end-end.ensures.value c.if-ended.false) (sym l) c.in_ok-hear_end.ensures;
       within = omega (arith, c.loop-lines.invariant.0, c.read_more.ensures.buf_unchanged.1);
     }
 

@@ -1,15 +1,8 @@
 -- By how far the history has come, the callee's promise is rewritten into `heard_line`.
 use Rattle.hearing.specs.Heard.{heard_line}
 use mathlib.Core.Path.{sym, refl}
-use Rattle.std.proofs.Common.{ap, ◌∙◌}
-use Rattle.hearing.proofs.Coming.{stays, blank_stays}
+use Rattle.hearing.proofs.Coming.{stays}
 use Rattle.hearing.proofs.hear.Goals as goal
-
-pub returns-in-Blank : goal.returns-in-Blank
-returns-in-Blank c =
-    sym
-    (blank_stays c.args.plan.now c.args.table.now c.args.number c.args.heard c.args.s.now c.args.heard.stage refl
-    (sym (ap (λ line. line.what) c.read_line-line.ensures) ∙ c.in-Blank.is))
 
 pub returns-in-Waits : goal.returns-in-Waits
 unfolding heard_line
@@ -23,4 +16,4 @@ returns-in-Plays c =
 
 pub returns-in-Stops : goal.returns-in-Stops
 returns-in-Stops c =
-    sym (stays c.args.plan.now c.args.table.now c.args.number c.args.heard c.args.s.now c.args.heard.stage refl (rw c.in-Stops.is))
+    sym (stays c.args.plan.now c.args.table.now c.args.number c.args.heard.now c.args.s.now c.args.heard.now.stage refl (rw c.in-Stops.is))
